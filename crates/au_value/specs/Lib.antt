@@ -1,0 +1,5 @@
+pub mod Adding
+pub mod Laws
+pub mod Numeral
+pub mod Order
+pub mod Ranges

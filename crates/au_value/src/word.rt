@@ -1,0 +1,59 @@
+//! A text, seen as its bytes.
+ghost use Rattle.std.specs.Prelude.{◌≡◌, string_bytes, IfOk, IsUtf8};
+ghost use Rattle.std.specs.Ordering.{nat_cmp};
+ghost use Rattle.std.specs.Cmp.Lexicographic.{slice_cmp};
+
+use crate::faults::NoMemory;
+use std::cmp::Ordering;
+use std::marker::Model;
+
+/// A text. Contracts see its bytes.
+#[derive(Drop)]
+pub struct Word {
+    text: String,
+}
+
+impl Model for Word {
+    ghost use Rattle.std.specs.Prelude.{ℕ, List, string_bytes};
+
+    ghost Value = { List ℕ };
+
+    ghost view = { λ w. string_bytes w.text };
+}
+
+impl Word {
+    /// The word of a text. It takes no memory.
+    pub fn new(text: String) -> Word
+        ensures { result ≡ string_bytes text }
+    {
+        Word { text }
+    }
+
+    pub fn as_str(&self) -> &str
+        ensures { result.now ≡ self.now }
+    {
+        self.text.as_str()
+    }
+
+    /// The text of the word. It takes no memory.
+    pub fn into_string(self) -> String
+        ensures { string_bytes result ≡ self }
+    {
+        self.text
+    }
+
+    /// The order of the bytes.
+    pub fn order(&self, other: &Word) -> Ordering
+        ensures { result ≡ slice_cmp nat_cmp self.now other.now }
+    {
+        self.text.cmp(&other.text)
+    }
+
+    pub fn copy(&self) -> Result<Word, NoMemory>
+        ensures { IfOk result (λ w. w ≡ self.now) }
+    {
+        Ok(Word {
+            text: self.text.clone()?,
+        })
+    }
+}
