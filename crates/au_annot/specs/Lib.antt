@@ -1,0 +1,5 @@
+pub mod Annotations
+pub mod CountLaws
+pub mod Counts
+pub mod Triples
+pub mod TripleLaws
