@@ -1,0 +1,13 @@
+pub mod Evaluate
+pub mod Ends
+pub mod Figures
+pub mod Holding
+pub mod Kinds
+pub mod Ordinary
+pub mod OnRanges
+pub mod Numbers
+pub mod Steps
+pub mod Terms
+pub mod Truths
+pub mod Related
+pub mod Views

@@ -1,0 +1,31 @@
+//! Why an expression has no value.
+ghost use Rattle.std.specs.Prelude.{◌≡◌};
+ghost use Rattle.au_expr.specs.declared.fault.EvalFault.{EvalFault};
+ghost use Rattle.au_expr.specs.declared.fault.EvalFault.TheVariants as fault;
+
+use au_value::{NoMemory, Overflow};
+
+/// Why an expression has no value on a row.
+#[derive(Clone, Copy, Debug, PartialEq, Eq)]
+pub enum EvalFault {
+    /// A number of a subexpression, or one that a product is chosen from, leaves -2^127 to 2^127-1.
+    Overflow,
+    /// An allocation was refused.
+    NoMemory,
+}
+
+impl From<Overflow> for EvalFault {
+    ghost from_gives = { λ _ e. e ≡ fault.Overflow };
+
+    fn from(_: Overflow) -> EvalFault {
+        EvalFault::Overflow
+    }
+}
+
+impl From<NoMemory> for EvalFault {
+    ghost from_gives = { λ _ e. e ≡ fault.NoMemory };
+
+    fn from(_: NoMemory) -> EvalFault {
+        EvalFault::NoMemory
+    }
+}
