@@ -1,0 +1,145 @@
+-- What the entries of a block amount to, one entry after another.
+use Rattle.std.proofs.Common.{◌≡◌, ◌≢◌, ◌≤◌, ◌&&◌, inl, inr, eq-eqb, ℕ, zero, suc, ◌+◌, ◌<◌, Bool, true, false, cond, List, [], ◌∷◌, ◌++◌, length, map, Option, Some, None, refl, sym, ap, ◌∙◌, arith, subst, eqb, ltb}
+use Rattle.std.specs.Prelude.{not, count_by, position, ◌||◌}
+use Rattle.std.specs.List.{list_any, list_all, position_or_len}
+use Rattle.std.specs.Option.{option_or}
+use Rattle.std.proofs.lemmas.List.{append-nil, length-map, length_push, map-append}
+use Rattle.std.proofs.lemmas.List.Elements.{filter-append}
+use Rattle.std.proofs.lemmas.List.Folds.{position_or_len_push, sum_by-zero}
+use Rattle.std.proofs.lemmas.List.Sums.{sum_by_push, prefix_len-le-length}
+use Rattle.std.proofs.lemmas.Bool.{cases_Bool, lt-ltb, le-ltb, ne_eqb, eqb-true}
+use Rattle.au_value.specs.declared.kinds.Kind.{Kind}
+use Rattle.au_blocks.specs.Entries.{Entry, is_marked, is_absent, alternatives}
+use Rattle.au_blocks.specs.Gathered.{times_of, more, is_never, is_again, Gathered, gathered, gathered_defect, finished, with_entry, with_row, with_absence}
+use Rattle.au_blocks.specs.Defects.{block_defects, where_true}
+use Rattle.au_blocks.specs.Read.{row, block_of, first, unless}
+use Rattle.au_blocks.specs.declared.faults.TableFault.{TableFault}
+use Rattle.au_blocks.specs.declared.faults.TableFault.TheVariants as fault
+
+-- once more
+more-times : (n : ℕ) → times_of (n + 1) ≡ more (times_of n)
+more-times zero = refl
+more-times (suc zero) = refl
+more-times (suc (suc n)) = let e : suc (suc (suc n)) ≡ suc (suc n) + 1 = omega arith in subst (λ k. times_of k ≡ more (times_of (suc (suc n)))) e refl
+
+times-push : (p : Entry → Bool) (entries : List Entry) (e : Entry) → times_of (count_by p (entries ++ e ∷ [])) ≡ cond (p e) (more (times_of (count_by p entries))) (times_of (count_by p entries))
+times-push p entries e =
+    rw (sum_by_push (λ x. cond (p x) 1 0) entries e)
+    (elim (p e) as (λ b. times_of (count_by p entries + cond b 1 0) ≡ cond b (more (times_of (count_by p entries))) (times_of (count_by p entries))) [
+      | true ↦ more-times (count_by p entries)
+      | false ↦ let same : count_by p entries + 0 ≡ count_by p entries = omega arith in ap times_of same
+    ])
+
+-- the first that passes, one item more
+abbrev place : ℕ → ℕ → Option ℕ
+place n l = cond (ltb n l) (Some n) None
+
+at_end : (n l : ℕ) (b : Bool) → eqb n l ≡ true → place (cond (eqb n l) (l + cond b 0 1) n) (l + 1) ≡ option_or (place n l) (cond b (Some l) None)
+at_end n l true same =
+    let e : n ≡ l = eqb-true n l same in
+    let z : l + 0 ≡ l = omega arith in
+    rw (same, z, e, le-ltb l l (omega arith), lt-ltb l (l + 1) (omega arith)) refl
+at_end n l false same =
+    let e : n ≡ l = eqb-true n l same in
+    rw (same, e, le-ltb l l (omega arith), le-ltb (l + 1) (l + 1) (omega arith)) refl
+
+place-push : (n l : ℕ) (b : Bool) → n ≤ l → place (cond (eqb n l) (l + cond b 0 1) n) (l + 1) ≡ option_or (place n l) (cond b (Some l) None)
+place-push n l b within =
+    elim (cases_Bool (eqb n l)) [
+      | inl same ↦ at_end n l b same
+      | inr other ↦
+          let ne : n ≢ l = λ e. let t : eqb n l ≡ true = eq-eqb n l e in cc (t, other) in
+          let low : n < l = omega arith in
+          rw (other, lt-ltb n (l + 1) (omega arith), lt-ltb n l low) refl
+    ]
+
+-- the first that passes, one item more
+position-push : {X : Type 0} (p : X → Bool) (xs : List X) (y : X) → position p (xs ++ y ∷ []) ≡ option_or (position p xs) (cond (p y) (Some (length xs)) None)
+position-push p xs y =
+    rw (position_or_len_push p xs y, length_push xs y) (place-push (position_or_len p xs) (length xs) (p y) (prefix_len-le-length (λ x. not (p x)) xs))
+
+same-gathered : (a b : Gathered) → a.rows ≡ b.rows → a.marked ≡ b.marked → a.absent ≡ b.absent → a.guess ≡ b.guess → a ≡ b
+same-gathered a b rows marked absent guess = λ i. record { rows = rows i; marked = marked i; absent = absent i; guess = guess i }
+
+-- the alternatives, one entry more
+alternatives-push : (entries : List Entry) (e : Entry) → alternatives (entries ++ e ∷ []) ≡ alternatives entries ++ cond (not (is_absent e.role)) (e ∷ []) []
+alternatives-push entries e = filter-append (λ x. not (is_absent x.role)) entries (e ∷ [])
+
+-- one alternative more
+gathered-row : (kinds : List Kind) (entries : List Entry) (e : Entry) → is_absent e.role ≡ false
+    → gathered kinds (entries ++ e ∷ []) ≡ with_row (gathered kinds entries) (is_marked e.role) (row kinds e.cells)
+gathered-row kinds entries e here =
+    let alts : alternatives (entries ++ e ∷ []) ≡ alternatives entries ++ e ∷ [] = rw here at (alternatives-push entries e) in
+    let g = λ (x : Entry). row kinds x.cells in
+    let m = λ (x : Entry). is_marked x.role in
+    same-gathered (gathered kinds (entries ++ e ∷ [])) (with_row (gathered kinds entries) (is_marked e.role) (row kinds e.cells))
+    (ap (map g) alts ∙ map-append g (alternatives entries) (e ∷ []))
+    (times-push m entries e)
+    (rw here at (times-push (λ x. is_absent x.role) entries e))
+    (ap (position m) alts ∙ position-push m (alternatives entries) e ∙ ap (λ n. option_or (position m (alternatives entries)) (cond (m e) (Some n) None)) (sym (length-map (alternatives entries) g)))
+
+-- one absent record more
+gathered-absence : (kinds : List Kind) (entries : List Entry) (e : Entry) → is_absent e.role ≡ true
+    → gathered kinds (entries ++ e ∷ []) ≡ with_absence (gathered kinds entries) (is_marked e.role)
+gathered-absence kinds entries e here =
+    let alts : alternatives (entries ++ e ∷ []) ≡ alternatives entries = rw here at (alternatives-push entries e) ∙ append-nil (alternatives entries) in
+    let m = λ (x : Entry). is_marked x.role in
+    same-gathered (gathered kinds (entries ++ e ∷ [])) (with_absence (gathered kinds entries) (is_marked e.role))
+    (ap (map (λ (x : Entry). row kinds x.cells)) alts)
+    (times-push m entries e)
+    (rw here at (times-push (λ x. is_absent x.role) entries e))
+    (ap (position m) alts)
+
+-- one entry more
+pub gathered-push : (kinds : List Kind) (entries : List Entry) (e : Entry) → gathered kinds (entries ++ e ∷ []) ≡ with_entry kinds (gathered kinds entries) e
+gathered-push kinds entries e =
+    elim (cases_Bool (is_absent e.role)) [
+      | inl here ↦ rw here (gathered-absence kinds entries e here)
+      | inr here ↦ rw here (gathered-row kinds entries e here)
+    ]
+
+-- what a count comes to
+is_never-times : (n : ℕ) → is_never (times_of n) ≡ eqb n 0
+is_never-times zero = refl
+is_never-times (suc zero) = refl
+is_never-times (suc (suc n)) = sym (ne_eqb (suc (suc n)) 0 (λ e. absurd (omega arith)))
+
+is_again-times : (n : ℕ) → is_again (times_of n) ≡ ltb 1 n
+is_again-times zero = refl
+is_again-times (suc zero) = refl
+is_again-times (suc (suc n)) = sym (lt-ltb 1 (suc (suc n)) (omega arith))
+
+-- the first of four defects
+first-of-four : (a b c d : Bool) (w x y z : TableFault) → first (where_true a w ++ where_true b x ++ where_true c y ++ where_true d z)
+    ≡ cond a (Some w) (cond b (Some x) (cond c (Some y) (cond d (Some z) None)))
+first-of-four true b c d w x y z = refl
+first-of-four false true c d w x y z = refl
+first-of-four false false true d w x y z = refl
+first-of-four false false false true w x y z = refl
+first-of-four false false false false w x y z = refl
+
+gathered_defect-first : (kinds : List Kind) (entries : List Entry) (n : ℕ) → gathered_defect n (gathered kinds entries) ≡ first (block_defects (n, entries))
+gathered_defect-first kinds entries n =
+    let marks = count_by (λ (x : Entry). is_marked x.role) entries in
+    let absents = count_by (λ (x : Entry). is_absent x.role) entries in
+    rw (is_again-times marks, is_never-times marks, is_again-times absents, length-map (alternatives entries) (λ (x : Entry). row kinds x.cells))
+    (sym (first-of-four (ltb 1 marks) (eqb marks 0) (eqb (length (alternatives entries)) 0) (ltb 1 absents) (fault.TwoGuesses n) (fault.NoGuess n) (fault.OnlyAbsent n) (fault.TwoAbsent n)))
+
+-- whether some entry passes, by how many do
+any-none : {X : Type 0} (p : X → Bool) (xs : List X) → list_any p xs ≡ not (list_all (λ x. eqb (cond (p x) 1 0) 0) xs)
+any-none p [] = refl
+any-none p (x ∷ xs) =
+    elim (p x) as (λ b. (b || list_any p xs) ≡ not (eqb (cond b 1 0) 0 && list_all (λ z. eqb (cond (p z) 1 0) 0) xs)) [ true ↦ refl | false ↦ any-none p xs ]
+
+-- whether some entry passes
+pub any-count : (p : Entry → Bool) (entries : List Entry) → list_any p entries ≡ not (eqb (count_by p entries) 0)
+any-count p entries = any-none p entries ∙ ap not (sym (sum_by-zero (λ (x : Entry). cond (p x) 1 0) entries))
+
+any-times : (p : Entry → Bool) (entries : List Entry) → list_any p entries ≡ not (is_never (times_of (count_by p entries)))
+any-times p entries = any-count p entries ∙ ap not (sym (is_never-times (count_by p entries)))
+
+-- the block that the entries amount to, or its first defect
+pub finished-gathered : (kinds : List Kind) (entries : List Entry) (n : ℕ)
+    → finished n (gathered kinds entries) ≡ unless (first (block_defects (n, entries))) (block_of kinds entries)
+finished-gathered kinds entries n =
+    rw (gathered_defect-first kinds entries n, any-times (λ (x : Entry). is_absent x.role) entries) refl

@@ -1,0 +1,11 @@
+pub mod Cuts
+pub mod Distinct
+pub mod Enumerated
+pub mod Finishing
+pub mod First
+pub mod GatherStep
+pub mod Gathering
+pub mod InferredKinds
+pub mod LabelKeys
+pub mod RowValues
+pub mod WellFormed

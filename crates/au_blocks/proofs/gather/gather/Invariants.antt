@@ -1,0 +1,13 @@
+use Rattle.std.proofs.Common.{◌≡◌, ◌++◌, map}
+use Rattle.std.specs.Vec.Iter.{into_iter_items}
+use Rattle.au_blocks.specs.Labels.{label_bytes}
+use Rattle.au_blocks.proofs.GatherStep.{labels, builders}
+use Rattle.au_blocks.proofs.gather.gather.Given as goal
+
+-- the labels of the records so far, and what is gathered under each
+abbrev pub invariant-loop-record : goal.invariant-loop-record
+invariant-loop-record l = record {
+  all : l.yielded ++ into_iter_items l.record-iterator ≡ l.fn.rows.items;
+  labels : label_bytes l.labels ≡ labels l.yielded;
+  builders : l.builders.items ≡ builders (map (λ c. c.kind) l.columns) l.yielded;
+}

@@ -1,0 +1,79 @@
+-- The records of a table file below its header: what role each has in its block,
+-- and which records form a block.
+use Rattle.std.specs.Prelude.{ℕ, Bool, true, false, not, List, [], ◌∷◌, map, filter, filter_map, Option, Some, None, option_map, is_some, if◌then◌else◌, codes, bytes_eq, slice_index_or}
+use Rattle.au_csv.specs.Texts.{Record}
+use Rattle.au_blocks.specs.declared.role.Role.{Role}
+use Rattle.au_blocks.specs.declared.role.Role.TheVariants as role
+use Rattle.au_blocks.specs.Headers.{cells_of}
+
+-- the field at a place, empty where there is none
+abbrev pub field : ℕ → Record → List ℕ
+field i r = slice_index_or r i []
+
+-- the role that a word names
+abbrev pub role_named : List ℕ → Option Role
+role_named word =
+    if bytes_eq word (codes "guess") then Some role.Guess
+    else if bytes_eq word (codes "alt") then Some role.Alternative
+    else if bytes_eq word (codes "absent") then Some role.Absent
+    else if bytes_eq word (codes "absent-guess") then Some role.AbsentGuess
+    else None
+
+-- whether a role marks the guess
+abbrev pub is_marked : Role → Bool
+is_marked role.Guess = true
+is_marked role.Alternative = false
+is_marked role.Absent = false
+is_marked role.AbsentGuess = true
+
+-- whether a role says that the block may be absent
+abbrev pub is_absent : Role → Bool
+is_absent role.Guess = false
+is_absent role.Alternative = false
+is_absent role.Absent = true
+is_absent role.AbsentGuess = true
+
+-- a record's role and cells
+pub record Entry : Type 0 where
+  pub role : Role
+  pub cells : Record
+
+abbrev pub entry : Role → Record → Entry
+entry r cells = record { role = r; cells = cells }
+
+-- the role of a record, if it has one: in a plain table each is a marked alternative
+abbrev pub role_of : Bool → Record → Option Role
+role_of false r = Some role.Guess
+role_of true r = role_named (field 1 r)
+
+-- whether a record of a block table has a role
+abbrev pub has_role : Record → Bool
+has_role r = is_some (role_of true r)
+
+abbrev pub entry_of : Bool → Record → Option Entry
+entry_of blocks r = option_map (λ x. entry x (cells_of blocks r)) (role_of blocks r)
+
+abbrev pub entries_of : Bool → List Record → List Entry
+entries_of blocks rows = filter_map (entry_of blocks) rows
+
+-- the entries that are alternatives
+abbrev pub alternatives : List Entry → List Entry
+alternatives entries = filter (λ e. not (is_absent e.role)) entries
+
+-- the label of a record
+abbrev pub label_of : Record → List ℕ
+label_of r = field 0 r
+
+-- each text once, in the order in which they come first
+abbrev pub distinct : List (List ℕ) → List (List ℕ)
+distinct [] = []
+distinct (x ∷ xs) = x ∷ filter (λ y. not (bytes_eq x y)) (distinct xs)
+
+-- the records with a label
+abbrev pub labelled : List ℕ → List Record → List Record
+labelled label rows = filter (λ r. bytes_eq label (label_of r)) rows
+
+-- the entries of each block: of the records with each label, or in a plain table of each record alone
+abbrev pub blocks_of : Bool → List Record → List (List Entry)
+blocks_of false rows = map (λ r. entry role.Guess r ∷ []) rows
+blocks_of true rows = map (λ label. entries_of true (labelled label rows)) (distinct (map label_of rows))

@@ -1,0 +1,11 @@
+pub mod Blocks
+pub mod Tables
+pub mod Worlds
+pub mod Faults
+pub mod Headers
+pub mod Entries
+pub mod Inferring
+pub mod Defects
+pub mod Read
+pub mod Gathered
+pub mod Labels

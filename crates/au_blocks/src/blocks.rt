@@ -1,0 +1,69 @@
+//! The blocks of a table file.
+ghost use Rattle.std.specs.Prelude.{◌≡◌, ◌⊎◌, ◌∷◌, [], true, false, map, Some, Ok, Err, IfErr, IfOk};
+ghost use Rattle.std.specs.List.{list_all};
+ghost use Rattle.au_blocks.specs.Defects.{blocks_defects};
+ghost use Rattle.au_blocks.specs.Entries.{blocks_of, entry, has_role};
+ghost use Rattle.au_blocks.specs.Gathered.{all_finished};
+ghost use Rattle.au_blocks.specs.Read.{block_of, first, unless};
+
+use crate::block::Block;
+use crate::builder::BlockBuilder;
+use crate::column::Column;
+use crate::faults::TableFault;
+use crate::gather::gather;
+use crate::role::Role;
+use crate::values::row;
+use au_csv::Rec;
+use au_value::NoMemory;
+use std::alloc::Global;
+
+// The blocks of the records below a header with these columns, or the first defect of one.
+pub(crate) fn blocks(
+    alloc: Global,
+    has_blocks: bool,
+    columns: &[Column],
+    rows: Vec<Rec>,
+) -> Result<Vec<Block>, TableFault>
+    requires { has_blocks ≡ true → list_all has_role rows.items ≡ true }
+    ensures blocks { IfOk result (λ bs. unless (first (blocks_defects (blocks_of has_blocks rows.items))) (map (block_of (map (λ c. c.kind) columns.now)) (blocks_of has_blocks rows.items)) ≡ Ok bs.items) }
+    ensures fault { IfErr result (λ e. (e ≡ TableFault.NoMemory) ⊎ (first (blocks_defects (blocks_of has_blocks rows.items)) ≡ Some e)) }
+{
+    if has_blocks {
+        finish_all(alloc, gather(alloc, columns, rows)?)
+    } else {
+        Ok(plain_blocks(alloc, columns, rows)?)
+    }
+}
+
+// The blocks of what was gathered, or the first defect of one.
+fn finish_all(alloc: Global, builders: Vec<BlockBuilder>) -> Result<Vec<Block>, TableFault>
+    ensures blocks { IfOk result (λ bs. all_finished 0 builders.items ≡ Ok bs.items) }
+    ensures fault { IfErr result (λ e. (e ≡ TableFault.NoMemory) ⊎ (all_finished 0 builders.items ≡ Err e)) }
+{
+    let mut blocks = Vec::new(alloc);
+    for builder in builders {
+        let number = blocks.len();
+        blocks.push(builder.finish(number)?)?;
+    }
+    Ok(blocks)
+}
+
+// Each record as a block of its own.
+fn plain_blocks(alloc: Global, columns: &[Column], rows: Vec<Rec>) -> Result<Vec<Block>, NoMemory>
+    ensures { IfOk result (λ bs. bs.items ≡ map (block_of (map (λ c. c.kind) columns.now)) (blocks_of false rows.items)) }
+{
+    let mut blocks = Vec::new(alloc);
+    for record in rows {
+        blocks.push(certain(alloc, columns, record)?)?;
+    }
+    Ok(blocks)
+}
+
+// The block of one marked alternative.
+fn certain(alloc: Global, columns: &[Column], record: Rec) -> Result<Block, NoMemory>
+    ensures { IfOk result (λ b. b ≡ block_of (map (λ c. c.kind) columns.now) (entry Role.Guess «record» ∷ [])) }
+{
+    let mut alternatives = Vec::new(alloc);
+    alternatives.push(row(alloc, columns, record.into_fields())?)?;
+    Ok(Block::of(alternatives, false, Some(0)))
+}

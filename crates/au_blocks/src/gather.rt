@@ -1,0 +1,89 @@
+//! The records of a block table, gathered by their labels.
+ghost use Rattle.std.specs.Prelude.{◌≡◌, ◌++◌, ◌∷◌, [], true, Some, None, if◌then◌else◌, drop, map, slice_index_or, slice_set, vec_len, IfOk, OnOk, bytes_eq};
+ghost use Rattle.std.specs.List.{list_all, list_any, position_or_len};
+ghost use Rattle.indexmap.specs.IndexSet.{index_set_len, insert_key};
+ghost use Rattle.au_blocks.specs.Entries.{blocks_of, entry, has_role, label_of, role_of};
+ghost use Rattle.au_blocks.specs.Gathered.{gathered, nothing, with_entry};
+ghost use Rattle.au_blocks.specs.Labels.{label_bytes};
+
+use crate::builder::BlockBuilder;
+use crate::column::Column;
+use crate::role::Role;
+use crate::row_faults::role;
+use crate::values::row;
+use au_csv::Rec;
+use au_value::{NoMemory, Word};
+use indexmap::IndexSet;
+use std::alloc::Global;
+
+// What the records of each label amount to, in the order in which the labels come first.
+pub(crate) fn gather(
+    alloc: Global,
+    columns: &[Column],
+    rows: Vec<Rec>,
+) -> Result<Vec<BlockBuilder>, NoMemory>
+    requires { list_all has_role rows.items ≡ true }
+    ensures { IfOk result (λ bs. bs.items ≡ map (gathered (map (λ c. c.kind) columns.now)) (blocks_of true rows.items)) }
+{
+    let mut labels = IndexSet::new(alloc);
+    let mut builders = Vec::new(alloc);
+    for record in rows {
+        let (label, role, cells) = parts(record);
+        let place = place_of(alloc, &mut labels, &mut builders, label)?;
+        add_entry(alloc, columns, &mut builders[place], role, cells)?;
+    }
+    Ok(builders)
+}
+
+// The label, the role and the cells of a record.
+fn parts(record: Rec) -> (Word, Role, Vec<Word>)
+    requires { has_role «record» ≡ true }
+    ensures label { result.0 ≡ label_of «record» }
+    ensures role { role_of true «record» ≡ Some result.1 }
+    ensures cells { result.2.items ≡ drop 2 «record» }
+{
+    match role(true, record.fields()) {
+        Some(role) => {
+            let mut words = record.into_fields();
+            let label = words.remove(0);
+            words.remove(0);
+            (label, role, words)
+        }
+        None => unreachable!(),
+    }
+}
+
+// The place of the block with this label, which is a new one where the label is new.
+fn place_of(
+    alloc: Global,
+    labels: &mut IndexSet<String>,
+    builders: &mut Vec<BlockBuilder>,
+    label: Word,
+) -> Result<usize, NoMemory>
+    ensures labels { OnOk result (label_bytes labels.new ≡ insert_key bytes_eq (label_bytes labels.old) label) }
+    ensures builders { OnOk result (builders.new.items ≡ builders.old.items ++ (if list_any (bytes_eq label) (label_bytes labels.old) then [] else nothing ∷ [])) }
+    ensures place { IfOk result (λ place. place ≡ position_or_len (bytes_eq label) (label_bytes labels.old)) }
+{
+    let (place, is_new) = labels.insert_full(label.into_string())?;
+    if is_new {
+        builders.push(BlockBuilder::new(alloc))?;
+    }
+    Ok(place)
+}
+
+// One entry more of a block.
+fn add_entry(
+    alloc: Global,
+    columns: &[Column],
+    builder: &mut BlockBuilder,
+    role: Role,
+    cells: Vec<Word>,
+) -> Result<(), NoMemory>
+    ensures { OnOk result (builder.new ≡ with_entry (map (λ c. c.kind) columns.now) builder.old (entry role cells.items)) }
+{
+    if role.is_absent() {
+        builder.add_absence(role.is_marked());
+        return Ok(());
+    }
+    builder.add_row(role.is_marked(), row(alloc, columns, cells)?)
+}

@@ -1,0 +1,24 @@
+//! The records of a CSV text.
+//!
+//! [`records`] reads the text of a table file: fields between commas, quoted by double quotes where they hold commas or
+//! ends of lines (RFC 4180, as the `csv` crate reads it). Each [`Rec`] is a list of words. Records may differ in length,
+//! and no record is a header here.
+//!
+//! ```text
+//! match records(alloc, bytes) {
+//!     Ok(records) => ..,
+//!     Err(CsvFault::NotText(record)) => ..,
+//!     Err(CsvFault::NoMemory) => ..,
+//! }
+//! ```
+#![tactic(auto)]
+
+mod faults;
+mod read;
+mod rec;
+#[cfg(test)]
+mod tests;
+
+pub use faults::CsvFault;
+pub use read::records;
+pub use rec::Rec;
