@@ -1,0 +1,28 @@
+-- The rows in another order have the same normal form.
+use Rattle.std.proofs.Common.{◌≡◌, map, sym, ◌∙◌, ap, IsTrue, IfOk, subst, Vec, Global}
+use Rattle.std.proofs.lemmas.List.Sorted.{IsPermutation-map}
+use Rattle.au_value.specs.declared.range.Range.{Range}
+use Rattle.au_annot.specs.declared.Triple.{Triple}
+use Rattle.au_algebra.specs.Entries.{entry}
+use Rattle.au_algebra.specs.Bounded.{RangeRow, normal}
+use Rattle.au_algebra.specs.Fits.{triples_fit}
+use Rattle.au_algebra.proofs.Runs.{normal_shuffled}
+use Rattle.au_algebra.proofs.normal_form.normal.Goals as goal
+
+abbrev row : Vec Range Global × Triple → RangeRow
+row r = entry r.0.items r.1
+
+same : (c : goal.After-merged) → normal (map row c.in-Ok.rows.items) ≡ normal c.args.rel
+same c =
+    normal_shuffled (map row c.rel.inside.rows.items) (map row c.in-Ok.rows.items) (IsPermutation-map row c.rel.inside.rows.items c.in-Ok.rows.items c.in-Ok.ensures.permutation)
+    ∙ ap normal c.rel.view_is
+
+pub returns-in-Ok-clause-form : goal.returns-in-Ok-clause-form
+returns-in-Ok-clause-form c = subst (λ f. IfOk c.merged.result (λ n. n ≡ f)) (same c) c.merged.ensures.form
+
+pub returns-in-Ok-clause-fits : goal.returns-in-Ok-clause-fits
+returns-in-Ok-clause-fits c =
+    subst (λ f. IfOk c.merged.result (λ n. IsTrue (triples_fit f))) (same c) c.merged.ensures.fits
+
+pub returns-in-Ok-clause-overflow : goal.returns-in-Ok-clause-overflow
+returns-in-Ok-clause-overflow c h = ap triples_fit (sym (same c)) ∙ c.merged.ensures.overflow h

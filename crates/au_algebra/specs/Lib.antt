@@ -1,0 +1,11 @@
+pub mod Bounded
+pub mod Distribution
+pub mod Entries
+pub mod Fits
+pub mod Laws
+pub mod Lists
+pub mod Ordinary
+pub mod Typing
+pub mod Trees
+pub mod Positive
+pub mod Ends

@@ -1,0 +1,55 @@
+-- Lists by a test of equality: distinct items, items taken out, and how often an item occurs.
+-- Besides, rows of values, with the sum, the least and the greatest of some values.
+use Rattle.std.specs.Prelude.{◌≡◌, ℕ, Bool, not, List, [], ◌∷◌, ℤ, pos, ◌+ℤ◌, unwrap_or, slice_get, count_by, filter, if◌then◌else◌}
+use Rattle.std.specs.Cmp.Lexicographic.{pointwise}
+use Rattle.au_value.specs.declared.value.Value.{Value}
+use Rattle.au_value.specs.declared.value.Value.TheVariants.{Int}
+use Rattle.au_value.specs.Order.{equal}
+use Rattle.au_value.specs.Ranges.{lesser, greater}
+
+-- each item once, where it is first seen
+abbrev pub distinct : {A : Type 0} → (A → A → Bool) → List A → List A
+distinct eq [] = []
+distinct eq (x ∷ xs) = x ∷ filter (λ y. not (eq x y)) (distinct eq xs)
+
+-- the list without the first item that is equal to this one
+abbrev pub without : {A : Type 0} → (A → A → Bool) → A → List A → List A
+without eq x [] = []
+without eq x (y ∷ ys) = if eq x y then ys else y ∷ without eq x ys
+
+-- each item, as often as the other list has it, taken out
+abbrev pub take_out : {A : Type 0} → (A → A → Bool) → List A → List A → List A
+take_out eq [] xs = xs
+take_out eq (y ∷ ys) xs = take_out eq ys (without eq y xs)
+
+-- the two lists have the same items, each equally often
+abbrev pub SameUpToOrder : {A : Type 0} → (A → A → Bool) → List A → List A → Type 0
+SameUpToOrder {A} eq xs ys = (x : A) → count_by (eq x) xs ≡ count_by (eq x) ys
+
+-- whether two rows of values are equal
+abbrev pub same_row : List Value → List Value → Bool
+same_row xs ys = pointwise equal xs ys
+
+-- how many copies of the row there are
+abbrev pub copies : List Value → List (List Value) → ℕ
+copies row rows = count_by (same_row row) rows
+
+-- the value in a column, and 0 past the last
+abbrev pub column : ℕ → List Value → Value
+column c row = unwrap_or (slice_get row c) (Int (pos 0))
+
+-- the sum of whole numbers
+abbrev pub int_sum : List ℤ → ℤ
+int_sum [] = pos 0
+int_sum (n ∷ ns) = n +ℤ int_sum ns
+
+-- the least and the greatest of some values, and 0 of none
+abbrev pub least : List Value → Value
+least [] = Int (pos 0)
+least (v ∷ []) = v
+least (v ∷ w ∷ ws) = lesser v (least (w ∷ ws))
+
+abbrev pub greatest : List Value → Value
+greatest [] = Int (pos 0)
+greatest (v ∷ []) = v
+greatest (v ∷ w ∷ ws) = greater v (greatest (w ∷ ws))
