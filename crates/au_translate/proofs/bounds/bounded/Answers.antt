@@ -1,0 +1,28 @@
+-- The rows are those of the table, of which the laws speak.
+use Rattle.std.proofs.Common.{sym, subst, arith}
+use Rattle.std.proofs.lemmas.Grind.{common_steps}
+use Rattle.au_blocks.specs.Tables.{column_kinds}
+use Rattle.au_blocks.specs.Worlds.{rows_in}
+use Rattle.au_algebra.specs.Distribution.{Bounds}
+use Rattle.au_algebra.specs.Laws.{Guesses, IsRelation}
+use Rattle.au_translate.specs.Translate.{guess_choices}
+use Rattle.au_translate.proofs.BlockRelation.{table_relation, table_bounds, table_guesses}
+use Rattle.au_translate.proofs.bounds.bounded.Goals as goal
+
+pub returns-clause-rows : goal.returns-clause-rows
+returns-clause-rows c = grind (arith, common_steps)
+
+pub returns-clause-relation : goal.returns-clause-relation
+returns-clause-relation c =
+    let ok = c.blocks-block-items.ensures.is_table in
+    subst (IsRelation (column_kinds c.args.table.now)) (sym (returns-clause-rows c)) (table_relation c.args.table.now ok.table ok.blocks)
+
+pub returns-clause-bounds : goal.returns-clause-bounds
+returns-clause-bounds c w world =
+    let ok = c.blocks-block-items.ensures.is_table in
+    subst (λ r. Bounds r (rows_in c.args.table.now.blocks w)) (sym (returns-clause-rows c)) (table_bounds c.args.table.now w ok.table ok.blocks world)
+
+pub returns-clause-guesses : goal.returns-clause-guesses
+returns-clause-guesses c =
+    let ok = c.blocks-block-items.ensures.is_table in
+    subst (λ r. Guesses r (rows_in c.args.table.now.blocks (guess_choices c.args.table.now))) (sym (returns-clause-rows c)) (table_guesses c.args.table.now ok.blocks)
