@@ -1,0 +1,11 @@
+pub mod Tree
+pub mod Words
+pub mod Cuts
+pub mod Expressions
+pub mod Queries
+pub mod Limits
+pub mod Views
+pub mod Whole
+pub mod Parsing
+pub mod Levels
+pub mod Statements
