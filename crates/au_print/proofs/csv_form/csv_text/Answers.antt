@@ -1,0 +1,17 @@
+-- The text is what was written: the header, and then the rows.
+use Rattle.std.proofs.Common.{◌≡◌, ◌∙◌, ap, ◌++◌, map}
+use Rattle.au_print.specs.Texts.{csv_text, header_fields}
+use Rattle.au_algebra.specs.Entries.{entry}
+use Rattle.std.proofs.lemmas.Result.{IfOk-weaker}
+use Rattle.au_print.proofs.Csv.{csv_text_is}
+use Rattle.au_print.proofs.csv_form.csv_text.Goals as goal
+
+pub returns : goal.returns
+returns c =
+    let names = c.args.answer.now.names.items in
+    let rows = c.args.answer.now.rows in
+    let same_names = c.as_slice.ensures.value ∙ ap (λ a. a.names.items) c.answer.view_is in
+    let titled = c.in_ok-push_header.ensures.fields ∙ ap (λ t. t ++ header_fields c.as_slice.result.now) c.new-record.ensures.fields ∙ ap header_fields same_names in
+    let same_rows = ap (λ xs. map (λ row. entry row.0.items row.1) xs) c.as_slice-2.ensures.value ∙ ap (λ a. a.rows) c.answer.view_is in
+    let text = csv_text_is (λ row. entry row.0.items row.1) names c.as_slice-2.result.now rows _ _ _ _ same_rows c.start-writer.ensures.text titled c.in_ok-write.ensures.text c.in_ok-write_rows.ensures in
+    IfOk-weaker c.finish.result _ _ (λ t is. is ∙ text) c.finish.ensures
