@@ -1,0 +1,6 @@
+pub mod Ending
+pub mod ReadCauses
+pub mod TableWords
+pub mod TextCauses
+pub mod Widths
+pub mod Worlds

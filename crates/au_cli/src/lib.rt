@@ -1,0 +1,27 @@
+//! The program: its words, its files, and how a run ends.
+//!
+//! `run` does all that the program does, over any shelf of files and any two sinks, and answers how it ended, an
+//! `Outcome`. `Outcome::code` is the exit status.
+//!
+//! ```text
+//! let outcome = run(alloc, words.as_slice(), &mut shelf, &mut out, &mut err);
+//! outcome.code()
+//! ```
+#![tactic(auto)]
+
+mod answering;
+mod line;
+mod outcome;
+mod query;
+mod reading;
+mod top;
+mod words;
+
+pub use line::fault_line;
+pub use outcome::{LimitFault, Outcome, QueryFault, UsageFault};
+pub use top::run;
+
+#[cfg(test)]
+mod run_tests;
+#[cfg(test)]
+mod tests;
