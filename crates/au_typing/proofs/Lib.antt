@@ -1,0 +1,19 @@
+pub mod Clauses
+pub mod Sizes
+pub mod FromItems
+pub mod Names
+pub mod Stars
+pub mod Sides
+pub mod Sources
+pub mod Steps
+pub mod Within
+mod Rows
+mod Faults
+mod Found
+mod TermKinds
+mod ItemKinds
+mod GroupKinds
+mod KeyKinds
+mod FromKinds
+mod SelectKinds
+pub mod QueryKinds

@@ -1,0 +1,122 @@
+-- Worked rows, computed from the definitions.
+use Rattle.std.specs.Prelude.{ℕ, ◌≡◌, true, false, List, [], ◌∷◌, ◌++◌, decimal, Option, Some, None, codes, pos}
+use Rattle.std.proofs.Common.{refl}
+use Rattle.au_value.specs.declared.kinds.Kind.{Kind}
+use Rattle.au_value.specs.declared.kinds.Kind.TheVariants as kind
+use Rattle.au_value.specs.declared.value.Value.TheVariants as value
+use Rattle.au_value.specs.declared.comparison.Comparison.TheVariants as comparison
+use Rattle.au_expr.specs.Terms as term
+use Rattle.au_algebra.specs.Trees as query
+use Rattle.au_algebra.specs.declared.query.Agg.TheVariants as agg
+use Rattle.au_blocks.specs.declared.column.Column.{Column}
+use Rattle.au_parse.specs.declared.AggWord.TheVariants as word
+use Rattle.au_parse.specs.Tree.{Tree, ItemTree, QueryTree, Sources, Operator, SetWord}
+use Rattle.au_typing.specs.Queries.{Relation, defects, tree_of, names_of, kinds_of}
+use Rattle.au_typing.specs.declared.fault.TypingFault.TheVariants as fault
+
+abbrev column_of : List ℕ → Kind → Column
+column_of name kind = record { name = name; kind = kind }
+
+-- the tables: `orders` with id, city and amount, and `rates` with city and fee
+abbrev orders : Relation
+orders = record { name = codes "orders"; columns = column_of (codes "id") kind.Int ∷ column_of (codes "city") kind.Text ∷ column_of (codes "amount") kind.Int ∷ [] }
+
+abbrev rates : Relation
+rates = record { name = codes "rates"; columns = column_of (codes "city") kind.Text ∷ column_of (codes "fee") kind.Int ∷ [] }
+
+abbrev tables : List Relation
+tables = orders ∷ rates ∷ []
+
+abbrev name_at : ℕ → List ℕ → Tree
+name_at at column = Tree.column (record { at = at; table = None; column = column })
+
+abbrev qualified : ℕ → List ℕ → List ℕ → Tree
+qualified at table column = Tree.column (record { at = at; table = Some table; column = column })
+
+abbrev item : Tree → ItemTree
+item e = ItemTree.value e None
+
+abbrev plain_select : List ItemTree → Sources → Option (ℕ × Tree) → QueryTree
+plain_select items from condition = QueryTree.select 0 false items from condition [] false None
+
+abbrev from_orders : ℕ → Sources
+from_orders at = Sources.table at (codes "orders") None Sources.no_sources
+
+abbrev from_both : ℕ → ℕ → Sources
+from_both i j = Sources.table i (codes "orders") (Some (codes "o")) (Sources.table j (codes "rates") (Some (codes "r")) Sources.no_sources)
+
+-- SELECT MIN(amount) FROM orders
+min_needs_group : defects tables (plain_select (item (Tree.aggregate 7 word.Min (name_at 11 (codes "amount"))) ∷ []) (from_orders 24) None) ≡ fault.MinMaxNeedsGroup 7 ∷ []
+min_needs_group = refl
+
+-- SELECT COUNT(*) FROM orders o, rates r
+count_over_join : defects tables (plain_select (item (Tree.count_rows 7) ∷ []) (from_both 21 31) None) ≡ fault.CountOverJoin 7 ∷ []
+count_over_join = refl
+
+-- SELECT COUNT(*) FROM (SELECT o.id FROM orders o, rates r) u
+count_over_inner_join :
+    defects tables (plain_select (item (Tree.count_rows 7) ∷ []) (Sources.inner 21 (plain_select (item (qualified 29 (codes "o") (codes "id")) ∷ []) (from_both 39 49) None) (codes "u") Sources.no_sources) None)
+    ≡ fault.CountOverJoin 7 ∷ []
+count_over_inner_join = refl
+
+-- SELECT z FROM orders
+unknown_column : defects tables (plain_select (item (name_at 7 (codes "z")) ∷ []) (from_orders 14) None) ≡ fault.UnknownColumn 7 ∷ []
+unknown_column = refl
+
+-- SELECT id FROM orders WHERE city > 1
+kind_mismatch :
+    defects tables (plain_select (item (name_at 7 (codes "id")) ∷ []) (from_orders 15) (Some (22, Tree.binary 33 (Operator.compare comparison.Greater) (name_at 28 (codes "city")) (Tree.number 35 (pos 1)))))
+    ≡ fault.KindMismatch 33 ∷ []
+kind_mismatch = refl
+
+-- SELECT CITY, SUM(amount) FROM orders GROUP BY city HAVING COUNT(*) > 1
+abbrev grouped : QueryTree
+grouped =
+    QueryTree.select 0 false (item (name_at 7 (codes "CITY")) ∷ item (Tree.aggregate 13 word.Sum (name_at 17 (codes "amount"))) ∷ []) (from_orders 30) None
+    (record { at = 46; table = None; column = codes "city" } ∷ []) true
+    (Some (51, Tree.binary 67 (Operator.compare comparison.Greater) (Tree.count_rows 58) (Tree.number 69 (pos 1))))
+
+grouped_well : defects tables grouped ≡ []
+grouped_well = refl
+
+grouped_names : names_of tables grouped ≡ codes "city" ∷ (codes "col" ++ decimal 2) ∷ []
+grouped_names = refl
+
+grouped_kinds : kinds_of tables grouped ≡ kind.Text ∷ kind.Int ∷ []
+grouped_kinds = refl
+
+grouped_tree :
+    tree_of tables grouped
+    ≡ query.Project (term.Column 0 ∷ term.Column 1 ∷ []) (
+    query.Select (term.Compare comparison.Greater (term.Column 2) (term.Literal (value.Int (pos 1)))) (
+    query.Group 1 (agg.Sum 1 ∷ agg.Sum 2 ∷ []) (query.Project (term.Column 1 ∷ term.Column 2 ∷ term.Literal (value.Int (pos 1)) ∷ []) (query.Table 0))
+    )
+    )
+grouped_tree = refl
+
+-- SELECT * FROM orders o, rates r WHERE o.city = r.city
+abbrev starred : QueryTree
+starred = plain_select (ItemTree.star 7 ∷ []) (from_both 14 24) (Some (32, Tree.binary 45 (Operator.compare comparison.Equal) (qualified 38 (codes "o") (codes "city")) (qualified 47 (codes "r") (codes "city"))))
+
+starred_well : defects tables starred ≡ []
+starred_well = refl
+
+starred_names : names_of tables starred ≡ codes "id" ∷ codes "city" ∷ codes "amount" ∷ codes "city" ∷ codes "fee" ∷ []
+starred_names = refl
+
+starred_tree :
+    tree_of tables starred
+    ≡ query.Project (term.Column 0 ∷ term.Column 1 ∷ term.Column 2 ∷ term.Column 3 ∷ term.Column 4 ∷ []) (
+    query.Select (term.Compare comparison.Equal (term.Column 1) (term.Column 3)) (query.Product (query.Table 0) (query.Table 1))
+    )
+starred_tree = refl
+
+-- SELECT city FROM orders EXCEPT SELECT city FROM rates
+abbrev except : QueryTree
+except = QueryTree.set SetWord.except false 24 (plain_select (item (name_at 7 (codes "city")) ∷ []) (from_orders 17) None) (plain_select (item (name_at 38 (codes "city")) ∷ []) (Sources.table 48 (codes "rates") None Sources.no_sources) None)
+
+except_well : defects tables except ≡ []
+except_well = refl
+
+except_tree : tree_of tables except ≡ query.Difference (query.Distinct (query.Project (term.Column 1 ∷ []) (query.Table 0))) (query.Project (term.Column 0 ∷ []) (query.Table 1))
+except_tree = refl

@@ -1,0 +1,38 @@
+-- What the calls answer of a statement, of the sides of a set word and of a FROM item: what it is where nothing is
+-- wrong with it, or else one of its faults.
+use Rattle.std.specs.Prelude.{ℕ, ◌≡◌, List, unwrap_or, Result, Ok, Err}
+use Rattle.au_parse.specs.Views.{statement_tree}
+use Rattle.au_parse.specs.declared.Source.{Source}
+use Rattle.au_parse.specs.declared.Source.TheVariants as source
+use Rattle.au_typing.specs.Queries.{Relation, table_of, table_typing, typing}
+use Rattle.au_typing.specs.Results.{Refuses, from_view, part_typing}
+use Rattle.au_typing.specs.Scopes.{then_faults}
+use Rattle.au_typing.specs.Selects.{FromItem, Typing}
+use Rattle.au_typing.specs.declared.fault.TypingFault.{TypingFault}
+use Rattle.au_typing.specs.declared.fault.TypingFault.TheVariants as fault
+use Rattle.au_typing.specs.declared.select.FromPart.{FromPart}
+use Rattle.au_typing.specs.declared.select.Part.{Part}
+
+-- A query is found to be this, or one of its faults is named.
+abbrev pub Judges : Typing → Result Part TypingFault → Type 0
+Judges t (Ok part) = part_typing part ≡ t
+Judges t (Err f) = Refuses t.faults f
+
+-- The same of both sides of a set word, where the right is judged only if the left has no fault.
+abbrev pub JudgesSides : Typing → Typing → Result (Part × Part) TypingFault → Type 0
+JudgesSides left right (Ok parts) = (part_typing parts.0 ≡ left) × (part_typing parts.1 ≡ right)
+JudgesSides left right (Err f) = Refuses (then_faults left.faults right.faults) f
+
+-- the FROM item that is written, and what is wrong with it
+abbrev pub source_item : List Relation → Source → FromItem
+source_item tables (source.Table at word alias) = record { at = at; name = unwrap_or alias word; typing = table_typing tables at (table_of tables word) }
+source_item tables (source.Inner' at p q name) = record { at = at; name = name; typing = typing tables (statement_tree q) }
+
+abbrev pub source_faults : List Relation → Source → List TypingFault
+source_faults tables source = (source_item tables source).typing.faults
+
+-- What is found is visible under this name as a FROM item.
+abbrev pub Shows : ℕ → List ℕ → Result Part TypingFault → Result FromPart TypingFault → Type 0
+Shows at name (Ok part) (Ok item) = from_view item ≡ record { at = at; name = name; typing = part_typing part }
+Shows at name (Ok part) (Err f) = f ≡ fault.NoMemory
+Shows at name (Err f) r = r ≡ Err f

@@ -1,0 +1,12 @@
+-- What a statement in which nothing is wrong promises of its tree.
+-- The tree is typed over the tables' columns, with exactly the kinds that are named.
+use Rattle.std.specs.Prelude.{◌≡◌, List, Some}
+use Rattle.au_algebra.specs.Typing.{kinds_of as tree_kinds}
+use Rattle.au_parse.specs.Tree.{QueryTree}
+use Rattle.au_parse.specs.Whole.{WholeQuery}
+use Rattle.au_typing.specs.Queries.{Relation, IsWellTyped, tree_of, kinds_of, table_kinds}
+
+abbrev pub TreeIsTyped : Type 0
+TreeIsTyped =
+    (tables : List Relation) (statement : QueryTree) →
+    WholeQuery statement → IsWellTyped tables statement → tree_kinds (table_kinds tables) (tree_of tables statement) ≡ Some (kinds_of tables statement)

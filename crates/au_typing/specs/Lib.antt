@@ -1,0 +1,10 @@
+pub mod Scopes
+pub mod Aggregates
+pub mod Terms
+pub mod Items
+pub mod Selects
+pub mod Queries
+pub mod Shapes
+pub mod Results
+pub mod Laws
+pub mod Judged

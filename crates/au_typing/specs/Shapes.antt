@@ -1,0 +1,57 @@
+-- The tree of a term that has been taken apart,
+-- and the operators as the tree has them.
+use Rattle.std.specs.Prelude.{ℕ, Option, pos}
+use Rattle.au_value.specs.declared.kinds.Kind.{Kind}
+use Rattle.au_value.specs.declared.kinds.Kind.TheVariants.{Int, Flag}
+use Rattle.au_value.specs.declared.value.Value.TheVariants as value
+use Rattle.au_expr.specs.Terms.{Term, Literal, Negate, Not}
+use Rattle.au_expr.specs.Kinds.{is_kind, kind_if}
+use Rattle.au_parse.specs.declared.AggWord.{AggWord}
+use Rattle.au_parse.specs.declared.AggWord.TheVariants.{Count, Sum, Min, Max}
+use Rattle.au_parse.specs.Tree.{Tree, Operator}
+use Rattle.au_parse.specs.Views.{term_tree}
+use Rattle.au_parse.specs.Levels.{arms_tree}
+use Rattle.au_typing.specs.declared.shape.Operation.{Operation}
+use Rattle.au_typing.specs.declared.shape.Operation.TheVariants as operation
+use Rattle.au_typing.specs.declared.shape.Sign.{Sign}
+use Rattle.au_typing.specs.declared.shape.Sign.TheVariants as sign
+use Rattle.au_typing.specs.declared.shape.Shape.{Shape}
+use Rattle.au_typing.specs.declared.shape.Shape.TheVariants as shape
+
+abbrev pub operator_of : Operation → Operator
+operator_of operation.Add = Operator.add
+operator_of operation.Subtract = Operator.subtract
+operator_of operation.Multiply = Operator.multiply
+operator_of (operation.Compare how) = Operator.compare how
+operator_of operation.And = Operator.and
+operator_of operation.Or = Operator.or
+
+abbrev pub signed_tree : ℕ → Sign → Tree → Tree
+signed_tree at sign.Minus e = Tree.negate at e
+signed_tree at sign.Not e = Tree.not at e
+
+abbrev pub signed_kind : Sign → Option Kind → Option Kind
+signed_kind sign.Minus k = kind_if (is_kind Int k) Int
+signed_kind sign.Not k = kind_if (is_kind Flag k) Flag
+
+abbrev pub signed_term : Sign → Term → Term
+signed_term sign.Minus e = Negate e
+signed_term sign.Not e = Not e
+
+-- the argument of an aggregate: 1 where rows are counted
+abbrev pub argument_given : AggWord → Term → Term
+argument_given Count e = Literal (value.Int (pos 1))
+argument_given Sum e = e
+argument_given Min e = e
+argument_given Max e = e
+
+abbrev pub shape_tree : Shape → Tree
+shape_tree (shape.Column name) = Tree.column name.now
+shape_tree (shape.Number at n) = Tree.number at n
+shape_tree (shape.Text at word) = Tree.text at word.now
+shape_tree (shape.Flag at b) = Tree.flag at b
+shape_tree (shape.Binary at o l r) = Tree.binary at (operator_of o) (term_tree l.now) (term_tree r.now)
+shape_tree (shape.Unary at s e) = signed_tree at s (term_tree e.now)
+shape_tree (shape.Case at arms otherwise) = Tree.case at (arms_tree arms.now (term_tree otherwise.now))
+shape_tree (shape.CountRows at) = Tree.count_rows at
+shape_tree (shape.Aggregate at word e) = Tree.aggregate at word (term_tree e.now)
