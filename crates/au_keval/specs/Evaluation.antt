@@ -1,0 +1,36 @@
+-- What is known of the rows that the evaluation of a tree gave.
+-- They are lent by a table, or were made by an operator.
+use Rattle.std.specs.Prelude.{◌≡◌, Bool, true, List, Some, map, flat_map}
+use Rattle.std.specs.List.{AllZip}
+use Rattle.au_value.specs.declared.kinds.Kind.{Kind}
+use Rattle.au_expr.specs.Evaluate.{Operators}
+use Rattle.au_expr.specs.Figures.{Figures}
+use Rattle.au_algebra.specs.Entries.{Entry, entry}
+use Rattle.au_algebra.specs.Trees.{Tree}
+use Rattle.au_algebra.specs.Typing.{kinds_of}
+use Rattle.au_algebra.specs.Positive.{Annotations, positive}
+use Rattle.au_keval.specs.declared.rows.Rows.{Rows}
+use Rattle.au_keval.specs.declared.rows.Rows.TheVariants.{Lent, Made}
+use Rattle.au_keval.specs.Passes.{kept}
+use Rattle.au_keval.specs.Reading.{IsRelation, fits}
+
+abbrev pub rows_in : {C K : Type 0} → Rows C K → List (Entry C K)
+rows_in (Lent rows) = map (λ r. entry r.0.items r.1) rows.now
+rows_in (Made rows) = map (λ r. entry r.0.items r.1) rows.items
+
+-- no row that an operator made has the annotation zero
+abbrev pub IsPresent : {C K : Type 0} → Annotations C K → Rows C K → Type 0
+IsPresent a (Lent rows) = Unit {0}
+IsPresent a (Made rows) = flat_map (kept a) (map (λ r. entry r.0.items r.1) rows.items) ≡ map (λ r. entry r.0.items r.1) rows.items
+
+-- rows of the kinds that the tree is typed with
+abbrev pub HasRows : {C K : Type 0} → (Kind → C → Type 0) → (K → Type 0) → Tree → List (List (Entry C K)) → List (Entry C K) → Type 0
+HasRows is_kind is_valid q ts rows =
+    (kinds : List (List Kind)) (ks : List Kind) → AllZip (IsRelation is_kind is_valid) kinds ts → kinds_of kinds q ≡ Some ks → IsRelation is_kind is_valid ks rows
+
+-- the rows are the tree's, whose numbers fit
+pub record Answered {C K : Type 0} (d : Operators C) (n : Figures C) (a : Annotations C K) (in_range : K → Bool) (is_kind : Kind → C → Type 0) (is_valid : K → Type 0) (q : Tree) (ts : List (List (Entry C K))) (rows : Rows C K) : Type 0 where
+  pub rows_are : rows_in rows ≡ positive d a q ts
+  pub fits_all : fits d n a in_range q ts ≡ true
+  pub present : IsPresent a rows
+  pub valid : HasRows is_kind is_valid q ts (positive d a q ts)

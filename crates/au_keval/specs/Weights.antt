@@ -1,0 +1,40 @@
+-- The annotations of truths: 1 for true and 0 for false, and a triple of these for whether a condition holds certainly,
+-- in the guess and possibly. Valid truths have valid triples, and products of valid triples are valid.
+use Rattle.std.specs.Prelude.{◌≡◌, ℕ, ◌≤◌, Bool, true, false, refl}
+use Rattle.std.proofs.Common.{zero-le, le_refl, mul-le-mul, sym}
+use Rattle.std.proofs.lemmas.Bool.{true≢false}
+use Rattle.au_annot.specs.Triples.{Counts, counts, times, IsTriple}
+use Rattle.au_expr.specs.Truths.{IsAnyBool, IsThreeWay}
+use Rattle.au_expr.specs.declared.truth.ThreeWay.{ThreeWay}
+
+-- 1 for true and 0 for false
+abbrev pub count_of : Bool → ℕ
+count_of true = 1
+count_of false = 0
+
+-- the same of each of the three
+abbrev pub triple_of : ThreeWay → Counts
+triple_of t = counts (count_of t.least) (count_of t.guess) (count_of t.most)
+
+pub counts_valid : (t : Bool) → IsAnyBool t → Unit {0}
+counts_valid t ok = tt
+
+pub counts_times : (m n : ℕ) → Unit {0} → Unit {0} → Unit {0}
+counts_times m n p q = tt
+
+rising : (p q : Bool) → (p ≡ true → q ≡ true) → count_of p ≤ count_of q
+rising true true h = le_refl 1
+rising true false h = absurd (true≢false (sym (h refl)))
+rising false q h = zero-le
+
+pub triples_valid : (t : ThreeWay) → IsThreeWay t → IsTriple (triple_of t)
+triples_valid t ok = record {
+  least_guess = rising t.least t.guess ok.least_guess;
+  guess_most = rising t.guess t.most ok.guess_most;
+}
+
+pub triples_times : (s t : Counts) → IsTriple s → IsTriple t → IsTriple (times s t)
+triples_times s t p q = record {
+  least_guess = mul-le-mul p.least_guess q.least_guess;
+  guess_most = mul-le-mul p.guess_most q.guess_most;
+}

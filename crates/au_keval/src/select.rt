@@ -1,0 +1,116 @@
+//! Select: each row's annotation times its condition's.
+ghost use Rattle.std.specs.Prelude.{◌≡◌, MatchResult, [], ◌∷◌, map, false};
+ghost use Rattle.std.specs.List.{list_all, AllByRecursion};
+ghost use Rattle.au_expr.specs.Terms.{term};
+ghost use Rattle.au_expr.specs.declared.fault.EvalFault.TheVariants as fault;
+ghost use Rattle.au_algebra.specs.Entries.{entry};
+ghost use Rattle.au_keval.specs.Evaluation.{rows_in};
+ghost use Rattle.au_keval.specs.Passes.{Passed, Weighed, selected, IsCondition, WeightIsValid};
+ghost use Rattle.au_keval.specs.Reading.{annotations, select_fits};
+
+use crate::row::{Row, push, push_copy};
+use crate::rows::Rows;
+use crate::weigh::Weigh;
+use au_expr::{Domain, EvalFault, Expr, evaluate};
+use std::alloc::Global;
+
+// The annotation of a row with these cells, times the condition's.
+fn weighed<D: Domain, K: Weigh<D>>(
+    condition: &Expr,
+    cells: &[D::Cell],
+    annot: K,
+) -> Result<K, EvalFault>
+where
+    D::Truth: Drop,
+    requires { IsCondition D.is_kind (term condition.now) (entry cells.now annot) }
+    ensures { MatchResult result (λ k. Weighed D.operators D.figures (annotations K.zero K.one K.plus K.times K.at_most K.weight D.truth_of) K.in_range K.IsValid (term condition.now) (entry cells.now annot) k) (λ f. f ≡ fault.Overflow → select_fits D.operators D.figures (annotations K.zero K.one K.plus K.times K.at_most K.weight D.truth_of) K.in_range (term condition.now) (entry cells.now annot) ≡ false) }
+{
+    let flag = evaluate::<D>(condition, cells)?;
+    let truth = D::truth(&flag);
+    Ok(annot.times(K::weight(&truth))?)
+}
+
+// Puts a copy of the row behind the others, unless its annotation becomes zero.
+fn select_lent<D: Domain, K: Weigh<D>>(
+    alloc: Global,
+    condition: &Expr,
+    row: &Row<D::Cell, K>,
+    done: &mut Vec<Row<D::Cell, K>>,
+) -> Result<(), EvalFault>
+where
+    D::Truth: Drop,
+    requires { IsCondition D.is_kind (term condition.now) (entry row.now.0.items row.now.1) }
+    ensures { let a = annotations K.zero K.one K.plus K.times K.at_most K.weight D.truth_of in MatchResult result (λ _. Passed (selected a D.operators (term condition.now)) (select_fits D.operators D.figures a K.in_range (term condition.now)) (WeightIsValid D.operators a K.IsValid (term condition.now)) (entry row.now.0.items row.now.1 ∷ []) (map (λ r. entry r.0.items r.1) done.old.items) (map (λ r. entry r.0.items r.1) done.new.items)) (λ f. f ≡ fault.Overflow → select_fits D.operators D.figures a K.in_range (term condition.now) (entry row.now.0.items row.now.1) ≡ false) }
+{
+    let annot = weighed::<D, K>(condition, row.0.as_slice(), row.1)?;
+    push_copy::<D, K>(alloc, done, row.0.as_slice(), annot)
+}
+
+// Puts the row behind the others, unless its annotation becomes zero.
+fn select_made<D: Domain, K: Weigh<D>>(
+    condition: &Expr,
+    row: Row<D::Cell, K>,
+    done: &mut Vec<Row<D::Cell, K>>,
+) -> Result<(), EvalFault>
+where
+    D::Truth: Drop,
+    requires { IsCondition D.is_kind (term condition.now) (entry row.0.items row.1) }
+    ensures { let a = annotations K.zero K.one K.plus K.times K.at_most K.weight D.truth_of in MatchResult result (λ _. Passed (selected a D.operators (term condition.now)) (select_fits D.operators D.figures a K.in_range (term condition.now)) (WeightIsValid D.operators a K.IsValid (term condition.now)) (entry row.0.items row.1 ∷ []) (map (λ r. entry r.0.items r.1) done.old.items) (map (λ r. entry r.0.items r.1) done.new.items)) (λ f. f ≡ fault.Overflow → select_fits D.operators D.figures a K.in_range (term condition.now) (entry row.0.items row.1) ≡ false) }
+{
+    let (cells, annot) = row;
+    let annot = weighed::<D, K>(condition, cells.as_slice(), annot)?;
+    push::<D, K>(done, cells, annot)
+}
+
+// Copies of the rows, without those whose annotation becomes zero.
+fn select_from<D: Domain, K: Weigh<D>>(
+    alloc: Global,
+    condition: &Expr,
+    rows: &[Row<D::Cell, K>],
+) -> Result<Vec<Row<D::Cell, K>>, EvalFault>
+where
+    D::Truth: Drop,
+    requires { AllByRecursion (IsCondition D.is_kind (term condition.now)) (map (λ r. entry r.0.items r.1) rows.now) }
+    ensures { let a = annotations K.zero K.one K.plus K.times K.at_most K.weight D.truth_of in MatchResult result (λ v. Passed (selected a D.operators (term condition.now)) (select_fits D.operators D.figures a K.in_range (term condition.now)) (WeightIsValid D.operators a K.IsValid (term condition.now)) (map (λ r. entry r.0.items r.1) rows.now) [] (map (λ r. entry r.0.items r.1) v.items)) (λ f. f ≡ fault.Overflow → list_all (select_fits D.operators D.figures a K.in_range (term condition.now)) (map (λ r. entry r.0.items r.1) rows.now) ≡ false) }
+{
+    let mut done = Vec::new(alloc);
+    for row in rows {
+        select_lent::<D, K>(alloc, condition, row, &mut done)?;
+    }
+    Ok(done)
+}
+
+// The rows, without those whose annotation becomes zero.
+fn select_of<D: Domain, K: Weigh<D>>(
+    alloc: Global,
+    condition: &Expr,
+    rows: Vec<Row<D::Cell, K>>,
+) -> Result<Vec<Row<D::Cell, K>>, EvalFault>
+where
+    D::Truth: Drop,
+    requires { AllByRecursion (IsCondition D.is_kind (term condition.now)) (map (λ r. entry r.0.items r.1) rows.items) }
+    ensures { let a = annotations K.zero K.one K.plus K.times K.at_most K.weight D.truth_of in MatchResult result (λ v. Passed (selected a D.operators (term condition.now)) (select_fits D.operators D.figures a K.in_range (term condition.now)) (WeightIsValid D.operators a K.IsValid (term condition.now)) (map (λ r. entry r.0.items r.1) rows.items) [] (map (λ r. entry r.0.items r.1) v.items)) (λ f. f ≡ fault.Overflow → list_all (select_fits D.operators D.figures a K.in_range (term condition.now)) (map (λ r. entry r.0.items r.1) rows.items) ≡ false) }
+{
+    let mut done = Vec::new(alloc);
+    for row in rows {
+        select_made::<D, K>(condition, row, &mut done)?;
+    }
+    Ok(done)
+}
+
+/// The rows with their annotation times the condition's, without those whose annotation becomes zero.
+pub fn select<D: Domain, K: Weigh<D>>(
+    alloc: Global,
+    condition: &Expr,
+    rows: Rows<'_, D::Cell, K>,
+) -> Result<Vec<Row<D::Cell, K>>, EvalFault>
+where
+    D::Truth: Drop,
+    requires { AllByRecursion (IsCondition D.is_kind (term condition.now)) (rows_in rows) }
+    ensures { let a = annotations K.zero K.one K.plus K.times K.at_most K.weight D.truth_of in MatchResult result (λ v. Passed (selected a D.operators (term condition.now)) (select_fits D.operators D.figures a K.in_range (term condition.now)) (WeightIsValid D.operators a K.IsValid (term condition.now)) (rows_in rows.entry) [] (map (λ r. entry r.0.items r.1) v.items)) (λ f. f ≡ fault.Overflow → list_all (select_fits D.operators D.figures a K.in_range (term condition.now)) (rows_in rows.entry) ≡ false) }
+{
+    match rows {
+        Rows::Lent(rows) => select_from::<D, K>(alloc, condition, rows),
+        Rows::Made(rows) => select_of::<D, K>(alloc, condition, rows),
+    }
+}
