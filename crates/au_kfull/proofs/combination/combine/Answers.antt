@@ -1,0 +1,33 @@
+-- The rows of the relation are combined.
+use Rattle.std.proofs.Common.{◌≡◌, ◌∙◌, refl, subst, sym}
+use Rattle.au_algebra.specs.Bounded.{combine}
+use Rattle.au_algebra.specs.Fits.{triples_fit}
+use Rattle.au_algebra.specs.Laws.{IsRelation}
+use Rattle.au_algebra.proofs.DifferenceRelation.{combine_relation}
+use Rattle.au_kfull.specs.Gives.{Gives}
+use Rattle.au_kfull.specs.Keys.{HasKinds}
+use Rattle.au_kfull.proofs.DifferenceRows.{relation_kinds}
+use Rattle.au_kfull.proofs.GivesMore.{gives_ok, gives_fits, gives_overflow}
+use Rattle.au_kfull.proofs.combination.combine.Goals as goal
+
+pub combined-requires : goal.combined-requires
+combined-requires c =
+    let ks = c.requires.0 in
+    (ks, subst (HasKinds ks) (sym (c.deref.ensures.value ∙ c.in_ok-lent.ensures ∙ c.rows.ensures)) (relation_kinds ks c.args.rel.now c.requires.1))
+
+given : (c : goal.After-drop-lent) → Gives c.combined.result (λ r. r ≡ combine c.args.rel.now) (triples_fit (combine c.args.rel.now))
+given c = subst (λ rows. Gives c.combined.result (λ r. r ≡ combine rows) (triples_fit (combine rows))) (c.deref.ensures.value ∙ c.in_ok-lent.ensures ∙ c.rows.ensures) c.combined.ensures
+
+pub returns-clause-rows : goal.returns-clause-rows
+returns-clause-rows c = gives_ok c.combined.result (λ r. r ≡ combine c.args.rel.now) (triples_fit (combine c.args.rel.now)) (given c) _ (λ r e. e)
+
+pub returns-clause-relation : goal.returns-clause-relation
+returns-clause-relation c =
+    gives_ok c.combined.result (λ r. r ≡ combine c.args.rel.now) (triples_fit (combine c.args.rel.now)) (given c) _
+    (λ r e ks ok. subst (IsRelation ks) (sym e) (combine_relation ks c.args.rel.now ok))
+
+pub returns-clause-fits : goal.returns-clause-fits
+returns-clause-fits c = gives_fits c.combined.result (λ r. r ≡ combine c.args.rel.now) (triples_fit (combine c.args.rel.now)) (given c) _ refl
+
+pub returns-clause-overflow : goal.returns-clause-overflow
+returns-clause-overflow c = gives_overflow c.combined.result (λ r. r ≡ combine c.args.rel.now) (triples_fit (combine c.args.rel.now)) (given c) _ refl

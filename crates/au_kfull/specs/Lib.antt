@@ -1,0 +1,10 @@
+pub mod Embedding
+pub mod Extremes
+pub mod Gives
+pub mod Groups
+pub mod Keys
+pub mod Meeting
+pub mod Numbers
+pub mod Outputs
+pub mod TreeFits
+pub mod Typed

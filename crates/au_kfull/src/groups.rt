@@ -1,0 +1,87 @@
+//! Grouping, and distinct rows.
+ghost use Rattle.std.specs.Prelude.{◌≡◌, IfErr, IfOk, IsTrue, List, OnOk, [], false, map};
+ghost use Rattle.std.specs.List.{AllByRecursion, list_all};
+ghost use Rattle.au_value.specs.declared.kinds.Kind.{Kind};
+ghost use Rattle.au_expr.specs.declared.fault.EvalFault.TheVariants as fault;
+ghost use Rattle.au_algebra.specs.Bounded.{distinct_rows, group as group_of, group_by, present};
+ghost use Rattle.au_algebra.specs.Entries.{entry};
+ghost use Rattle.au_algebra.specs.Laws.{IsRelation};
+ghost use Rattle.au_kfull.specs.Gives.{Gives};
+ghost use Rattle.au_kfull.specs.Keys.{keys_of as the_keys};
+ghost use Rattle.au_kfull.specs.Outputs.{IsOutputReady, group_fits, made_fits, made_output};
+ghost use Rattle.au_kfull.specs.Typed.{IsGroupable};
+ghost use Rattle.au_kfull.specs.declared.keys.Keys.TheVariants as columns;
+
+use crate::keys::{Keys, firsts};
+use crate::output::output;
+use crate::tuple::{Tuple, push_present, tuples};
+use au_algebra::{Agg, Rel};
+use au_annot::Triple;
+use au_expr::EvalFault;
+use au_keval::operators::Row;
+use au_value::Range;
+use std::alloc::Global;
+
+// The outputs with the guessed keys of some rows.
+fn outputs(
+    alloc: Global,
+    keys: Keys,
+    aggs: &[Agg],
+    heads: &[Tuple<'_, Range, Triple>],
+    rows: &[Tuple<'_, Range, Triple>],
+) -> Result<Rel<Range, Triple>, EvalFault>
+    requires { AllByRecursion (λ h. IsOutputReady keys aggs.now rows.now h.cells) heads.now }
+    ensures { Gives result (λ r. r ≡ present (map (λ h. made_output keys aggs.now rows.now h.cells) heads.now)) (list_all (λ h. made_fits keys aggs.now rows.now h.cells) heads.now) }
+{
+    let mut rel = Rel::new(alloc);
+    for head in heads {
+        let (cells, triple) = output(alloc, keys, aggs, head.cells(), rows)?;
+        push_present(&mut rel, cells, triple)?;
+    }
+    Ok(rel)
+}
+
+/// One output per distinct list of guessed keys.
+pub(crate) fn grouped(
+    alloc: Global,
+    keys: Keys,
+    aggs: &[Agg],
+    of: &[Row<Range, Triple>],
+) -> Result<Rel<Range, Triple>, EvalFault>
+    requires { IsGroupable aggs.now (map (λ r. entry r.0.items r.1) of.now) }
+    ensures { let rows = map (λ r. entry r.0.items r.1) of.now in Gives result (λ r. r ≡ group_by (the_keys keys) aggs.now rows) (group_fits keys aggs.now rows) }
+{
+    let rows = tuples(alloc, of)?;
+    let heads = firsts(alloc, keys, &rows)?;
+    outputs(alloc, keys, aggs, &heads, &rows)
+}
+
+/// One row for each distinct list of guesses in so many leading columns: the hulls of the rows' keys, and then the
+/// ranges of the aggregates.
+///
+/// `Overflow` comes exactly where a number leaves the range, unless memory is wanting before.
+pub fn group(
+    alloc: Global,
+    keys: usize,
+    aggs: &[Agg],
+    of: &Rel<Range, Triple>,
+) -> Result<Rel<Range, Triple>, EvalFault>
+    requires { IsGroupable aggs.now of.now }
+    ensures rows { IfOk result (λ r. r ≡ group_of keys aggs.now of.now) }
+    ensures fits { OnOk result (IsTrue (group_fits (columns.Leading keys) aggs.now of.now)) }
+    ensures overflow { IfErr result (λ f. f ≡ fault.Overflow → group_fits (columns.Leading keys) aggs.now of.now ≡ false) }
+{
+    grouped(alloc, Keys::Leading(keys), aggs, of.rows())
+}
+
+/// The groups by all columns, with no aggregate.
+///
+/// `Overflow` comes exactly where a number leaves the range, unless memory is wanting before.
+pub fn distinct(alloc: Global, of: &Rel<Range, Triple>) -> Result<Rel<Range, Triple>, EvalFault>
+    requires { (ks : List Kind) × IsRelation ks of.now }
+    ensures rows { IfOk result (λ r. r ≡ distinct_rows of.now) }
+    ensures fits { OnOk result (IsTrue (group_fits columns.All [] of.now)) }
+    ensures overflow { IfErr result (λ f. f ≡ fault.Overflow → group_fits columns.All [] of.now ≡ false) }
+{
+    grouped(alloc, Keys::All, &[], of.rows())
+}

@@ -1,0 +1,64 @@
+//! An output of a group.
+ghost use Rattle.std.specs.Prelude.{◌≡◌, ◌++◌, ◌∷◌, [], OnOk, flat_map, map};
+ghost use Rattle.std.specs.List.{AllByRecursion, list_all};
+ghost use Rattle.au_algebra.specs.Bounded.{aggregate as aggregate_of};
+ghost use Rattle.au_algebra.specs.Entries.{entry};
+ghost use Rattle.au_algebra.specs.Fits.{agg_numbers, in_range};
+ghost use Rattle.au_kfull.specs.Gives.{Gives};
+ghost use Rattle.au_kfull.specs.Groups.{seen};
+ghost use Rattle.au_kfull.specs.Outputs.{CanAggregate, IsOutputReady, made_fits, made_output};
+
+use crate::aggregates::aggregate;
+use crate::counts::counts;
+use crate::grouping::{Grouping, gather};
+use crate::keys::Keys;
+use crate::tuple::Tuple;
+use au_algebra::Agg;
+use au_annot::Triple;
+use au_expr::EvalFault;
+use au_value::{NoMemory, Range};
+use std::alloc::Global;
+
+// Puts a range behind the others.
+fn put(cells: &mut Vec<Range>, range: Range) -> Result<(), NoMemory>
+    ensures { OnOk result (cells.new.items ≡ cells.old.items ++ range ∷ []) }
+{
+    cells.push(range)?;
+    Ok(())
+}
+
+/// Puts the ranges of the aggregates behind the cells.
+pub(crate) fn push_aggregates(
+    alloc: Global,
+    cells: Vec<Range>,
+    group: &Grouping<'_>,
+    aggs: &[Agg],
+) -> Result<Vec<Range>, EvalFault>
+    requires { AllByRecursion (CanAggregate (seen group.now)) aggs.now }
+    ensures { Gives result (λ v. v.items ≡ cells.items ++ map (aggregate_of (seen group.now)) aggs.now) (list_all in_range (flat_map (agg_numbers (seen group.now)) aggs.now)) }
+{
+    let mut cells = cells;
+    for agg in aggs {
+        put(&mut cells, aggregate(alloc, group, *agg)?)?;
+    }
+    Ok(cells)
+}
+
+/// The output with the guessed keys of a row.
+pub(crate) fn output(
+    alloc: Global,
+    keys: Keys,
+    aggs: &[Agg],
+    head: &[Range],
+    rows: &[Tuple<'_, Range, Triple>],
+) -> Result<(Vec<Range>, Triple), EvalFault>
+    requires { IsOutputReady keys aggs.now rows.now head.now }
+    ensures { Gives result (λ r. entry r.0.items r.1 ≡ made_output keys aggs.now rows.now head.now) (made_fits keys aggs.now rows.now head.now) }
+{
+    let (hull, group) = gather(alloc, keys, head, rows)?;
+    let triple = counts(keys, &group.belonging)?;
+    match push_aggregates(alloc, hull, &group, aggs) {
+        Ok(cells) => Ok((cells, triple)),
+        Err(fault) => Err(fault),
+    }
+}
