@@ -1,6 +1,6 @@
 -- The CSV text of a bounded answer: a header, and a record for each row, with three fields for the multiplicity and
 -- three for each column. Records are written as the csv crate's writer writes them by default, each ended by LF.
-use Rattle.std.specs.Prelude.{ℕ, List, [], ◌∷◌, ◌++◌, map, flat_map, codes, decimal, true, false}
+use Rattle.std.specs.Prelude.{ℕ, List, [], ◌∷◌, ◌++◌, flat_map, codes, decimal, true, false}
 use Rattle.std.specs.Fmt.{signed_decimal}
 use Rattle.csv.specs.Writing.{row_text, default_writer}
 use Rattle.au_value.specs.declared.value.Value.{Value}

@@ -10,7 +10,7 @@ use itoa::Buffer;
 use std::alloc::Global;
 
 /// Adds a number's decimal digits.
-fn push_count(row: &mut ByteRecord, count: u128) -> Result<(), NoMemory>
+pub fn push_count(row: &mut ByteRecord, count: u128) -> Result<(), NoMemory>
     requires { partial_of row.old ≡ [] }
     ensures fields { OnOk result (fields_of row.new ≡ fields_of row.old ++ (decimal count ∷ [])) }
     ensures whole { OnOk result (partial_of row.new ≡ []) }
@@ -21,7 +21,7 @@ fn push_count(row: &mut ByteRecord, count: u128) -> Result<(), NoMemory>
 }
 
 /// Adds the text of a value.
-fn push_value(row: &mut ByteRecord, value: &Value) -> Result<(), NoMemory>
+pub fn push_value(row: &mut ByteRecord, value: &Value) -> Result<(), NoMemory>
     requires { partial_of row.old ≡ [] }
     ensures fields { OnOk result (fields_of row.new ≡ fields_of row.old ++ (value_text value.now ∷ [])) }
     ensures whole { OnOk result (partial_of row.new ≡ []) }

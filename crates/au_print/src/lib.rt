@@ -1,21 +1,35 @@
-//! Answers as texts.
+//! Answers as texts. The formats are told in docs/FORMATS.md.
 //!
-//! `Answer` has the names, the kinds and the rows of a bounded answer, and `csv_text` is its text as CSV: a least, a
-//! guessed and a greatest multiplicity, and a lower bound, a guess and an upper bound for each column.
+//! An [`Answer`] has the names, the kinds and the rows of a bounded answer. [`csv_text`] is its text as CSV: a least, a
+//! guessed and a greatest multiplicity, and a lower bound, a guess and an upper bound for each column. [`table_text`]
+//! is the same for the eye, a line for each row, in aligned columns. [`guess_text`] is the text of an answer over the
+//! guess world, each row once behind its count, and [`demo_text`] the four lines of a demonstration.
 //!
 //! ```text
 //! let answer = Answer { names, kinds, rows: normal(alloc, rows)? };
-//! out.put(csv_text(alloc, &answer)?.as_slice())
+//! out.put(csv_text(alloc, &answer)?.as_slice())?;
+//! out.put(table_text(alloc, &answer)?.as_slice())?;
+//! out.put(guess_text(alloc, answer.names.as_slice(), &guessed)?.as_slice())
 //! ```
 #![tactic(auto)]
 
 mod answer;
+mod cells;
 mod csv_form;
+mod demo_form;
 mod fields;
+mod guess_form;
+mod guess_rows;
 mod page;
+mod table_form;
+mod value_order;
+mod widths;
 
 pub use answer::Answer;
 pub use csv_form::csv_text;
+pub use demo_form::demo_text;
+pub use guess_form::guess_text;
+pub use table_form::table_text;
 
 #[cfg(test)]
 mod tests;

@@ -1,6 +1,6 @@
 -- The text is what was written: the header, and then the rows.
-use Rattle.std.proofs.Common.{◌≡◌, ◌∙◌, ap, ◌++◌, map}
-use Rattle.au_print.specs.Texts.{csv_text, header_fields}
+use Rattle.std.proofs.Common.{◌∙◌, ap, ◌++◌, map}
+use Rattle.au_print.specs.Texts.{header_fields}
 use Rattle.au_algebra.specs.Entries.{entry}
 use Rattle.std.proofs.lemmas.Result.{IfOk-weaker}
 use Rattle.au_print.proofs.Csv.{csv_text_is}

@@ -1,0 +1,20 @@
+-- The four lines of a demonstration: how many rows an answer has,
+-- and how often they occur in all at least, in the guess world, and at most.
+use Rattle.std.specs.Prelude.{ℕ, List, ◌++◌, map, length, codes, decimal}
+use Rattle.au_annot.specs.Triples.{Counts, total}
+use Rattle.au_algebra.specs.Bounded.{Bounded}
+
+-- the sum of the triples
+abbrev pub sum_of : Bounded → Counts
+sum_of rows = total (map (λ r. r.annot) rows)
+
+-- a word and a number, in a line of their own
+abbrev pub counted_line : List ℕ → ℕ → List ℕ
+counted_line word n = word ++ codes " " ++ decimal n ++ codes "\n"
+
+abbrev pub demo_text : Bounded → List ℕ
+demo_text rows =
+    counted_line (codes "rows") (length rows)
+    ++ counted_line (codes "least") (sum_of rows).least
+    ++ counted_line (codes "guess") (sum_of rows).guess
+    ++ counted_line (codes "most") (sum_of rows).most

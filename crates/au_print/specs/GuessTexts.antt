@@ -1,0 +1,68 @@
+-- The text of an answer over the guess world: each row of values once, in order, behind the number of its copies.
+-- It is given by rows with counts, of which equal rows stand for one row, or by the rows of a world themselves.
+use Rattle.std.specs.Prelude.{◌≡◌, ℕ, Bool, not, ◌==◌, List, [], ◌∷◌, ◌++◌, map, filter, flat_map, sum_by, codes, decimal, if◌then◌else◌}
+use Rattle.std.specs.List.{list_all}
+use Rattle.std.specs.Ordering.{is_le}
+use Rattle.std.specs.Cmp.Lexicographic.{slice_cmp}
+use Rattle.au_value.specs.declared.value.Value.{Value}
+use Rattle.au_value.specs.Order.{order}
+use Rattle.au_annot.specs.Counts.{fits}
+use Rattle.au_algebra.specs.Entries.{Entry, entry}
+use Rattle.au_algebra.specs.Lists.{distinct, same_row, copies}
+use Rattle.au_algebra.specs.Ordinary.{Rows}
+use Rattle.au_print.specs.Texts.{value_text, record_text}
+
+-- a row of values with a count
+abbrev pub CountedRow : Type 0
+CountedRow = Entry Value ℕ
+
+-- the rows with a count that is not 0
+abbrev pub occurring : List CountedRow → List CountedRow
+occurring rows = filter (λ r. not (r.annot == 0)) rows
+
+-- the sum of the counts of the rows with these values
+abbrev pub count_of : List CountedRow → List Value → ℕ
+count_of rows values = sum_by (λ r. r.annot) (filter (λ r. same_row values r.cells) rows)
+
+-- the row before the first that is not below it, by values from the first column on
+abbrev pub insert_values : List Value → Rows → Rows
+insert_values v [] = v ∷ []
+insert_values v (w ∷ rows) = if is_le (slice_cmp order v w) then v ∷ w ∷ rows else w ∷ insert_values v rows
+
+abbrev pub in_order : Rows → Rows
+in_order [] = []
+in_order (v ∷ rows) = insert_values v (in_order rows)
+
+-- each row of values once and in order, with the sum of its counts
+abbrev pub counted : List CountedRow → List CountedRow
+counted rows = map (λ v. entry v (count_of rows v)) (in_order (distinct same_row (map (λ r. r.cells) rows)))
+
+-- the rows of a guess, of which none has the count 0
+abbrev pub guess_rows : List CountedRow → List CountedRow
+guess_rows rows = counted (occurring rows)
+
+-- each row of a world, once and in order, with the number of its copies
+abbrev pub world_rows : Rows → List CountedRow
+world_rows world = map (λ v. entry v (copies v world)) (in_order (distinct same_row world))
+
+-- whether each count of these rows is at most 2^127-1
+abbrev pub counts_fit : List CountedRow → Bool
+counts_fit rows = list_all (λ r. fits r.annot) rows
+
+-- a record of the names, and one of the count and the values for each row
+abbrev pub counted_fields : CountedRow → List (List ℕ)
+counted_fields r = decimal r.annot ∷ map value_text r.cells
+
+abbrev pub counted_text : List (List ℕ) → List CountedRow → List ℕ
+counted_text names rows =
+    record_text (codes "row" ∷ names) ++ flat_map (λ r. record_text (counted_fields r)) rows
+
+abbrev pub guess_text : List (List ℕ) → List CountedRow → List ℕ
+guess_text names rows = counted_text names (guess_rows rows)
+
+abbrev pub world_text : List (List ℕ) → Rows → List ℕ
+world_text names world = counted_text names (world_rows world)
+
+-- the counts of each row of values add up to its copies in the world
+abbrev pub StandsFor : List CountedRow → Rows → Type 0
+StandsFor rows world = (v : List Value) → copies v world ≡ count_of rows v

@@ -1,0 +1,80 @@
+-- The text of an answer as a table: a column for each name, as wide as its widest text, and last one of multiplicities.
+-- Texts are UTF-8, where each byte but those of the form 10xxxxxx begins a character.
+use Rattle.std.specs.Prelude.{ℕ, zero, suc, ◌-◌, Bool, ◌||◌, ◌==◌, nat_lt, nat_le, max, List, [], ◌∷◌, ◌++◌, map, flat_map, fold, replicate, count_by, codes, decimal, if◌then◌else◌}
+use Rattle.au_value.specs.declared.value.Value.{Value}
+use Rattle.au_value.specs.Ranges.{Span, is_certain}
+use Rattle.au_annot.specs.Triples.{Counts}
+use Rattle.au_algebra.specs.Bounded.{Bounded}
+use Rattle.au_print.specs.Texts.{value_text}
+
+-- control characters, those below U+0020 and U+007F, are shown as question marks
+abbrev pub shown_byte : ℕ → ℕ
+shown_byte b = if nat_lt b 0x20 || b == 0x7F then 63 else b
+
+abbrev pub shown : List ℕ → List ℕ
+shown text = map shown_byte text
+
+-- whether a byte begins a character, and how many characters there are
+abbrev pub begins_character : ℕ → Bool
+begins_character b = nat_lt b 0x80 || nat_le 0xC0 b
+
+abbrev pub characters : List ℕ → ℕ
+characters text = count_by begins_character text
+
+-- the value of a certain range, and else the three values
+abbrev pub shown_value : Value → List ℕ
+shown_value v = shown (value_text v)
+
+abbrev pub cell_text : Span → List ℕ
+cell_text r =
+    if is_certain r
+    then shown_value r.sg
+    else codes "[" ++ shown_value r.lo ++ codes "/" ++ shown_value r.sg ++ codes "/" ++ shown_value r.hi ++ codes "]"
+
+abbrev pub triple_text : Counts → List ℕ
+triple_text t = decimal t.least ++ codes "/" ++ decimal t.guess ++ codes "/" ++ decimal t.most
+
+-- each width, or the number of a text's characters where that is greater
+abbrev pub widened : List ℕ → List (List ℕ) → List ℕ
+widened [] texts = []
+widened (w ∷ widths) [] = w ∷ widths
+widened (w ∷ widths) (t ∷ texts) = max w (characters t) ∷ widened widths texts
+
+-- the widths with the one at a place made at least as great as another
+abbrev pub widened_at : List ℕ → ℕ → ℕ → List ℕ
+widened_at [] i n = []
+widened_at (w ∷ widths) zero n = max w n ∷ widths
+widened_at (w ∷ widths) (suc i) n = w ∷ widened_at widths i n
+
+-- the widths of the names' columns, and of the multiplicities' column
+abbrev pub column_widths : List (List ℕ) → Bounded → List ℕ
+column_widths names rows =
+    fold (λ widths r. widened widths (map cell_text r.cells)) (map (λ n. characters (shown n)) names) rows
+
+abbrev pub triple_width : Bounded → ℕ
+triple_width rows = fold (λ w r. max w (characters (triple_text r.annot))) (characters (codes "row")) rows
+
+-- a text with spaces behind it, up to a width
+abbrev pub filled : ℕ → List ℕ → List ℕ
+filled w text = text ++ replicate (w - characters text) 32
+
+-- texts, each filled and before a bar
+abbrev pub barred : List ℕ → List (List ℕ) → List ℕ
+barred (w ∷ widths) (t ∷ texts) = filled w t ++ codes " | " ++ barred widths texts
+barred _ _ = []
+
+-- a line of texts, and the line below the header
+abbrev pub line : List ℕ → ℕ → List (List ℕ) → List ℕ → List ℕ
+line widths last texts text = barred widths texts ++ filled last text ++ codes "\n"
+
+abbrev pub rule : List ℕ → ℕ → List ℕ
+rule widths last = flat_map (λ w. replicate w 45 ++ codes "-+-") widths ++ replicate last 45 ++ codes "\n"
+
+-- the table of an answer with these column names and these rows, in this order
+abbrev pub table_text : List (List ℕ) → Bounded → List ℕ
+table_text names rows =
+    let widths = column_widths names rows in
+    let last = triple_width rows in
+    line widths last (map shown names) (codes "row")
+    ++ rule widths last
+    ++ flat_map (λ r. line widths last (map cell_text r.cells) (triple_text r.annot)) rows

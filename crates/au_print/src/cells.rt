@@ -1,0 +1,108 @@
+//! The texts of a table's cells.
+ghost use Rattle.std.specs.Prelude.{◌≡◌, ◌++◌, OnOk, replicate, decimal, codes, map};
+ghost use Rattle.au_print.specs.Tables.{shown_byte as shown_byte_of, shown, begins_character as begins_character_of, characters as characters_of, shown_value, cell_text, triple_text};
+
+use au_annot::{Count, Triple};
+use au_value::{NoMemory, Range, Value};
+use itoa::Buffer;
+
+// A control character is shown as a question mark.
+fn shown_byte(byte: u8) -> u8
+    ensures { result ≡ shown_byte_of byte }
+{
+    if byte < 0x20 || byte == 0x7F {
+        b'?'
+    } else {
+        byte
+    }
+}
+
+// Each byte of a character but its first has the form 10xxxxxx.
+fn begins_character(byte: u8) -> bool
+    ensures { result ≡ begins_character_of byte }
+{
+    byte < 0x80 || byte >= 0xC0
+}
+
+/// The number of characters.
+pub fn characters(text: &[u8]) -> usize
+    ensures { result ≡ characters_of text.now }
+{
+    let mut count = 0;
+    for byte in text {
+        if begins_character(*byte) {
+            count += 1;
+        }
+    }
+    count
+}
+
+/// Puts a byte so many times behind a text.
+pub fn push_repeated(text: &mut Vec<u8>, byte: u8, count: usize) -> Result<(), NoMemory>
+    ensures { OnOk result (text.new.items ≡ text.old.items ++ replicate count byte) }
+{
+    for _ in 0..count {
+        text.push(byte)?;
+    }
+    Ok(())
+}
+
+/// Puts a text as it is shown behind another.
+pub fn push_shown(text: &mut Vec<u8>, bytes: &[u8]) -> Result<(), NoMemory>
+    ensures { OnOk result (text.new.items ≡ text.old.items ++ shown bytes.now) }
+{
+    for byte in bytes {
+        text.push(shown_byte(*byte))?;
+    }
+    Ok(())
+}
+
+fn push_value(text: &mut Vec<u8>, value: &Value) -> Result<(), NoMemory>
+    ensures { OnOk result (text.new.items ≡ text.old.items ++ shown_value value.now) }
+{
+    match value {
+        Value::Int(n) => {
+            let mut buffer = Buffer::new();
+            push_shown(text, buffer.format(*n).as_bytes())
+        }
+        Value::Text(word) => push_shown(text, word.as_str().as_bytes()),
+        Value::Flag(true) => push_shown(text, b"true"),
+        Value::Flag(false) => push_shown(text, b"false"),
+    }
+}
+
+/// Puts the value of a certain range behind a text, and else its three values.
+pub fn push_cell(text: &mut Vec<u8>, range: &Range) -> Result<(), NoMemory>
+    ensures { OnOk result (text.new.items ≡ text.old.items ++ cell_text range.now) }
+{
+    if range.is_certain() {
+        return push_value(text, range.sg());
+    }
+    text.push(b'[')?;
+    push_value(text, range.lo())?;
+    text.push(b'/')?;
+    push_value(text, range.sg())?;
+    text.push(b'/')?;
+    push_value(text, range.hi())?;
+    text.push(b']')?;
+    Ok(())
+}
+
+fn push_count(text: &mut Vec<u8>, count: Count) -> Result<(), NoMemory>
+    ensures { OnOk result (text.new.items ≡ text.old.items ++ decimal count) }
+{
+    let mut buffer = Buffer::new();
+    text.extend_from_slice(buffer.format(count.get()).as_bytes())?;
+    Ok(())
+}
+
+/// Puts the three counts behind a text.
+pub fn push_triple(text: &mut Vec<u8>, triple: Triple) -> Result<(), NoMemory>
+    ensures { OnOk result (text.new.items ≡ text.old.items ++ triple_text triple) }
+{
+    push_count(text, triple.least())?;
+    text.push(b'/')?;
+    push_count(text, triple.guess())?;
+    text.push(b'/')?;
+    push_count(text, triple.most())
+}
