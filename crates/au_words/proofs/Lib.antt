@@ -1,0 +1,13 @@
+pub mod PlainNumbers
+pub mod AskedWords
+pub mod Found
+pub mod Places
+pub mod QueryRows
+pub mod QueryWalk
+pub mod ReadRows
+pub mod RowsById
+pub mod SameNames
+pub mod TableFaults
+pub mod Takes
+pub mod TableWords
+pub mod WordSteps

@@ -1,0 +1,21 @@
+//! The words of a command line: which command is asked for, its options, and its query and tables.
+//!
+//! The words are read with clap. What clap takes beyond the form that docs/FORMATS.md gives, as an option twice or a
+//! number with a leading zero, is refused by a [`UsageFault`].
+//!
+//! ```text
+//! let line = CommandLine::of(alloc, words)?;
+//! match line.read(alloc)? {
+//!     Asked::Query(request) => answer(request),
+//!     Asked::Demo { start, blocks } => demo(start, blocks),
+//! }
+//! ```
+#![tactic(auto)]
+
+mod fault;
+mod words;
+#[cfg(test)]
+mod words_tests;
+
+pub use fault::UsageFault;
+pub use words::{Asked, Command, CommandLine, Request, TableWord, WordsFault};

@@ -1,0 +1,125 @@
+//! The words of a command line.
+ghost use Rattle.std.specs.Prelude.{◌≡◌, Ok, Err, IfOk, IfErr};
+ghost use Rattle.au_words.specs.Words.{asked_of};
+ghost use Rattle.au_words.specs.CommandLine.{IsUsage, seen};
+
+mod asking;
+mod form;
+mod numbers;
+mod reader;
+mod table_words;
+
+use crate::fault::UsageFault;
+use crate::words::asking::read_words;
+use au_value::{NoMemory, Word};
+use std::alloc::Global;
+use std::marker::Model;
+
+/// A command that answers a query.
+#[derive(Clone, Copy, Debug, PartialEq, Eq)]
+pub enum Command {
+    /// The bounded answer, by the rewritten plan.
+    Answer,
+
+    /// The bounded answer, by the generic evaluator.
+    Direct,
+
+    /// The answer over the selected-guess world.
+    Guess,
+}
+
+/// A table word: a table's name and the path of its file.
+#[derive(Clone, Copy, Debug)]
+pub struct TableWord<'a> {
+    /// The table's name.
+    pub name: &'a str,
+
+    /// The path of the table's file.
+    pub path: &'a str,
+}
+
+/// What a query's command line asks for.
+#[derive(Debug, Drop)]
+pub struct Request<'a> {
+    /// The command.
+    pub command: Command,
+
+    /// Whether the answer is printed as an aligned table.
+    pub table: bool,
+
+    /// Whether the rows of the answer are combined.
+    pub combine: bool,
+
+    /// The query's text.
+    pub query: &'a str,
+
+    /// The tables, in the order of their words.
+    pub tables: Vec<TableWord<'a>>,
+}
+
+/// What a command line asks for.
+#[derive(Debug, Drop)]
+pub enum Asked<'a> {
+    /// The answer of a query.
+    Query(Request<'a>),
+
+    /// A demonstration.
+    Demo {
+        /// Where the draws start.
+        start: u32,
+
+        /// The number of blocks.
+        blocks: u32,
+    },
+}
+
+/// Why a command line is not read.
+#[derive(Clone, Copy, Debug, PartialEq, Eq)]
+pub enum WordsFault {
+    /// The words are refused.
+    Usage(UsageFault),
+
+    /// Memory was refused.
+    NoMemory,
+}
+
+impl From<NoMemory> for WordsFault {
+    fn from(_: NoMemory) -> WordsFault {
+        WordsFault::NoMemory
+    }
+}
+
+/// The words of a command line, without the program's name. Contracts see their texts.
+#[derive(Drop)]
+pub struct CommandLine<'a> {
+    texts: Vec<&'a str>,
+}
+
+impl<'a> Model for CommandLine<'a> {
+    ghost use Rattle.std.specs.Prelude.{ℕ, List, map};
+
+    ghost Value = { List (List ℕ) };
+
+    ghost view = { λ line. map (λ text. text.now) line.texts.items };
+}
+
+impl<'a> CommandLine<'a> {
+    /// The command line of these words.
+    pub fn of(alloc: Global, words: &'a [Word]) -> Result<CommandLine<'a>, NoMemory>
+        ensures { IfOk result (λ line. line ≡ words.entry.now) }
+    {
+        let mut texts = Vec::new(alloc);
+        for word in words {
+            texts.push(word.as_str())?;
+        }
+        Ok(CommandLine { texts })
+    }
+
+    /// Reads the words. How many tables there may be is the caller's to judge.
+    pub fn read<'b>(&'b self, alloc: Global) -> Result<Asked<'b>, WordsFault>
+        ensures asked { IfOk result (λ asked. asked_of self.now ≡ Ok (seen asked)) }
+        ensures refused { IfErr result (λ e. IsUsage e (λ fault. asked_of self.now ≡ Err fault)) }
+    {
+        read_words(alloc, self.texts.as_slice())
+    }
+}
