@@ -1,0 +1,4 @@
+mod GuessTables
+mod ReadCauses
+mod Shown
+mod TableRelations

@@ -1,0 +1,8 @@
+-- The schemas so far, with those of the tables that are left, are those of all tables.
+use Rattle.std.proofs.Common.{◌≡◌, ◌++◌, drop}
+use Rattle.au_typing.specs.Queries.{relations}
+use Rattle.au_engine.specs.Answers.{relations_of}
+use Rattle.au_engine.proofs.tables.schemas.Given as goal
+
+abbrev pub invariant-loop-table : goal.invariant-loop-table
+invariant-loop-table l = relations l.schemas.items ++ relations_of (drop l.table-index l.tables) ≡ relations_of l.tables

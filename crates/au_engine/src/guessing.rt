@@ -1,0 +1,87 @@
+//! The answer of a statement over the guess world of block tables.
+ghost use Rattle.std.specs.Prelude.{◌≡◌, [], ℕ, List, true, false, Some, IfOk, IfErr, OnOk, length, map};
+ghost use Rattle.std.specs.List.{AllByRecursion};
+ghost use Rattle.au_algebra.specs.Ordinary.{answer};
+ghost use Rattle.au_algebra.specs.Trees.{tree};
+ghost use Rattle.au_algebra.specs.Typing.{kinds_of};
+ghost use Rattle.au_blocks.specs.Tables.{column_kinds};
+ghost use Rattle.au_blocks.specs.declared.column.Column.{Column};
+ghost use Rattle.au_parse.specs.Views.{statement_tree};
+ghost use Rattle.au_parse.specs.Whole.{WholeQuery};
+ghost use Rattle.au_print.specs.GuessTexts.{StandsFor};
+ghost use Rattle.au_engine.specs.Answers.{AnswerCause, answer_names, blocks_of, guess_answer as guess_answer_of, guess_answer_fits, guess_tables, statement_defects, tree_guess_fits};
+
+use crate::faults::EngineFault;
+use crate::tables::guessed_tables;
+use crate::typing::resolved;
+use au_algebra::Rel;
+use au_annot::Count;
+use au_blocks::Table;
+use au_expr::EvalFault;
+use au_kfull::ordinary;
+use au_parse::Statement;
+use au_typing::Typed;
+use au_value::{NoMemory, Value, Word};
+use std::alloc::Global;
+
+/// The answer over the guess world: a name for each column, and rows that have one value per column, with counts. Equal
+/// rows stand for one row.
+#[derive(Drop)]
+pub struct GuessAnswer {
+    pub names: Vec<Word>,
+    pub rows: Rel<Value, Count>,
+}
+
+/// The ordinary answer of a statement over the guess world of tables, each under its name.
+///
+/// `Query` names a defect of the statement and its byte, one of ten. `Overflow` comes exactly where a number of the
+/// answer leaves 128 bits. `Limit` never comes.
+pub fn guess_answer(
+    alloc: Global,
+    statement: &Statement,
+    tables: &[(Word, Table)],
+) -> Result<GuessAnswer, EngineFault>
+    requires { WholeQuery (statement_tree statement.now) }
+    ensures typed { OnOk result (statement_defects tables.now (statement_tree statement.now) ≡ []) }
+    ensures names { IfOk result (λ a. a.names.items ≡ answer_names tables.now (statement_tree statement.now)) }
+    ensures rows { IfOk result (λ a. StandsFor a.rows (guess_answer_of tables.now (statement_tree statement.now))) }
+    ensures widths { IfOk result (λ a. AllByRecursion (λ r. length r.cells ≡ length a.names.items) a.rows) }
+    ensures fits { OnOk result (guess_answer_fits tables.now (statement_tree statement.now) ≡ true) }
+    ensures refused { IfErr result (AnswerCause (statement_defects tables.now (statement_tree statement.now)) (guess_answer_fits tables.now (statement_tree statement.now))) }
+{
+    let typed = match resolved(alloc, statement, tables) {
+        Ok(typed) => typed,
+        Err(fault) => return Err(fault),
+    };
+    match guess_rows(alloc, &typed, tables) {
+        Ok(rows) => Ok(GuessAnswer {
+            names: typed.names,
+            rows,
+        }),
+        Err(EvalFault::Overflow) => Err(EngineFault::Overflow),
+        Err(EvalFault::NoMemory) => Err(EngineFault::NoMemory),
+    }
+}
+
+// The rows of the answer of a typed tree.
+fn guess_rows(
+    alloc: Global,
+    typed: &Typed,
+    tables: &[(Word, Table)],
+) -> Result<Rel<Value, Count>, EvalFault>
+    requires { kinds_of (map column_kinds (blocks_of tables.now)) (tree typed.now.query) ≡ Some typed.now.kinds.items }
+    ensures rows { IfOk result (λ r. StandsFor r (answer (tree typed.now.query) (guess_tables tables.now))) }
+    ensures widths { IfOk result (λ r. (names : List (List ℕ)) (columns : List Column) → names ≡ map (λ c. c.name) columns → typed.now.kinds.items ≡ map (λ c. c.kind) columns → AllByRecursion (λ row. length row.cells ≡ length names) r) }
+    ensures fits { OnOk result (tree_guess_fits tables.now (tree typed.now.query) ≡ true) }
+    ensures overflow { result ≡ Err EvalFault.Overflow → tree_guess_fits tables.now (tree typed.now.query) ≡ false }
+{
+    let guesses = match guessed_tables(alloc, tables) {
+        Ok(guesses) => guesses,
+        Err(NoMemory) => return Err(EvalFault::NoMemory),
+    };
+    match ordinary(alloc, &typed.query, guesses.as_slice()) {
+        Ok(rows) => Ok(rows),
+        Err(EvalFault::Overflow) => Err(EvalFault::Overflow),
+        Err(EvalFault::NoMemory) => Err(EvalFault::NoMemory),
+    }
+}

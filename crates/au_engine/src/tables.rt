@@ -1,0 +1,82 @@
+//! What is read of named tables: their schemas, and their rows as relations.
+ghost use Rattle.std.specs.Prelude.{◌≡◌, ◌∷◌, [], IfOk, OnOk, map};
+ghost use Rattle.std.specs.List.{AllByRecursion};
+ghost use Rattle.au_blocks.specs.Tables.{IsBlockTable};
+ghost use Rattle.au_translate.specs.Translate.{bounded_table, guessed_table};
+ghost use Rattle.au_typing.specs.Queries.{relations};
+ghost use Rattle.au_engine.specs.Answers.{blocks_of, relations_of};
+
+use au_algebra::Rel;
+use au_annot::{Count, Triple};
+use au_blocks::{Column, Table};
+use au_translate::{bounded, guessed};
+use au_typing::Schema;
+use au_value::{NoMemory, Range, Value, Word};
+use std::alloc::Global;
+
+// Copies of columns.
+fn copied(alloc: Global, columns: &[Column]) -> Result<Vec<Column>, NoMemory>
+    ensures { IfOk result (λ v. v.items ≡ columns.now) }
+{
+    let mut copies = Vec::new(alloc);
+    for column in columns {
+        copies.push(Column {
+            name: column.name.copy()?,
+            kind: column.kind,
+        })?;
+    }
+    Ok(copies)
+}
+
+// The name and the columns of a table.
+fn schema(alloc: Global, table: &(Word, Table)) -> Result<Schema, NoMemory>
+    ensures { IfOk result (λ s. relations (s ∷ []) ≡ relations_of (table.now ∷ [])) }
+{
+    Ok(Schema {
+        name: table.0.copy()?,
+        columns: copied(alloc, table.1.columns())?,
+    })
+}
+
+/// The names and the columns of the tables.
+pub(crate) fn schemas(alloc: Global, tables: &[(Word, Table)]) -> Result<Vec<Schema>, NoMemory>
+    ensures { IfOk result (λ v. relations v.items ≡ relations_of tables.now) }
+{
+    let mut schemas = Vec::new(alloc);
+    for table in tables {
+        schemas.push(schema(alloc, table)?)?;
+    }
+    Ok(schemas)
+}
+
+/// The tables' bounded relations.
+pub(crate) fn bounded_tables(
+    alloc: Global,
+    tables: &[(Word, Table)],
+) -> Result<Vec<Rel<Range, Triple>>, NoMemory>
+    ensures rows { IfOk result (λ v. v.items ≡ map bounded_table (blocks_of tables.now)) }
+    ensures tables { OnOk result (AllByRecursion IsBlockTable (blocks_of tables.now)) }
+{
+    let mut relations = Vec::new(alloc);
+    for table in tables {
+        let _columns = table.1.columns();
+        relations.push(bounded(alloc, &table.1)?)?;
+    }
+    Ok(relations)
+}
+
+/// The tables' rows in the guess world, each with count 1.
+pub(crate) fn guessed_tables(
+    alloc: Global,
+    tables: &[(Word, Table)],
+) -> Result<Vec<Rel<Value, Count>>, NoMemory>
+    ensures rows { IfOk result (λ v. v.items ≡ map guessed_table (blocks_of tables.now)) }
+    ensures tables { OnOk result (AllByRecursion IsBlockTable (blocks_of tables.now)) }
+{
+    let mut relations = Vec::new(alloc);
+    for table in tables {
+        let _columns = table.1.columns();
+        relations.push(guessed(alloc, &table.1)?)?;
+    }
+    Ok(relations)
+}
