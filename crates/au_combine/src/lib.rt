@@ -1,0 +1,2 @@
+//! Bounded operators as plans.
+#![tactic(auto)]

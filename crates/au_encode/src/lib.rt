@@ -1,0 +1,19 @@
+//! Rows of ranges with a triple as plain rows, and back.
+//!
+//! An encoded row has `lo`, `sg` and `hi` of each column, then least, guess and most as numbers (see docs/FORMATS.md).
+//! [`encode`] gives the plain rows of a relation, and [`decode`] the relation that plain rows encode.
+//!
+//! ```text
+//! let mut rel = Rel::new(alloc);
+//! rel.push(cells, triple)?;
+//! let rows = encode(alloc, &rel)?;
+//! let again = decode(alloc, rows, 2)?;
+//! // it has the rows of `rel`, each with two columns
+//! ```
+#![tactic(auto)]
+
+mod decoding;
+mod encoding;
+
+pub use decoding::decode;
+pub use encoding::encode;

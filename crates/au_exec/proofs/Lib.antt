@@ -1,0 +1,12 @@
+pub mod Lists
+pub mod Handed
+pub mod Parts
+pub mod Progress
+pub mod Columns
+pub mod TermKinds
+pub mod FirstSeen
+pub mod GroupSteps
+pub mod AllPairs
+pub mod KeyParts
+pub mod Members
+pub mod Typed

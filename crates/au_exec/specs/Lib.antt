@@ -1,0 +1,9 @@
+pub mod Fitting
+pub mod Steps
+pub mod Views
+pub mod Ends
+pub mod Outcomes
+pub mod Pairs
+pub mod CanRun
+pub mod Groups
+pub mod Keys

@@ -1,0 +1,11 @@
+pub mod Counting
+pub mod DifferenceGives
+pub mod DifferenceKinds
+pub mod DifferenceRows
+pub mod Flags
+pub mod Floor
+pub mod JoinGroups
+pub mod JoinRows
+pub mod Meeting
+pub mod RowsApart
+pub mod Taken

@@ -1,0 +1,16 @@
+pub mod Coded
+pub mod Columns
+pub mod Counting
+pub mod Gives
+pub mod Inversion
+pub mod OnKinds
+pub mod OnValues
+pub mod Picks
+pub mod Places
+pub mod Structure
+pub mod TermLists
+pub mod Careful
+pub mod OnNumbers
+pub mod Flattening
+pub mod FlattenLaws
+pub mod PlanNumbersOf
