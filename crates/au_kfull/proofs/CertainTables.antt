@@ -10,7 +10,7 @@ use Rattle.au_value.proofs.RangeLaws.{IsRange-certain}
 use Rattle.au_expr.specs.Ordinary.{IsKind}
 use Rattle.au_algebra.specs.Bounded.{Bounded, bounded}
 use Rattle.au_algebra.specs.Distribution.{guess_count}
-use Rattle.au_algebra.specs.Entries.{Entry, entry}
+use Rattle.au_algebra.specs.Entries.{entry}
 use Rattle.au_algebra.specs.Fits.{certain_rows}
 use Rattle.au_algebra.specs.Laws.{IsRelation, Guesses}
 use Rattle.au_algebra.specs.Lists.{same_row}
@@ -21,15 +21,8 @@ use Rattle.au_algebra.proofs.Choices.{cond_zero, sum_if}
 use Rattle.au_algebra.proofs.GuessCounts.{guess-cons}
 use Rattle.au_algebra.proofs.TreeGuesses.{guess_is_exact}
 use Rattle.au_algebra.proofs.TreeRelation.{tree_relation}
-use Rattle.au_keval.specs.Reading as reading
-use Rattle.au_kfull.specs.Embedding.{embedded, embedded_row, count_of, ones, StandsFor}
+use Rattle.au_kfull.specs.Embedding.{CountedRow, IsTable, embedded, embedded_row, count_of, ones, StandsFor}
 use Rattle.au_kfull.specs.Typed.{IsTypedOver, IsTypedOverValues, HasValueKinds}
-
-abbrev Counted : Type 0
-Counted = List (Entry Value ℕ)
-
-abbrev IsTable : List Kind → Counted → Type 0
-IsTable ks rows = reading.IsRelation IsKind (λ n. Unit {0}) ks rows
 
 -- ---- the kinds of the ranges
 
@@ -43,24 +36,24 @@ some_copy : (n : ℕ) → (n == 0) ≡ false → 1 ≤ n
 some_copy zero e = absurd (cc)
 some_copy (suc n) e = omega arith
 
-relation_if : (b : Bool) (ks : List Kind) (r : Entry Value ℕ) (rows : Counted) → (r.annot == 0) ≡ b → AllZip IsKind ks r.cells → IsRelation ks (map embedded_row rows) → IsRelation ks (map embedded_row (cond (not b) (r ∷ rows) rows))
+relation_if : (b : Bool) (ks : List Kind) (r : CountedRow) (rows : List CountedRow) → (r.annot == 0) ≡ b → AllZip IsKind ks r.cells → IsRelation ks (map embedded_row rows) → IsRelation ks (map embedded_row (cond (not b) (r ∷ rows) rows))
 relation_if true ks r rows e z ok = ok
 relation_if false ks r rows e z ok =
     (record { cells = certain_kinds ks r.cells z; triple = record { least_guess = omega arith; guess_most = omega arith }; present = some_copy r.annot e }, ok)
 
 -- a table of values is a relation of its kinds
-pub embedded_relation : (ks : List Kind) (rows : Counted) → IsTable ks rows → IsRelation ks (embedded rows)
+pub embedded_relation : (ks : List Kind) (rows : List CountedRow) → IsTable ks rows → IsRelation ks (embedded rows)
 embedded_relation ks [] ok = tt
 embedded_relation ks (r ∷ rows) ok = relation_if (r.annot == 0) ks r _ refl ok.0.cells (embedded_relation ks rows ok.1)
 
-all_relations : (kinds : List (List Kind)) (ts : List Counted) → AllZip IsTable kinds ts → AllZip IsRelation kinds (map embedded ts)
+all_relations : (kinds : List (List Kind)) (ts : List (List CountedRow)) → AllZip IsTable kinds ts → AllZip IsRelation kinds (map embedded ts)
 all_relations [] [] z = tt
 all_relations [] (t ∷ ts) z = elim z [ ]
 all_relations (k ∷ kinds) [] z = elim z [ ]
 all_relations (k ∷ kinds) (t ∷ ts) z = (embedded_relation k t z.0, all_relations kinds ts z.1)
 
 -- a tree that is typed for tables of values is typed for their relations
-pub typed_embedded : (q : Tree) (ts : List Counted) → IsTypedOverValues q ts → IsTypedOver q (map embedded ts)
+pub typed_embedded : (q : Tree) (ts : List (List CountedRow)) → IsTypedOverValues q ts → IsTypedOver q (map embedded ts)
 typed_embedded q ts o = (o.0, o.1, all_relations o.0 ts o.2)
 
 -- ---- what the relation of a table guesses
@@ -69,10 +62,10 @@ certain_guesses : (vs : List Value) → guesses (map certain vs) ≡ vs
 certain_guesses [] = refl
 certain_guesses (v ∷ vs) = ap (λ ws. v ∷ ws) (certain_guesses vs)
 
-count-cons : (v : List Value) (r : Entry Value ℕ) (rows : Counted) → count_of (r ∷ rows) v ≡ cond (same_row v r.cells) r.annot 0 + count_of rows v
+count-cons : (v : List Value) (r : CountedRow) (rows : List CountedRow) → count_of (r ∷ rows) v ≡ cond (same_row v r.cells) r.annot 0 + count_of rows v
 count-cons v r rows = sum_if (λ s. s.annot) (same_row v r.cells) r _
 
-guesses_if : (b : Bool) (v : List Value) (r : Entry Value ℕ) (rows all : Counted) → (r.annot == 0) ≡ b → guess_count (map embedded_row rows) v ≡ count_of all v → guess_count (map embedded_row (cond (not b) (r ∷ rows) rows)) v ≡ count_of (r ∷ all) v
+guesses_if : (b : Bool) (v : List Value) (r : CountedRow) (rows all : List CountedRow) → (r.annot == 0) ≡ b → guess_count (map embedded_row rows) v ≡ count_of all v → guess_count (map embedded_row (cond (not b) (r ∷ rows) rows)) v ≡ count_of (r ∷ all) v
 guesses_if true v r rows all e h =
     let none : cond (same_row v r.cells) r.annot 0 ≡ 0 = cond_zero (same_row v r.cells) r.annot (eqb-true r.annot 0 e) in
     omega (arith, h, none, count-cons v r all)
@@ -82,19 +75,23 @@ guesses_if false v r rows all e h =
     omega (arith, h, same, guess-cons v (embedded_row r) (map embedded_row rows), count-cons v r all)
 
 -- the relation guesses a row as often as the table counts it
-pub embedded_guesses : (v : List Value) (rows : Counted) → guess_count (embedded rows) v ≡ count_of rows v
+pub embedded_guesses : (v : List Value) (rows : List CountedRow) → guess_count (embedded rows) v ≡ count_of rows v
 embedded_guesses v [] = refl
 embedded_guesses v (r ∷ rows) = guesses_if (r.annot == 0) v r _ rows refl (embedded_guesses v rows)
 
-all_guess : (ts : List Counted) (ws : List Rows) → AllZip StandsFor ts ws → AllZip Guesses (map embedded ts) ws
+-- the relation guesses each list that the table stands for
+pub table_guesses : (t : List CountedRow) (w : Rows) → StandsFor t w → Guesses (embedded t) w
+table_guesses t w z = λ v. embedded_guesses v t ∙ sym (z v)
+
+all_guess : (ts : List (List CountedRow)) (ws : List Rows) → AllZip StandsFor ts ws → AllZip Guesses (map embedded ts) ws
 all_guess [] [] z = tt
 all_guess [] (w ∷ ws) z = elim z [ ]
 all_guess (t ∷ ts) [] z = elim z [ ]
-all_guess (t ∷ ts) (w ∷ ws) z = ((λ v. embedded_guesses v t ∙ sym (z.0 v)), all_guess ts ws z.1)
+all_guess (t ∷ ts) (w ∷ ws) z = (table_guesses t w z.0, all_guess ts ws z.1)
 
 -- ---- what the guesses of a relation stand for
 
-counted_if : (b : Bool) (v : List Value) (r : Entry Value ℕ) (rows : Counted) (rest : ℕ) → (r.annot == 0) ≡ b → count_of rows v ≡ rest → count_of (cond (not b) (r ∷ rows) rows) v ≡ cond (same_row v r.cells) r.annot 0 + rest
+counted_if : (b : Bool) (v : List Value) (r : CountedRow) (rows : List CountedRow) (rest : ℕ) → (r.annot == 0) ≡ b → count_of rows v ≡ rest → count_of (cond (not b) (r ∷ rows) rows) v ≡ cond (same_row v r.cells) r.annot 0 + rest
 counted_if true v r rows rest e h =
     let none : cond (same_row v r.cells) r.annot 0 ≡ 0 = cond_zero (same_row v r.cells) r.annot (eqb-true r.annot 0 e) in omega (arith, h, none)
 counted_if false v r rows rest e h = omega (arith, h, count-cons v r rows)
@@ -106,13 +103,17 @@ guessed_counts v (r ∷ rows) =
     counted_if (r.annot.guess == 0) v (entry (guesses r.cells) r.annot.guess) (guessed_rows rows) (guess_count rows v) refl (guessed_counts v rows)
     ∙ sym (guess-cons v r rows)
 
+-- the guessed rows stand for each list that the relation guesses
+pub stands_guessed : (rows : Bounded) (w : Rows) → Guesses rows w → StandsFor (guessed_rows rows) w
+stands_guessed rows w g = λ v. sym (g v) ∙ sym (guessed_counts v rows)
+
 guess_kinds : (ks : List Kind) (rs : List Span) → AllZip IsRangeOf ks rs → AllZip IsKind ks (guesses rs)
 guess_kinds [] [] z = tt
 guess_kinds [] (r ∷ rs) z = elim z [ ]
 guess_kinds (k ∷ ks) [] z = elim z [ ]
 guess_kinds (k ∷ ks) (r ∷ rs) z = (z.0.kind, guess_kinds ks rs z.1)
 
-table_if : (b : Bool) (ks : List Kind) (r : Entry Value ℕ) (rows : Counted) → AllZip IsKind ks r.cells → IsTable ks rows → IsTable ks (cond b (r ∷ rows) rows)
+table_if : (b : Bool) (ks : List Kind) (r : CountedRow) (rows : List CountedRow) → AllZip IsKind ks r.cells → IsTable ks rows → IsTable ks (cond b (r ∷ rows) rows)
 table_if true ks r rows z ok = (record { cells = z; annot = tt }, ok)
 table_if false ks r rows z ok = ok
 
@@ -122,13 +123,13 @@ guessed_table ks [] ok = tt
 guessed_table ks (r ∷ rows) ok =
     table_if (not (r.annot.guess == 0)) ks (entry (guesses r.cells) r.annot.guess) (guessed_rows rows) (guess_kinds ks r.cells ok.0.cells) (guessed_table ks rows ok.1)
 
-module _ (q : Tree) (ts : List Counted) (rel : Counted) (same : rel ≡ guessed_rows (bounded q (map embedded ts))) where
+module _ (q : Tree) (ts : List (List CountedRow)) (rel : List CountedRow) (same : rel ≡ guessed_rows (bounded q (map embedded ts))) where
   -- the guessed rows stand for the answer
   pub stands_for : IsTypedOverValues q ts → (ws : List Rows) → AllZip StandsFor ts ws → StandsFor rel (answer q ws)
   stands_for o ws z =
       let typed = typed_embedded q ts o in
       let exact = guess_is_exact q typed.0 (map embedded ts) ws typed.1 typed.2 (all_guess ts ws z) in
-      λ v. sym (exact v) ∙ sym (guessed_counts v (bounded q (map embedded ts))) ∙ ap (λ rows. count_of rows v) (sym same)
+      λ v. stands_guessed (bounded q (map embedded ts)) (answer q ws) exact v ∙ ap (λ rows. count_of rows v) (sym same)
 
   -- and have the tree's kinds
   pub has_value_kinds : HasValueKinds q ts rel
@@ -146,5 +147,5 @@ all_ones [] = refl
 all_ones (w ∷ ws) = λ i. one_each w i ∷ all_ones ws i
 
 -- tables that have each row of some lists once are their certain rows
-pub single_rows : (ts : List Counted) (ws : List Rows) → ts ≡ map ones ws → map embedded ts ≡ map certain_rows ws
+pub single_rows : (ts : List (List CountedRow)) (ws : List Rows) → ts ≡ map ones ws → map embedded ts ≡ map certain_rows ws
 single_rows ts ws e = ap (map embedded) e ∙ all_ones ws

@@ -19,3 +19,5 @@ pub mod TreeNumbers
 pub mod PositiveRows
 pub mod TreeRows
 pub mod CertainTables
+pub mod NonPositiveRanges
+pub mod NonPositiveValues

@@ -4,6 +4,7 @@ pub mod Gives
 pub mod Groups
 pub mod Keys
 pub mod Meeting
+pub mod NonPositive
 pub mod Numbers
 pub mod Outputs
 pub mod TreeFits

@@ -1,20 +1,17 @@
 -- Trees that are typed for bounded relations,
 -- and relations that have the columns of an operator.
-use Rattle.std.specs.Prelude.{◌≡◌, ℕ, List, Some}
+use Rattle.std.specs.Prelude.{◌≡◌, List, Some}
 use Rattle.std.specs.List.{AllZip}
 use Rattle.au_value.specs.declared.kinds.Kind.{Kind}
 use Rattle.au_value.specs.declared.kinds.Kind.TheVariants.{Flag}
-use Rattle.au_value.specs.declared.value.Value.{Value}
-use Rattle.au_expr.specs.Ordinary.{IsKind}
 use Rattle.au_expr.specs.Terms.{Term}
 use Rattle.au_expr.specs.Kinds.{kind_in}
 use Rattle.au_algebra.specs.declared.query.Agg.{Agg}
 use Rattle.au_algebra.specs.Bounded.{Bounded}
-use Rattle.au_algebra.specs.Entries.{Entry}
 use Rattle.au_algebra.specs.Laws.{IsRelation}
 use Rattle.au_algebra.specs.Trees.{Tree}
 use Rattle.au_algebra.specs.Typing.{items_kinds, kinds_of, IsTyped}
-use Rattle.au_keval.specs.Reading as reading
+use Rattle.au_kfull.specs.Embedding.{CountedRow, IsTable}
 use Rattle.au_kfull.specs.Outputs.{CanGroup, CanTotal}
 
 -- the tree is typed for the relations
@@ -27,15 +24,15 @@ HasTreeKinds q ts rows =
     (kinds : List (List Kind)) (ks : List Kind) → AllZip IsRelation kinds ts → kinds_of kinds q ≡ Some ks → IsRelation ks rows
 
 -- the tree is typed for tables of values with counts
-abbrev pub IsTypedOverValues : Tree → List (List (Entry Value ℕ)) → Type 0
-IsTypedOverValues q ts = (kinds : List (List Kind)) × IsTyped kinds q × AllZip (reading.IsRelation IsKind (λ n. Unit {0})) kinds ts
+abbrev pub IsTypedOverValues : Tree → List (List CountedRow) → Type 0
+IsTypedOverValues q ts = (kinds : List (List Kind)) × IsTyped kinds q × AllZip IsTable kinds ts
 
 -- rows of values of the kinds that the tree is typed with
-abbrev pub HasValueKinds : Tree → List (List (Entry Value ℕ)) → List (Entry Value ℕ) → Type 0
+abbrev pub HasValueKinds : Tree → List (List CountedRow) → List CountedRow → Type 0
 HasValueKinds q ts rows =
     (kinds : List (List Kind)) (ks : List Kind) →
-    AllZip (reading.IsRelation IsKind (λ n. Unit {0})) kinds ts → kinds_of kinds q ≡ Some ks →
-    reading.IsRelation IsKind (λ n. Unit {0}) ks rows
+    AllZip IsTable kinds ts → kinds_of kinds q ≡ Some ks →
+    IsTable ks rows
 
 -- the expression is a condition on the rows
 abbrev pub CanSelect : Term → Bounded → Type 0

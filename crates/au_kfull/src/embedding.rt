@@ -40,8 +40,11 @@ fn push_embedded(
     rel.push(ranges(alloc, values)?, triple)
 }
 
-// The rows of a table as a bounded relation.
-fn embed(alloc: Global, rows: &[Row<Value, Count>]) -> Result<Rel<Range, Triple>, NoMemory>
+/// The rows of a table as a bounded relation.
+pub(crate) fn embed(
+    alloc: Global,
+    rows: &[Row<Value, Count>],
+) -> Result<Rel<Range, Triple>, NoMemory>
     ensures { IfOk result (λ rel. rel ≡ embedded (map (λ r. entry r.0.items r.1) rows.now)) }
 {
     let mut rel = Rel::new(alloc);

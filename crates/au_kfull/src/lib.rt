@@ -3,8 +3,9 @@
 //! [`direct`] gives the bounded relation of a tree over rows of ranges with triples (Feng, Huber, Glavic, Kennedy, SIGMOD
 //! 2021; the formulas of grouping are in docs/SEMANTICS.md). [`ordinary`] gives the answer over values with counts: the
 //! guesses of the bounded relation, each value taken as a range of its own. [`difference`], [`group`], [`distinct`],
-//! [`total`] and [`combine`] are single operators. Nothing is indexed: the rows that an output needs are found among all
-//! rows, and a row that is only read is lent.
+//! [`total`] and [`combine`] are single operators. [`Full`] has the three that are not positive over any domain and
+//! annotation: ranges with triples, and values with counts. Nothing is indexed: the rows that an output needs are found
+//! among all rows, and a row that is only read is lent.
 //!
 //! ```text
 //! let kept = difference(alloc, &orders, &returned)?;
@@ -21,6 +22,7 @@ mod differences;
 mod embedding;
 mod evaluation;
 mod extremes;
+mod full;
 mod grouping;
 mod groups;
 mod hull;
@@ -33,9 +35,11 @@ mod sums;
 mod tests;
 mod totals;
 mod tuple;
+mod values;
 
 pub use combination::combine;
 pub use differences::difference;
 pub use evaluation::{direct, ordinary};
+pub use full::Full;
 pub use groups::{distinct, group};
 pub use totals::total;

@@ -7,17 +7,23 @@ ghost use Rattle.au_value.specs.Ranges.{IsRangeOf};
 ghost use Rattle.au_value.specs.declared.kinds.Kind.{Kind};
 ghost use Rattle.au_algebra.specs.Laws.{IsRelation};
 ghost use Rattle.au_algebra.specs.Trees.{tree, Table as TheTable, Difference as TheDifference, Distinct as TheDistinct};
+ghost use Rattle.au_algebra.specs.declared.query.Agg.TheVariants as agg;
+ghost use Rattle.au_algebra.specs.Ordinary as answers;
+ghost use Rattle.au_algebra.specs.Ordinary.{Rows};
+ghost use Rattle.au_expr.specs.Holding.{World};
 ghost use Rattle.au_expr.specs.Ordinary.{IsKind};
 ghost use Rattle.au_keval.specs.Reading as reading;
+ghost use Rattle.au_kfull.specs.Embedding.{IsTable};
 
 use crate::combination::combine;
 use crate::differences::difference;
 use crate::evaluation::{direct, ordinary};
+use crate::full::Full;
 use crate::groups::{distinct, group};
 use crate::totals::total;
 use au_algebra::{Agg, Query, Rel};
 use au_annot::{Count, Triple};
-use au_expr::EvalFault;
+use au_expr::{Domain, EvalFault, PlainDomain, RangeDomain};
 use au_value::{NoMemory, Range, Value};
 use std::alloc::{AllocError, Global};
 use std::process::Abort;
@@ -379,5 +385,67 @@ fn sums_past_the_range_overflow(rt: HostRuntime) -> Result<(), Fail> {
         wanted.as_slice(),
         "a least value"
     );
+    Ok(())
+}
+
+// The sum of the sums of the rest by the first column, each operator through the bound.
+fn sum_of_sums<D: Domain, K: Full<D>>(
+    alloc: Global,
+    left: &Rel<D::Cell, K>,
+    right: &Rel<D::Cell, K>,
+) -> Result<Rel<D::Cell, K>, EvalFault>
+    requires left { K.is_relation (Kind.Int ∷ Kind.Int ∷ []) left.now }
+    requires right { K.is_relation (Kind.Int ∷ Kind.Int ∷ []) right.now }
+    ensures { IfOk result (λ r. (w : World) (xs ys : Rows) → K.stands_for w left.now xs → K.stands_for w right.now ys → K.stands_for w r (answers.total (agg.Sum 1 ∷ []) (answers.group 1 (agg.Sum 1 ∷ []) (answers.difference xs ys)))) }
+{
+    let rest = K::difference(alloc, left, right)?;
+    let sums = K::group(alloc, 1, &[Agg::Sum(1)], &rest)?;
+    K::total(alloc, &[Agg::Sum(1)], &sums)
+}
+
+// A table of two numbers.
+fn pair_of(
+    rt: &impl Abort,
+    alloc: Global,
+    first: i128,
+    second: i128,
+    copies: u128,
+) -> Result<Rel<Value, Count>, NoMemory>
+    ensures { IfOk result (λ r. IsTable (Kind.Int ∷ Kind.Int ∷ []) r) }
+{
+    let mut cells = Vec::new(alloc);
+    cells.push(Value::Int(first))?;
+    cells.push(Value::Int(second))?;
+    let mut rel = Rel::new(alloc);
+    rel.push(cells, Count::of(copies).expect(rt, "a count"))?;
+    Ok(rel)
+}
+
+#[test]
+fn operators_through_the_bound(rt: HostRuntime) -> Result<(), Fail> {
+    let alloc = rt.alloc();
+    let left = relation(
+        &rt,
+        alloc,
+        &[
+            (EITHER, (10, 10, 12), (1, 1, 1)),
+            (BERGEN, (5, 5, 5), (2, 2, 2)),
+        ],
+    )?;
+    let right = relation(&rt, alloc, &[(BERGEN, (5, 5, 5), (1, 1, 1))])?;
+    let sum = sum_of_sums::<RangeDomain, Triple>(alloc, &left, &right)?;
+    let wanted = [((5, 15, 34), ZERO, (1, 1, 1))];
+    assert_eq!(rt;
+        numbers(alloc, &sum)?.as_slice(),
+        wanted.as_slice(),
+        "ranges"
+    );
+    let left = pair_of(&rt, alloc, 2, 7, 3)?;
+    let right = pair_of(&rt, alloc, 2, 7, 1)?;
+    let sum = sum_of_sums::<PlainDomain, Count>(alloc, &left, &right)?;
+    let rows = sum.rows();
+    assert_eq!(rt; rows.len(), 1, "one row");
+    assert_eq!(rt; rows[0].0.first().map_or(0, number), 14, "7 twice");
+    assert_eq!(rt; rows[0].1.get(), 1, "one copy");
     Ok(())
 }
