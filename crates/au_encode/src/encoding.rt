@@ -3,7 +3,8 @@ ghost use Rattle.std.specs.Prelude.{◌≡◌, ◌++◌, ◌∷◌, [], IfOk, On
 ghost use Rattle.au_value.specs.declared.kinds.Kind.{Kind};
 ghost use Rattle.au_algebra.specs.Entries.{entry};
 ghost use Rattle.au_algebra.specs.Laws.{IsRelation};
-ghost use Rattle.au_encode.specs.Encode.{AreEncoded, HaveColumns, decode as decoded, encode as encoded, encode_counts, encode_row as encoded_row};
+ghost use Rattle.au_plain.specs.PlanKinds.{HaveKinds};
+ghost use Rattle.au_encode.specs.Encode.{AreEncoded, HaveColumns, decode as decoded, encode as encoded, encode_counts, encode_row as encoded_row, encoded_kinds};
 
 use au_algebra::Rel;
 use au_annot::{Count, Triple};
@@ -17,6 +18,7 @@ use std::alloc::Global;
 pub fn encode(alloc: Global, rel: &Rel<Range, Triple>) -> Result<Vec<PRow>, NoMemory>
     ensures rows { IfOk result (λ rows. map (λ row. row.items) rows.items ≡ encoded rel.now) }
     ensures encodings { IfOk result (λ rows. (ks : List Kind) (c : ℕ) → IsRelation ks rel.now → HaveColumns c rel.now → AreEncoded c (map (λ row. row.items) rows.items)) }
+    ensures kinds { IfOk result (λ rows. (ks : List Kind) → IsRelation ks rel.now → HaveKinds (encoded_kinds ks) (map (λ row. row.items) rows.items)) }
     ensures back { IfOk result (λ rows. (c : ℕ) → HaveColumns c rel.now → decoded c (map (λ row. row.items) rows.items) ≡ rel.now) }
 {
     let mut rows = Vec::new(alloc);

@@ -1,0 +1,13 @@
+pub mod Allowed
+pub mod CoreKinds
+pub mod ItemSteps
+pub mod Laws
+pub mod OneTable
+pub mod Present
+pub mod ProductNumbers
+pub mod ProductRows
+pub mod ProjectNumbers
+pub mod ProjectRows
+pub mod SelectNumbers
+pub mod SelectRows
+pub mod UnionRows

@@ -1,0 +1,82 @@
+//! Select as a plan.
+ghost use Rattle.std.specs.Prelude.{◌≡◌, ◌≤◌, ◌+◌, ◌*◌, ◌++◌, ◌∷◌, [], IfOk};
+ghost use Rattle.au_expr.specs.Terms.{term};
+ghost use Rattle.au_plain.specs.PTerms.{pterm};
+ghost use Rattle.au_plain.specs.Plans.{plan_tree};
+ghost use Rattle.au_plain.specs.PlanNumbers.{scans};
+ghost use Rattle.au_rwexpr.specs.Cells.{cell_places};
+ghost use Rattle.au_rwexpr.specs.Counts.{zero_term};
+ghost use Rattle.au_rwexpr.specs.Flatten.{extend_all as extended};
+ghost use Rattle.au_rwcore.specs.Core.{select as selected, weighed};
+ghost use Rattle.au_rwcore.specs.Gives.{Selects};
+
+use crate::places::{behind, push_cells};
+use au_expr::Expr;
+use au_plain::{Layout, PExpr, Plan};
+use au_rwexpr::{RangeColumns, case, extend, extend_all, filter, keep, push_columns, width_of};
+use au_value::{NoMemory, Value};
+use std::alloc::Global;
+
+/// The rows of a plan for which the condition is possible, with the triple multiplied by the condition's.
+///
+/// The layout is that of the plan's rows, and of the result's. The condition is a flag over their columns. `NoMemory`
+/// comes also where a row cannot have so many columns.
+#[tactic(auto, using(crate::proofs::Laws::select_scans))]
+pub fn select(alloc: Global, of: Plan, condition: &Expr, layout: &Layout) -> Result<Plan, NoMemory>
+    ensures plan { IfOk result (λ p. plan_tree p ≡ selected layout.now.columns (term condition.now) (plan_tree of)) }
+    ensures gives { IfOk result (λ p. Selects layout.now.columns (term condition.now) (plan_tree of) (plan_tree p)) }
+    ensures scans { IfOk result (λ p. scans (plan_tree p) ≤ scans (plan_tree of)) }
+{
+    let plan = select_plan(alloc, of, condition, layout)?;
+    Ok(plan)
+}
+
+fn select_plan(alloc: Global, of: Plan, condition: &Expr, layout: &Layout) -> Result<Plan, NoMemory>
+    ensures { IfOk result (λ p. plan_tree p ≡ selected layout.now.columns (term condition.now) (plan_tree of)) }
+{
+    let width = width_of(layout)?;
+    let mut columns = Vec::new(alloc);
+    let test = push_columns(alloc, condition, width, &mut columns)?;
+    let triple = RangeColumns::at(width - 3)?;
+    let possible = filter(alloc, test.hi(), extend_all(alloc, columns, of)?)?;
+    let places = select_places(alloc, layout.columns, behind(test)?, triple)?;
+    keep(alloc, places, weigh(alloc, test, triple, possible)?)
+}
+
+// The plan with least and guess behind its columns, each where the test holds and else 0.
+fn weigh(
+    alloc: Global,
+    test: RangeColumns,
+    triple: RangeColumns,
+    of: Plan,
+) -> Result<Plan, NoMemory>
+    ensures { IfOk result (λ p. plan_tree p ≡ extended (weighed test.first triple.first) (plan_tree of)) }
+{
+    let least = case(alloc, test.lo(), triple.lo(), zero())?;
+    let guess = case(alloc, test.sg(), triple.sg(), zero())?;
+    extend(alloc, guess, extend(alloc, least, of)?)
+}
+
+fn zero() -> PExpr
+    ensures { pterm result ≡ zero_term }
+{
+    PExpr::Literal(Value::Int(0))
+}
+
+// The places of the ranges, of the new least and guess, and of most.
+fn select_places(
+    alloc: Global,
+    columns: usize,
+    new: RangeColumns,
+    triple: RangeColumns,
+) -> Result<Vec<usize>, NoMemory>
+    requires { triple.first ≡ 3 * columns }
+    ensures { IfOk result (λ places. places.items ≡ cell_places 0 columns ++ (new.first ∷ (new.first + 1) ∷ (triple.first + 2) ∷ [])) }
+{
+    let mut places = Vec::new(alloc);
+    push_cells(&mut places, 0, columns)?;
+    places.push(new.first)?;
+    places.push(new.first + 1)?;
+    places.push(triple.first + 2)?;
+    Ok(places)
+}
