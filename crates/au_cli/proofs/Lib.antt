@@ -1,6 +1,14 @@
-pub mod Ending
-pub mod ReadCauses
-pub mod TableWords
-pub mod TextCauses
-pub mod Widths
-pub mod Worlds
+mod DemoLaws
+mod DemoNumbers
+mod DemoQuery
+mod DemoSums
+mod Endings
+mod FileTables
+mod GeneratedBlocks
+mod GeneratedDigits
+mod GeneratedRecords
+mod GeneratedTable
+mod GuessFits
+mod RequestCauses
+mod TablesRead
+mod TextRefusals

@@ -1,77 +1,160 @@
--- Why an outcome comes: the cause that each has.
-use Rattle.std.specs.Prelude.{ℕ, ◌≡◌, ◌≢◌, ◌<◌, ◌≤◌, ◌⊎◌, Bool, true, false, List, [], length, Option, Some, None, IfSome, IsSomeAnd, Ok, Err, ⊤}
+-- Why an outcome comes: the cause that each has. `told` are the files that a shelf tells, and the counts are those of
+-- its refusals and of its absent files before and after.
+use Rattle.std.specs.Prelude.{ℕ, ◌≡◌, ◌≢◌, ◌<◌, ◌⊎◌, Bool, true, false, List, [], length, Option, Some, None, IfSome, Result, Ok, Err, ⊤}
 use Rattle.std.specs.Io.KnownBytes.{Appends}
 use Rattle.au_blocks.specs.declared.faults.TableFault.TheVariants as table
 use Rattle.au_blocks.specs.Read.{table_of}
-use Rattle.au_blocks.specs.Tables.{BlockTable}
 use Rattle.au_io.specs.Counts.{Rose}
-use Rattle.au_io.specs.Files.{AppendsFront, File, Lacks, bytes_at}
+use Rattle.au_io.specs.Files.{AppendsFront, File, bytes_at}
+use Rattle.au_parse.specs.Tree.{QueryTree}
+use Rattle.au_engine.specs.declared.faults.LimitFault.{LimitFault}
+use Rattle.au_engine.specs.declared.faults.LimitFault.TheVariants as limit
+use Rattle.au_engine.specs.declared.faults.QueryFault.{QueryFault}
+use Rattle.au_engine.specs.declared.faults.QueryFault.TheVariants as query
+use Rattle.au_engine.specs.Reading.{statement_of}
+use Rattle.au_engine.specs.Answers.{Named, answer_fits, answer_rows}
+use Rattle.au_print.specs.DemoTexts.{demo_text}
+use Rattle.au_words.specs.Words.{Asked, Request}
+use Rattle.au_words.specs.Words as words
+use Rattle.au_words.specs.declared.fault.UsageFault.{UsageFault}
 use Rattle.au_cli.specs.declared.outcome.Outcome.{Outcome}
 use Rattle.au_cli.specs.declared.outcome.Outcome.TheVariants as outcome
-use Rattle.au_cli.specs.declared.outcome.LimitFault.{LimitFault}
-use Rattle.au_cli.specs.declared.outcome.LimitFault.TheVariants as limit
-use Rattle.au_cli.specs.declared.outcome.QueryFault.TheVariants as query
-use Rattle.au_lex.specs.declared.Token.{Token}
-use Rattle.au_parse.specs.Parsing.{IsPlace}
-use Rattle.au_cli.specs.Words.{Text, first_usage_fault, query_word}
-use Rattle.au_cli.specs.Queries.{Refusal, IsRefusalOf, refused_text, refused_tokens}
-use Rattle.au_cli.specs.Queries.Refusal.{exactly, no_statement}
-use Rattle.au_cli.specs.Run.{Reads, HasDefect, ReadsTable, AnswerHolds, Prints, answer_fits, answer_text, greatest_size, told_bytes, is_built, file_path}
+use Rattle.au_cli.specs.Demo.{Demonstrates}
+use Rattle.au_cli.specs.Files.{Text, file_table, tables_of}
+use Rattle.au_cli.specs.Requests.{IsAnswer, IsRefusal, Prints, PrintsFront, Refusal, given_of, numbers_fit, refused_request}
 
--- why the text of a query is not read: memory, or its first refusal
-abbrev pub TextCause : Text → Outcome → Type 0
-TextCause text o = (o ≡ outcome.NoMemory) ⊎ ((r : Refusal) × (refused_text text ≡ Some r) × IsRefusalOf text r o)
+-- ---- files
 
--- why tokens are not read
-abbrev pub IsTokensRefusal : ℕ → List Token → Refusal → Outcome → Type 0
-IsTokensRefusal n tokens (exactly wanted) o = o ≡ wanted
-IsTokensRefusal n tokens no_statement o = (at : ℕ) × (o ≡ outcome.Query (query.Syntax at)) × IsPlace n tokens at
+-- why the bytes of a file are not a table
+abbrev pub BytesCause : ℕ → List ℕ → Outcome → Type 0
+BytesCause file bytes outcome.NoMemory = ⊤
+BytesCause file bytes (outcome.Table i fault) = (i ≡ file) × (fault ≢ table.NoMemory) × (table_of bytes ≡ Err fault)
+BytesCause file bytes _ = ⊥
 
-abbrev pub TokensCause : ℕ → List Token → Outcome → Type 0
-TokensCause n tokens o = (o ≡ outcome.NoMemory) ⊎ ((r : Refusal) × (refused_tokens n (Ok tokens) ≡ Some r) × IsTokensRefusal n tokens r o)
+-- a told file has this refusal, behind so many bytes of the files before it
+abbrev pub FileRefused : Option (List File) → Text → ℕ → ℕ → Outcome → Type 0
+FileRefused told path file before o = IfSome told (λ files. file_table file before (bytes_at files path) ≡ Err o)
 
--- why bytes are not answered
-abbrev pub BytesCause : List ℕ → Outcome → Type 0
-BytesCause bytes outcome.NoMemory = ⊤
-BytesCause bytes outcome.Overflow = (t : BlockTable) × (table_of bytes ≡ Ok t) × (answer_fits t ≡ false)
-BytesCause bytes (outcome.Table i f) = (i ≡ 0) × (f ≢ table.NoMemory) × (table_of bytes ≡ Err f)
-BytesCause bytes _ = ⊥
+-- why the file of this number at a path gives no table
+abbrev pub FileCause : Option (List File) → Text → ℕ → ℕ → ℕ → ℕ → ℕ → ℕ → Outcome → Type 0
+FileCause told path file before faults faults_now absences absences_now outcome.NoMemory = ⊤
+FileCause told path file before faults faults_now absences absences_now (outcome.ReadFault i) = (i ≡ file) × Rose faults faults_now
+FileCause told path file before faults faults_now absences absences_now (outcome.NoFile i) =
+    (i ≡ file) × Rose absences absences_now × FileRefused told path file before (outcome.NoFile i)
+FileCause told path file before faults faults_now absences absences_now (outcome.Table i fault) =
+    (fault ≢ table.NoMemory) × FileRefused told path file before (outcome.Table i fault)
+FileCause told path file before faults faults_now absences absences_now (outcome.Limit (limit.FileSize i)) =
+    FileRefused told path file before (outcome.Limit (limit.FileSize i))
+FileCause told path file before faults faults_now absences absences_now (outcome.Limit (limit.AllFiles i)) =
+    FileRefused told path file before (outcome.Limit (limit.AllFiles i))
+FileCause told path file before faults faults_now absences absences_now _ = ⊥
 
--- why the file at a path is not answered, over the counts of faults and of absences before and after
-abbrev pub FileCause : Text → Option (List File) → ℕ → ℕ → ℕ → ℕ → Outcome → Type 0
-FileCause path told faults faults_now absences absences_now (outcome.NoFile i) = (i ≡ 0) × Rose absences absences_now × Lacks told path
-FileCause path told faults faults_now absences absences_now (outcome.ReadFault i) = (i ≡ 0) × Rose faults faults_now
-FileCause path told faults faults_now absences absences_now (outcome.Limit (limit.FileSize i)) = (i ≡ 0) × IfSome told (λ files. IsSomeAnd (bytes_at files path) (λ bytes. greatest_size < length bytes))
-FileCause path told faults faults_now absences absences_now (outcome.Table i f) = (i ≡ 0) × (f ≢ table.NoMemory) × IfSome told (λ files. HasDefect (bytes_at files path) f)
-FileCause path told faults faults_now absences absences_now outcome.Overflow = IfSome told (λ files. ReadsTable (bytes_at files path) (λ t. answer_fits t ≡ false))
-FileCause path told faults faults_now absences absences_now outcome.NoMemory = ⊤
-FileCause path told faults faults_now absences absences_now _ = ⊥
+-- this is the first refusal of the told files
+abbrev pub FilesRefused : Option (List File) → List (Text × Text) → Outcome → Type 0
+FilesRefused told words o = IfSome told (λ files. tables_of files words ≡ Err o)
 
--- whether a limit is one of the query's text
-abbrev pub is_query_limit : LimitFault → Bool
-is_query_limit (limit.QueryLength n) = true
-is_query_limit limit.Tokens = true
-is_query_limit (limit.Depth at) = true
-is_query_limit (limit.FromItems at) = true
-is_query_limit (limit.SelectItems at) = true
-is_query_limit _ = false
+-- why the files of these words, each a name and a path, give no tables
+abbrev pub FilesCause : Option (List File) → List (Text × Text) → ℕ → ℕ → ℕ → ℕ → Outcome → Type 0
+FilesCause told words faults faults_now absences absences_now outcome.NoMemory = ⊤
+FilesCause told words faults faults_now absences absences_now (outcome.ReadFault i) = (i < length words) × Rose faults faults_now
+FilesCause told words faults faults_now absences absences_now (outcome.NoFile i) =
+    Rose absences absences_now × FilesRefused told words (outcome.NoFile i)
+FilesCause told words faults faults_now absences absences_now (outcome.Table i fault) =
+    (fault ≢ table.NoMemory) × FilesRefused told words (outcome.Table i fault)
+FilesCause told words faults faults_now absences absences_now (outcome.Limit (limit.FileSize i)) =
+    FilesRefused told words (outcome.Limit (limit.FileSize i))
+FilesCause told words faults faults_now absences absences_now (outcome.Limit (limit.AllFiles i)) =
+    FilesRefused told words (outcome.Limit (limit.AllFiles i))
+FilesCause told words faults faults_now absences absences_now _ = ⊥
 
--- the query's text has this outcome's refusal as its first
-abbrev pub QueryCause : List Text → Outcome → Type 0
-QueryCause words o = (r : Refusal) × (refused_text (query_word words) ≡ Some r) × IsRefusalOf (query_word words) r o
+-- ---- a request
 
--- why the words are not answered
-abbrev pub HasCause : List Text → Option (List File) → ℕ → ℕ → ℕ → ℕ → Outcome → Type 0
-HasCause words told faults faults_now absences absences_now (outcome.Usage f) = first_usage_fault words ≡ Some f
-HasCause words told faults faults_now absences absences_now outcome.NotYet = (first_usage_fault words ≡ None) × (refused_text (query_word words) ≡ None) × (is_built words ≡ false)
-HasCause words told faults faults_now absences absences_now (outcome.Query f) = (first_usage_fault words ≡ None) × QueryCause words (outcome.Query f)
-HasCause words told faults faults_now absences absences_now (outcome.Limit (limit.QueryLength n)) = (first_usage_fault words ≡ None) × QueryCause words (outcome.Limit (limit.QueryLength n))
-HasCause words told faults faults_now absences absences_now (outcome.Limit limit.Tokens) = (first_usage_fault words ≡ None) × QueryCause words (outcome.Limit limit.Tokens)
-HasCause words told faults faults_now absences absences_now (outcome.Limit (limit.Depth at)) = (first_usage_fault words ≡ None) × QueryCause words (outcome.Limit (limit.Depth at))
-HasCause words told faults faults_now absences absences_now (outcome.Limit (limit.FromItems at)) = (first_usage_fault words ≡ None) × QueryCause words (outcome.Limit (limit.FromItems at))
-HasCause words told faults faults_now absences absences_now (outcome.Limit (limit.SelectItems at)) = (first_usage_fault words ≡ None) × QueryCause words (outcome.Limit (limit.SelectItems at))
-HasCause words told faults faults_now absences absences_now outcome.NoMemory = ⊤
-HasCause words told faults faults_now absences absences_now o = Reads words × FileCause (file_path words) told faults faults_now absences absences_now o
+-- nothing is refused before the files, and the query is a statement
+pub record IsRead (r : Request) : Type 0 where
+  pub allowed : refused_request r ≡ None
+  pub statement : QueryTree
+  pub is : statement_of r.query ≡ Some statement
+
+-- told files give what is asked for, and this holds of it
+abbrev pub Gives : Option (List File) → Request → (List Named → QueryTree → Type 0) → Type 0
+Gives told r P = IfSome told (λ files. (ts : List Named) × (s : QueryTree) × (given_of r files ≡ Ok (ts, s)) × P ts s)
+
+-- an outcome is that of the first refusal over the told files
+abbrev pub IsFirst : Option (List File) → Request → Outcome → Type 0
+IsFirst told r o = IsRead r × IfSome told (λ files. (refusal : Refusal) × (given_of r files ≡ Err refusal) × IsRefusal refusal o)
+
+-- an outcome is that of the first refusal before any file
+abbrev pub IsRefusedBefore : Request → Outcome → Type 0
+IsRefusedBefore r o = (refusal : Refusal) × (refused_request r ≡ Some refusal) × IsRefusal refusal o
+
+-- why the statement of a request is not read
+abbrev pub StatementCause : Request → Outcome → Type 0
+StatementCause r o = (o ≡ outcome.NoMemory) ⊎ IsRefusedBefore r o
+
+-- whether a fault is of the query's text, not of its statement over the tables
+abbrev pub is_text_fault : QueryFault → Bool
+is_text_fault (query.BadChar at) = true
+is_text_fault (query.OpenText at) = true
+is_text_fault (query.BadNumber at) = true
+is_text_fault (query.Syntax at) = true
+is_text_fault _ = false
+
+-- whether a limit is of the words and the query's text, not of the files
+abbrev pub is_text_limit : LimitFault → Bool
+is_text_limit (limit.FileSize file) = false
+is_text_limit (limit.AllFiles file) = false
+is_text_limit _ = true
+
+abbrev pub StageCause : Bool → Option (List File) → Request → Outcome → Type 0
+StageCause true told r o = IsRefusedBefore r o
+StageCause false told r o = IsFirst told r o
+
+-- why a request is not answered
+abbrev pub RequestCause : Request → Option (List File) → ℕ → ℕ → ℕ → ℕ → Outcome → Type 0
+RequestCause r told faults faults_now absences absences_now outcome.NoMemory = ⊤
+RequestCause r told faults faults_now absences absences_now (outcome.Query fault) = StageCause (is_text_fault fault) told r (outcome.Query fault)
+RequestCause r told faults faults_now absences absences_now (outcome.Limit fault) = StageCause (is_text_limit fault) told r (outcome.Limit fault)
+RequestCause r told faults faults_now absences absences_now (outcome.NoFile i) = Rose absences absences_now × IsFirst told r (outcome.NoFile i)
+RequestCause r told faults faults_now absences absences_now (outcome.ReadFault i) = (i < length r.tables) × Rose faults faults_now × IsRead r
+RequestCause r told faults faults_now absences absences_now (outcome.Table i fault) = (fault ≢ table.NoMemory) × IsFirst told r (outcome.Table i fault)
+RequestCause r told faults faults_now absences absences_now outcome.Overflow = IsRead r × Gives told r (λ ts s. numbers_fit r ts s ≡ false)
+RequestCause r told faults faults_now absences absences_now _ = ⊥
+
+-- ---- a demonstration
+
+-- why a demonstration is not printed
+abbrev pub DemoCause : ℕ → ℕ → Outcome → Type 0
+DemoCause start blocks outcome.NoMemory = ⊤
+DemoCause start blocks outcome.Overflow = Demonstrates start blocks (λ ts s. answer_fits false ts s ≡ false)
+DemoCause start blocks _ = ⊥
+
+abbrev pub DemoText : List Named → QueryTree → List ℕ
+DemoText ts s = demo_text (answer_rows false ts s)
+
+-- ---- the words
+
+-- a text is what the words ask for
+abbrev pub IsAskedText : Result Asked UsageFault → Option (List File) → List ℕ → Type 0
+IsAskedText (Err fault) told text = ⊥
+IsAskedText (Ok (words.query r)) told text = IsRead r × Gives told r (IsAnswer r text)
+IsAskedText (Ok (words.demo start blocks)) told text = Demonstrates start blocks (λ ts s. text ≡ DemoText ts s)
+
+-- why what the words ask for is not made
+abbrev pub AskedCause : Result Asked UsageFault → Option (List File) → ℕ → ℕ → ℕ → ℕ → Outcome → Type 0
+AskedCause (Err fault) told faults faults_now absences absences_now o = (o ≡ outcome.Usage fault) ⊎ (o ≡ outcome.NoMemory)
+AskedCause (Ok (words.query r)) told faults faults_now absences absences_now o = RequestCause r told faults faults_now absences absences_now o
+AskedCause (Ok (words.demo start blocks)) told faults faults_now absences absences_now o = DemoCause start blocks o
+
+-- what is printed whole, and a front of it
+abbrev pub PrintsAsked : Result Asked UsageFault → Option (List File) → Option (List ℕ) → Option (List ℕ) → Type 0
+PrintsAsked (Err fault) told old new = ⊥
+PrintsAsked (Ok (words.query r)) told old new = IsRead r × Gives told r (Prints r old new)
+PrintsAsked (Ok (words.demo start blocks)) told old new = Demonstrates start blocks (λ ts s. Appends old new (DemoText ts s))
+
+abbrev pub PrintsAskedFront : Result Asked UsageFault → Option (List File) → Option (List ℕ) → Option (List ℕ) → Type 0
+PrintsAskedFront (Err fault) told old new = ⊥
+PrintsAskedFront (Ok (words.query r)) told old new = IsRead r × Gives told r (PrintsFront r old new)
+PrintsAskedFront (Ok (words.demo start blocks)) told old new = Demonstrates start blocks (λ ts s. AppendsFront old new (DemoText ts s))
 
 -- what became of a text that was put by one call
 abbrev pub TextPut : ℕ → ℕ → Option (List ℕ) → Option (List ℕ) → List ℕ → Outcome → Type 0
@@ -85,16 +168,10 @@ abbrev pub LinePut : ℕ → ℕ → Option (List ℕ) → Option (List ℕ) →
 LinePut faults faults_now old new line =
     Appends old new line ⊎ Rose faults faults_now × AppendsFront old new line ⊎ Appends old new []
 
--- a text is the answer's over a table, and the answer holds
-pub record IsAnswer (text : List ℕ) (t : BlockTable) : Type 0 where
-  pub text_is : text ≡ answer_text t
-  pub worlds : AnswerHolds t
-
--- How the answer ended, before any line is put: over the counts of the shelf, and the faults and the bytes of the sink.
-abbrev pub Ends : List Text → Option (List File) → ℕ → ℕ → ℕ → ℕ → ℕ → ℕ → Option (List ℕ) → Option (List ℕ) → Outcome → Type 0
-Ends words told faults faults_now absences absences_now puts puts_now old new outcome.Done =
-    Reads words × IfSome told (λ files. ReadsTable (told_bytes files words) (Prints old new))
-Ends words told faults faults_now absences absences_now puts puts_now old new outcome.WriteFault =
-    Reads words × Rose puts puts_now × IfSome told (λ files. ReadsTable (told_bytes files words) (λ t. AppendsFront old new (answer_text t)))
-Ends words told faults faults_now absences absences_now puts puts_now old new o =
-    HasCause words told faults faults_now absences absences_now o × Appends old new []
+-- How the answer ended, before any line is put: over the counts of the shelf, and the refusals and the bytes of the sink.
+abbrev pub Ends : Result Asked UsageFault → Option (List File) → ℕ → ℕ → ℕ → ℕ → ℕ → ℕ → Option (List ℕ) → Option (List ℕ) → Outcome → Type 0
+Ends asked told faults faults_now absences absences_now puts puts_now old new outcome.Done = PrintsAsked asked told old new
+Ends asked told faults faults_now absences absences_now puts puts_now old new outcome.WriteFault =
+    Rose puts puts_now × PrintsAskedFront asked told old new
+Ends asked told faults faults_now absences absences_now puts puts_now old new o =
+    AskedCause asked told faults faults_now absences absences_now o × Appends old new []

@@ -1,5 +1,6 @@
-pub mod Causes
 pub mod Lines
-pub mod Queries
+pub mod Files
+pub mod Demo
+pub mod Requests
+pub mod Causes
 pub mod Run
-pub mod Words

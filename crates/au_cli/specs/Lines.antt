@@ -5,12 +5,12 @@ use Rattle.au_blocks.specs.declared.faults.TableFault.{TableFault}
 use Rattle.au_blocks.specs.declared.faults.TableFault.TheVariants as table
 use Rattle.au_cli.specs.declared.outcome.Outcome.{Outcome}
 use Rattle.au_cli.specs.declared.outcome.Outcome.TheVariants as outcome
-use Rattle.au_cli.specs.declared.outcome.QueryFault.{QueryFault}
-use Rattle.au_cli.specs.declared.outcome.QueryFault.TheVariants as query
-use Rattle.au_cli.specs.declared.outcome.UsageFault.{UsageFault}
-use Rattle.au_cli.specs.declared.outcome.UsageFault.TheVariants as usage
-use Rattle.au_cli.specs.declared.outcome.LimitFault.{LimitFault}
-use Rattle.au_cli.specs.declared.outcome.LimitFault.TheVariants as limit
+use Rattle.au_engine.specs.declared.faults.QueryFault.{QueryFault}
+use Rattle.au_engine.specs.declared.faults.QueryFault.TheVariants as query
+use Rattle.au_engine.specs.declared.faults.LimitFault.{LimitFault}
+use Rattle.au_engine.specs.declared.faults.LimitFault.TheVariants as limit
+use Rattle.au_words.specs.declared.fault.UsageFault.{UsageFault}
+use Rattle.au_words.specs.declared.fault.UsageFault.TheVariants as usage
 
 abbrev pub status_of : Outcome → ℕ
 status_of outcome.Done = 0
@@ -23,7 +23,6 @@ status_of outcome.WriteFault = 6
 status_of outcome.NoMemory = 7
 status_of (outcome.Limit f) = 8
 status_of (outcome.NoFile i) = 9
-status_of outcome.NotYet = 10
 
 abbrev pub query_text : QueryFault → List ℕ
 query_text (query.BadChar n) = codes "unexpected character at byte " ++ decimal n
@@ -89,7 +88,6 @@ outcome_text outcome.WriteFault = codes "the answer cannot be written"
 outcome_text outcome.NoMemory = codes "out of memory"
 outcome_text (outcome.Limit f) = codes "limit: " ++ limit_text f
 outcome_text (outcome.NoFile i) = codes "file " ++ decimal i ++ codes " is not there"
-outcome_text outcome.NotYet = codes "not yet"
 
 -- the line that is put for an outcome
 abbrev pub fault_text : Outcome → List ℕ

@@ -1,74 +1,124 @@
-//! The text of the answer over a table.
-ghost use Rattle.std.specs.Prelude.{◌≡◌, false, IfOk, OnOk, map};
-ghost use Rattle.au_algebra.specs.Laws.{IsRelation};
-ghost use Rattle.au_blocks.specs.Tables.{IsBlockTable, column_kinds};
-ghost use Rattle.au_print.specs.Texts.{csv_text as csv_text_of};
-ghost use Rattle.au_cli.specs.Causes.{IsAnswer};
-ghost use Rattle.au_cli.specs.Run.{answer_fits, answer_rows};
+//! The text of the answer of a statement over tables.
+ghost use Rattle.std.specs.Prelude.{◌≡◌, ◌&&◌, length, OnOk, IfOk, IfErr, [], true};
+ghost use Rattle.std.specs.List.{AllByRecursion};
+ghost use Rattle.au_parse.specs.Views.{statement_tree};
+ghost use Rattle.au_parse.specs.Whole.{WholeQuery};
+ghost use Rattle.au_print.specs.GuessTexts.{counts_fit, world_rows, world_text};
+ghost use Rattle.au_engine.specs.Answers.{AnswerCause, RowsHold, answer_fits, answer_names, answer_rows, guess_answer as guess_answer_of, guess_answer_fits, statement_defects};
+ghost use Rattle.au_cli.specs.Requests.{HoldsBy, FitsBy, fit_by, rows_text, text_by};
+ghost use Rattle.au_words.specs.CommandLine.{seen_request};
 
-use au_algebra::{Rel, normal};
-use au_annot::Triple;
-use au_blocks::{Column, Table};
+use au_blocks::Table;
+use au_engine::{EngineFault, Options, answer, answer_directly, guess_answer};
 use au_expr::EvalFault;
-use au_print::{Answer, csv_text};
-use au_translate::bounded;
-use au_value::{Kind, NoMemory, Range, Word};
+use au_parse::Statement;
+use au_print::{Answer, csv_text, guess_text, table_text};
+use au_value::{NoMemory, Word};
+use au_words::{Command, Request};
 use std::alloc::Global;
 
-/// The text of the answer of the query that asks for all of a table.
-pub fn table_text(alloc: Global, table: &Table) -> Result<Vec<u8>, EvalFault>
-    ensures text { IfOk result (λ text. IsAnswer text.items table.now) }
-    ensures overflow { result ≡ Err EvalFault.Overflow → answer_fits table.now ≡ false }
+/// The text of what a request asks for, over its tables.
+pub(crate) fn answer_text(
+    alloc: Global,
+    request: &Request<'_>,
+    statement: &Statement,
+    tables: &[(Word, Table)],
+) -> Result<Vec<u8>, EngineFault>
+    requires { WholeQuery (statement_tree statement.now) }
+    ensures typed { OnOk result (statement_defects tables.now (statement_tree statement.now) ≡ []) }
+    ensures text { IfOk result (λ t. t.items ≡ text_by request.now.command (seen_request request.now) tables.now (statement_tree statement.now)) }
+    ensures holds { OnOk result (HoldsBy request.now.command (seen_request request.now) tables.now (statement_tree statement.now)) }
+    ensures fits { OnOk result (FitsBy request.now.command (fit_by request.now.command (seen_request request.now) tables.now (statement_tree statement.now))) }
+    ensures refused { IfErr result (AnswerCause (statement_defects tables.now (statement_tree statement.now)) (fit_by request.now.command (seen_request request.now) tables.now (statement_tree statement.now))) }
 {
-    let rows = answer(alloc, table)?;
-    match text(alloc, table, rows) {
-        Ok(text) => Ok(text),
-        Err(NoMemory) => Err(EvalFault::NoMemory),
-    }
-}
-
-// The bounded answer: the normal form of the table's bounded relation.
-fn answer(alloc: Global, table: &Table) -> Result<Rel<Range, Triple>, EvalFault>
-    ensures rows { IfOk result (λ r. r ≡ answer_rows table.now) }
-    ensures relation { IfOk result (λ r. IsRelation (column_kinds table.now) r) }
-    ensures overflow { result ≡ Err EvalFault.Overflow → answer_fits table.now ≡ false }
-{
-    match bounded(alloc, table) {
-        Ok(rel) => normal(alloc, rel),
-        Err(NoMemory) => Err(EvalFault::NoMemory),
-    }
-}
-
-// The text of a table's rows.
-fn text(alloc: Global, table: &Table, rows: Rel<Range, Triple>) -> Result<Vec<u8>, NoMemory>
-    requires { IsRelation (column_kinds table.now) rows }
-    ensures text { IfOk result (λ text. text.items ≡ csv_text_of (map (λ c. c.name) table.now.columns) rows) }
-    ensures table { OnOk result (IsBlockTable table.now) }
-{
-    let answer = Answer {
-        names: names(alloc, table.columns())?,
-        kinds: kinds(alloc, table.columns())?,
-        rows,
+    let options = Options {
+        combine: request.combine,
     };
-    csv_text(alloc, &answer)
+    match request.command {
+        Command::Answer => planned_text(alloc, statement, tables, options, request.table),
+        Command::Direct => direct_text(alloc, statement, tables, options, request.table),
+        Command::Guess => guess_world_text(alloc, statement, tables),
+    }
 }
 
-// The columns' names.
-fn names(alloc: Global, columns: &[Column]) -> Result<Vec<Word>, NoMemory>
-    ensures { IfOk result (λ names. names.items ≡ map (λ c. c.name) columns.now) }
+// The text of the bounded answer.
+fn planned_text(
+    alloc: Global,
+    statement: &Statement,
+    tables: &[(Word, Table)],
+    options: Options,
+    table: bool,
+) -> Result<Vec<u8>, EngineFault>
+    requires { WholeQuery (statement_tree statement.now) }
+    ensures typed { OnOk result (statement_defects tables.now (statement_tree statement.now) ≡ []) }
+    ensures text { IfOk result (λ t. t.items ≡ rows_text table (answer_names tables.now (statement_tree statement.now)) (answer_rows options.combine tables.now (statement_tree statement.now))) }
+    ensures holds { OnOk result (RowsHold tables.now (statement_tree statement.now) (answer_rows options.combine tables.now (statement_tree statement.now))) }
+    ensures refused { IfErr result (AnswerCause (statement_defects tables.now (statement_tree statement.now)) (answer_fits options.combine tables.now (statement_tree statement.now))) }
 {
-    let mut names = Vec::new(alloc);
-    for column in columns {
-        names.push(column.name.copy()?)?;
+    match answer(alloc, statement, tables, options) {
+        Ok(answer) => match rows_text(alloc, &answer, table) {
+            Ok(text) => Ok(text),
+            Err(NoMemory) => Err(EngineFault::NoMemory),
+        },
+        Err(fault) => Err(fault),
     }
-    Ok(names)
 }
 
-// The columns' kinds.
-fn kinds(alloc: Global, columns: &[Column]) -> Result<Vec<Kind>, NoMemory> {
-    let mut kinds = Vec::new(alloc);
-    for column in columns {
-        kinds.push(column.kind)?;
+// The text of the bounded answer, by the generic evaluator.
+fn direct_text(
+    alloc: Global,
+    statement: &Statement,
+    tables: &[(Word, Table)],
+    options: Options,
+    table: bool,
+) -> Result<Vec<u8>, EngineFault>
+    requires { WholeQuery (statement_tree statement.now) }
+    ensures typed { OnOk result (statement_defects tables.now (statement_tree statement.now) ≡ []) }
+    ensures text { IfOk result (λ t. t.items ≡ rows_text table (answer_names tables.now (statement_tree statement.now)) (answer_rows options.combine tables.now (statement_tree statement.now))) }
+    ensures holds { OnOk result (RowsHold tables.now (statement_tree statement.now) (answer_rows options.combine tables.now (statement_tree statement.now))) }
+    ensures fits { OnOk result (answer_fits options.combine tables.now (statement_tree statement.now) ≡ true) }
+    ensures refused { IfErr result (AnswerCause (statement_defects tables.now (statement_tree statement.now)) (answer_fits options.combine tables.now (statement_tree statement.now))) }
+{
+    match answer_directly(alloc, statement, tables, options) {
+        Ok(answer) => match rows_text(alloc, &answer, table) {
+            Ok(text) => Ok(text),
+            Err(NoMemory) => Err(EngineFault::NoMemory),
+        },
+        Err(fault) => Err(fault),
     }
-    Ok(kinds)
+}
+
+// An answer as a table for the eye, or as CSV.
+fn rows_text(alloc: Global, answer: &Answer, table: bool) -> Result<Vec<u8>, NoMemory>
+    requires { AllByRecursion (λ r. length r.cells ≡ length answer.now.names.items) answer.now.rows }
+    ensures { IfOk result (λ t. t.items ≡ rows_text table answer.now.names.items answer.now.rows) }
+{
+    if table {
+        table_text(alloc, answer)
+    } else {
+        csv_text(alloc, answer)
+    }
+}
+
+// The text of the ordinary answer in the guess world.
+fn guess_world_text(
+    alloc: Global,
+    statement: &Statement,
+    tables: &[(Word, Table)],
+) -> Result<Vec<u8>, EngineFault>
+    requires { WholeQuery (statement_tree statement.now) }
+    ensures typed { OnOk result (statement_defects tables.now (statement_tree statement.now) ≡ []) }
+    ensures text { IfOk result (λ t. t.items ≡ world_text (answer_names tables.now (statement_tree statement.now)) (guess_answer_of tables.now (statement_tree statement.now))) }
+    ensures fits { OnOk result ((guess_answer_fits tables.now (statement_tree statement.now) && counts_fit (world_rows (guess_answer_of tables.now (statement_tree statement.now)))) ≡ true) }
+    ensures refused { IfErr result (AnswerCause (statement_defects tables.now (statement_tree statement.now)) (guess_answer_fits tables.now (statement_tree statement.now) && counts_fit (world_rows (guess_answer_of tables.now (statement_tree statement.now))))) }
+{
+    let guess = match guess_answer(alloc, statement, tables) {
+        Ok(guess) => guess,
+        Err(fault) => return Err(fault),
+    };
+    match guess_text(alloc, guess.names.as_slice(), &guess.rows) {
+        Ok(text) => Ok(text),
+        Err(EvalFault::Overflow) => Err(EngineFault::Overflow),
+        Err(EvalFault::NoMemory) => Err(EngineFault::NoMemory),
+    }
 }

@@ -10,15 +10,18 @@
 #![tactic(auto)]
 
 mod answering;
+mod demo;
+mod files;
 mod line;
 mod outcome;
-mod query;
 mod reading;
+mod requests;
 mod top;
-mod words;
 
+pub use au_engine::{LimitFault, QueryFault};
+pub use au_words::UsageFault;
 pub use line::fault_line;
-pub use outcome::{LimitFault, Outcome, QueryFault, UsageFault};
+pub use outcome::Outcome;
 pub use top::run;
 
 #[cfg(test)]

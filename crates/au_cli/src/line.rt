@@ -2,20 +2,26 @@
 ghost use Rattle.std.specs.Prelude.{◌≡◌, IfOk};
 ghost use Rattle.au_cli.specs.Lines.{fault_text};
 
-use crate::outcome::{LimitFault, Outcome, QueryFault, UsageFault};
+use crate::outcome::Outcome;
 use au_blocks::TableFault;
+use au_engine::{LimitFault, QueryFault};
 use au_value::NoMemory;
+use au_words::UsageFault;
 use std::alloc::Global;
 use std::fmt;
 
-impl fmt::Display for QueryFault {
+// The fault of a query, as it is printed.
+#[derive(Clone, Copy)]
+struct QueryText(QueryFault);
+
+impl fmt::Display for QueryText {
     ghost use Rattle.std.specs.Prelude.{Some};
     ghost use Rattle.au_cli.specs.Lines.{query_text};
 
-    ghost output = { λ fault. Some (query_text fault) };
+    ghost output = { λ fault. Some (query_text fault.0) };
 
     fn fmt<W: fmt::Write>(&self, f: &mut fmt::Formatter<W>) -> fmt::Result {
-        match *self {
+        match self.0 {
             QueryFault::BadChar(at) => write!(f, "unexpected character at byte {at}"),
             QueryFault::OpenText(at) => write!(f, "quote without an end at byte {at}"),
             QueryFault::BadNumber(at) => write!(f, "bad number at byte {at}"),
@@ -52,14 +58,18 @@ impl fmt::Display for OneName {
     }
 }
 
-impl fmt::Display for UsageFault {
+// The fault of the words, as it is printed.
+#[derive(Clone, Copy)]
+struct UsageText(UsageFault);
+
+impl fmt::Display for UsageText {
     ghost use Rattle.std.specs.Prelude.{Some};
     ghost use Rattle.au_cli.specs.Lines.{usage_text};
 
-    ghost output = { λ fault. Some (usage_text fault) };
+    ghost output = { λ fault. Some (usage_text fault.0) };
 
     fn fmt<W: fmt::Write>(&self, f: &mut fmt::Formatter<W>) -> fmt::Result {
-        match *self {
+        match self.0 {
             UsageFault::Words => f.write_str("usage: audb answer SQL NAME=PATH.."),
             UsageFault::BadTable(word) => write!(f, "usage: table word {word} is not NAME=PATH"),
             UsageFault::SameTable(a, b) => write!(f, "usage: table words {}", OneName(a, b)),
@@ -67,14 +77,18 @@ impl fmt::Display for UsageFault {
     }
 }
 
-impl fmt::Display for LimitFault {
+// The limit that is passed, as it is printed.
+#[derive(Clone, Copy)]
+struct LimitText(LimitFault);
+
+impl fmt::Display for LimitText {
     ghost use Rattle.std.specs.Prelude.{Some};
     ghost use Rattle.au_cli.specs.Lines.{limit_text};
 
-    ghost output = { λ fault. Some (limit_text fault) };
+    ghost output = { λ fault. Some (limit_text fault.0) };
 
     fn fmt<W: fmt::Write>(&self, f: &mut fmt::Formatter<W>) -> fmt::Result {
-        match *self {
+        match self.0 {
             LimitFault::Files(n) => write!(f, "{n} table words"),
             LimitFault::QueryLength(n) => write!(f, "query of {n} bytes"),
             LimitFault::Tokens => f.write_str("too many tokens"),
@@ -89,9 +103,9 @@ impl fmt::Display for LimitFault {
 
 // The fault of a table, as it is printed.
 #[derive(Clone, Copy)]
-struct Printed(TableFault);
+struct TableText(TableFault);
 
-impl fmt::Display for Printed {
+impl fmt::Display for TableText {
     ghost use Rattle.std.specs.Prelude.{Some};
     ghost use Rattle.au_cli.specs.Lines.{table_text};
 
@@ -133,16 +147,15 @@ impl fmt::Display for Outcome {
     fn fmt<W: fmt::Write>(&self, f: &mut fmt::Formatter<W>) -> fmt::Result {
         match *self {
             Outcome::Done => Ok(()),
-            Outcome::Query(fault) => write!(f, "query: {fault}"),
-            Outcome::Usage(fault) => write!(f, "{fault}"),
-            Outcome::Table(file, fault) => write!(f, "file {file}: {}", Printed(fault)),
+            Outcome::Query(fault) => write!(f, "query: {}", QueryText(fault)),
+            Outcome::Usage(fault) => write!(f, "{}", UsageText(fault)),
+            Outcome::Table(file, fault) => write!(f, "file {file}: {}", TableText(fault)),
             Outcome::Overflow => f.write_str("a number leaves 128 bits"),
             Outcome::ReadFault(file) => write!(f, "file {file} cannot be read"),
             Outcome::WriteFault => f.write_str("the answer cannot be written"),
             Outcome::NoMemory => f.write_str("out of memory"),
-            Outcome::Limit(fault) => write!(f, "limit: {fault}"),
+            Outcome::Limit(fault) => write!(f, "limit: {}", LimitText(fault)),
             Outcome::NoFile(file) => write!(f, "file {file} is not there"),
-            Outcome::NotYet => f.write_str("not yet"),
         }
     }
 }

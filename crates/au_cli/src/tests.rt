@@ -1,6 +1,5 @@
-//! Tables of words, files and outcomes.
+//! Tables of files and outcomes.
 use crate::reading::{ReadingFault, read_file};
-use crate::words::read_words;
 use crate::{LimitFault, Outcome, QueryFault, UsageFault, fault_line};
 use au_blocks::TableFault;
 use au_io::MemShelf;
@@ -50,7 +49,6 @@ fn an_outcome_has_a_status_and_a_line(rt: HostRuntime) -> Result<(), Fail> {
             "audb: limit: size of file 0\n",
         ),
         (Outcome::NoFile(0), 9, "audb: file 0 is not there\n"),
-        (Outcome::NotYet, 10, "audb: not yet\n"),
     ];
     for (outcome, status, line) in table {
         assert_eq!(rt; outcome.code(), status, "the status before {line}");
@@ -58,67 +56,6 @@ fn an_outcome_has_a_status_and_a_line(rt: HostRuntime) -> Result<(), Fail> {
         assert_eq!(rt; made.as_slice(), line.as_bytes(), "for {line}");
     }
     assert_eq!(rt; Outcome::Done.code(), 0);
-    Ok(())
-}
-
-fn words_of(alloc: Global, texts: &[&str]) -> Result<Vec<Word>, AllocError> {
-    let mut words = Vec::new(alloc);
-    for text in texts {
-        words.push(Word::new(String::from_str(alloc, text)?))?;
-    }
-    Ok(words)
-}
-
-#[test]
-fn words_are_a_query_and_a_table(rt: HostRuntime) -> Result<(), Fail> {
-    let words = words_of(rt.alloc(), &["answer", "SELECT * FROM t", "t=a=b.csv"])?;
-    let Ok(request) = read_words(&words) else {
-        panic!(rt; "the words are refused");
-    };
-    assert_eq!(rt; request.query, "SELECT * FROM t");
-    assert_eq!(rt; request.name, "t");
-    assert_eq!(rt; request.path, "a=b.csv");
-    Ok(())
-}
-
-#[test]
-fn other_words_are_refused(rt: HostRuntime) -> Result<(), Fail> {
-    let table = [
-        (
-            ["answer", "SELECT * FROM t", "t"].as_slice(),
-            UsageFault::BadTable(0),
-        ),
-        (
-            ["answer", "SELECT * FROM t", "=a"].as_slice(),
-            UsageFault::BadTable(0),
-        ),
-        (
-            ["answer", "SELECT * FROM t", "t="].as_slice(),
-            UsageFault::BadTable(0),
-        ),
-        (
-            ["answer", "SELECT * FROM t", "-t=a"].as_slice(),
-            UsageFault::Words,
-        ),
-        (["answer", "--table", "t=a"].as_slice(), UsageFault::Words),
-        (
-            ["guess", "SELECT * FROM t", "t=a"].as_slice(),
-            UsageFault::Words,
-        ),
-        (["answer", "SELECT * FROM t"].as_slice(), UsageFault::Words),
-        (
-            ["answer", "SELECT * FROM t", "t=a", "u=b"].as_slice(),
-            UsageFault::Words,
-        ),
-        ([].as_slice(), UsageFault::Words),
-    ];
-    for (texts, fault) in table {
-        let words = words_of(rt.alloc(), texts)?;
-        match read_words(&words) {
-            Ok(_) => panic!(rt; "these words are taken: {texts:?}"),
-            Err(found) => assert_eq!(rt; found, fault, "for {texts:?}"),
-        }
-    }
     Ok(())
 }
 

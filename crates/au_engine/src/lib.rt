@@ -15,6 +15,8 @@ mod faults;
 mod guessing;
 mod reading;
 mod tables;
+#[cfg(test)]
+mod tests;
 mod typing;
 
 pub use answering::{Options, answer, answer_directly};

@@ -1,11 +1,9 @@
--- What became of the text.
-use Rattle.std.proofs.Common.{◌∙◌, sym, subst}
-use Rattle.au_cli.specs.Causes.{TextPut}
-use Rattle.au_cli.proofs.Ending.{put_ends}
+-- What is refused puts nothing.
+use Rattle.au_words.specs.Words.{asked_of}
+use Rattle.au_cli.proofs.Endings.{appends_nothing, refused_ends}
 use Rattle.au_cli.proofs.top.answer.Goals as goal
 
-pub returns-in-Ok-clause-ends : goal.returns-in-Ok-clause-ends
-returns-in-Ok-clause-ends g c =
-    let answered = (c.in-Ok.ensures).text in
-    let put = subst (λ bytes. TextPut (g.O.Sink.faults c.args.out.now) (g.O.Sink.faults c.put.new.out) (g.O.Sink.written c.args.out.now) (g.O.Sink.written c.put.new.out) bytes c.put.result) c.as_slice.ensures.value c.put.ensures.text in
-    put_ends c.args.words.now _ _ _ _ _ _ _ _ _ c.in-Ok.text.items c.put.result answered.0 answered.1 put
+pub returns-in-Err-clause-ends : goal.returns-in-Err-clause-ends
+returns-in-Err-clause-ends g c =
+    refused_ends (asked_of c.args.words.now) (g.S.Shelf.files c.args.shelf.now) _ _ _ _ _ _ _ _ c.in-Err.outcome c.in-Err.ensures.refused
+    (appends_nothing (g.O.Sink.written c.args.out.now))

@@ -1,0 +1,18 @@
+-- The printed counts are those of the guess world.
+use Rattle.std.proofs.Common.{ap, Err}
+use Rattle.au_parse.specs.Views.{statement_tree}
+use Rattle.au_engine.specs.Answers.{guess_answer, guess_answer_fits}
+use Rattle.au_cli.proofs.GuessFits.{guess_fits, guess_left}
+use Rattle.au_cli.proofs.answering.guess_world_text.Goals as goal
+
+pub returns-in-Ok-guess_text-clause-fits : goal.returns-in-Ok-guess_text-clause-fits
+returns-in-Ok-guess_text-clause-fits c =
+    guess_fits (guess_answer_fits c.args.tables.now (statement_tree c.args.statement.now)) c.in-Ok.guess.rows (guess_answer c.args.tables.now (statement_tree c.args.statement.now))
+    c.in-Ok.ensures.rows c.in-Ok.ensures.fits c.in-Ok-guess_text.ensures.fit
+
+pub returns-in-Err-Overflow-clause-refused : goal.returns-in-Err-Overflow-clause-refused
+returns-in-Err-Overflow-clause-refused c = (
+  c.in-Ok.ensures.typed,
+  guess_left (guess_answer_fits c.args.tables.now (statement_tree c.args.statement.now)) c.in-Ok.guess.rows (guess_answer c.args.tables.now (statement_tree c.args.statement.now))
+      c.in-Ok.ensures.rows (c.in-Err-Overflow.ensures.overflow (ap Err c.in-Err-Overflow.field-0-is)),
+)

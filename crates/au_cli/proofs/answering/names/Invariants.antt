@@ -1,6 +1,0 @@
--- So far there are the names of the columns before this one.
-use Rattle.std.proofs.Common.{◌≡◌, map, take}
-use Rattle.au_cli.proofs.answering.names.Given as goal
-
-abbrev pub invariant-loop-column : goal.invariant-loop-column
-invariant-loop-column l = l.names.items ≡ map (λ c. c.name) (take l.column-index l.columns)

@@ -1,5 +1,0 @@
-use Rattle.au_cli.proofs.TableWords.{cut_at_first}
-use Rattle.au_cli.proofs.words.cut.Goals as goal
-
-pub returns : goal.returns
-returns c = cut_at_first c.args.word.now c.split_once.result c.split_once.ensures.cases

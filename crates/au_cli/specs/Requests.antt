@@ -1,0 +1,134 @@
+-- What a request is given by told files, what it is refused by, and what is printed for it.
+use Rattle.std.specs.Prelude.{ℕ, ◌≡◌, ◌&&◌, Bool, true, false, List, [], ◌∷◌, length, Option, Some, None, option_map, Result, Ok, Err, if◌then◌else◌, nat_lt, ⊤}
+use Rattle.std.specs.Io.KnownBytes.{Appends}
+use Rattle.au_io.specs.Files.{AppendsFront, File}
+use Rattle.au_lex.specs.Tokens.{tokens_of}
+use Rattle.au_parse.specs.Tree.{QueryTree}
+use Rattle.au_typing.specs.declared.fault.TypingFault.{TypingFault}
+use Rattle.au_algebra.specs.Bounded.{Bounded}
+use Rattle.au_print.specs.Texts.{csv_text}
+use Rattle.au_print.specs.Tables.{table_text}
+use Rattle.au_print.specs.GuessTexts.{counts_fit, world_rows, world_text}
+use Rattle.au_engine.specs.declared.faults.EngineFault.{EngineFault}
+use Rattle.au_engine.specs.declared.faults.EngineFault.TheVariants as engine
+use Rattle.au_engine.specs.declared.faults.LimitFault.TheVariants as limit
+use Rattle.au_engine.specs.declared.faults.QueryFault.TheVariants as query
+use Rattle.au_engine.specs.Reading as reading
+use Rattle.au_engine.specs.Reading.{PlaceIn, refused_text, statement_of}
+use Rattle.au_engine.specs.Answers.{IsDefect, Named, RowsHold, answer_fits, answer_names, answer_rows, guess_answer, guess_answer_fits, statement_defects}
+use Rattle.au_words.specs.Words.{Request}
+use Rattle.au_words.specs.declared.words.Command.{Command}
+use Rattle.au_words.specs.declared.words.Command.TheVariants.{Answer, Guess}
+use Rattle.au_cli.specs.declared.outcome.Outcome.{Outcome}
+use Rattle.au_cli.specs.declared.outcome.Outcome.TheVariants as outcome
+use Rattle.au_cli.specs.Files.{Text, tables_of}
+
+-- ---- refusals
+
+-- A refusal: one outcome, or that a text is no statement, at whichever place is named, or defects of a statement, of
+-- which any may be named.
+pub data Refusal : Type 0 where
+  exactly : Outcome → Refusal
+  no_statement : Text → Refusal
+  defects : List TypingFault → Refusal
+
+-- what a fault of the engine ends in
+abbrev pub ended : EngineFault → Outcome
+ended (engine.Query fault) = outcome.Query fault
+ended (engine.Limit fault) = outcome.Limit fault
+ended engine.Overflow = outcome.Overflow
+ended engine.NoMemory = outcome.NoMemory
+
+-- an outcome is that of a refusal
+abbrev pub IsRefusal : Refusal → Outcome → Type 0
+IsRefusal (Refusal.exactly wanted) o = o ≡ wanted
+IsRefusal (Refusal.no_statement text) o = (at : ℕ) × (o ≡ outcome.Query (query.Syntax at)) × PlaceIn (length text) (tokens_of text) at
+IsRefusal (Refusal.defects found) o = (fault : EngineFault) × IsDefect found fault × (o ≡ ended fault)
+
+abbrev pub text_refusal : Text → reading.Refusal → Refusal
+text_refusal text (reading.Refusal.exactly fault) = Refusal.exactly (ended fault)
+text_refusal text reading.Refusal.no_statement = Refusal.no_statement text
+
+-- the greatest number of table words
+abbrev pub greatest_files : ℕ
+greatest_files = 8
+
+-- the first refusal before any file: by the number of table words, or of the query's text
+abbrev pub refused_request : Request → Option Refusal
+refused_request r =
+    if nat_lt greatest_files (length r.tables) then Some (Refusal.exactly (outcome.Limit (limit.Files (length r.tables))))
+    else option_map (text_refusal r.query) (refused_text r.query)
+
+-- ---- what is given
+
+-- the tables, each under its name, and a statement that is well typed over them
+abbrev pub Given : Type 0
+Given = List Named × QueryTree
+
+abbrev pub typed_given : List Named → QueryTree → List TypingFault → Result Given Refusal
+typed_given ts s [] = Ok (ts, s)
+typed_given ts s (fault ∷ faults) = Err (Refusal.defects (fault ∷ faults))
+
+abbrev pub tables_given : QueryTree → Result (List Named) Outcome → Result Given Refusal
+tables_given s (Err refusal) = Err (Refusal.exactly refusal)
+tables_given s (Ok ts) = typed_given ts s (statement_defects ts s)
+
+abbrev pub statement_given : Request → List File → Option QueryTree → Result Given Refusal
+statement_given r files None = Err (Refusal.no_statement r.query)
+statement_given r files (Some s) = tables_given s (tables_of files r.tables)
+
+abbrev pub unless_refused : Request → List File → Option Refusal → Result Given Refusal
+unless_refused r files (Some refusal) = Err refusal
+unless_refused r files None = statement_given r files (statement_of r.query)
+
+-- what told files give to a request, or its first refusal
+abbrev pub given_of : Request → List File → Result Given Refusal
+given_of r files = unless_refused r files (refused_request r)
+
+-- ---- what is printed
+
+abbrev pub rows_text : Bool → List (List ℕ) → Bounded → List ℕ
+rows_text false names rows = csv_text names rows
+rows_text true names rows = table_text names rows
+
+-- the text that is printed: the bounded answer's, or that of the ordinary answer in the guess world
+abbrev pub text_by : Command → Request → List Named → QueryTree → List ℕ
+text_by Guess r ts s = world_text (answer_names ts s) (guess_answer ts s)
+text_by _ r ts s = rows_text r.table (answer_names ts s) (answer_rows r.combine ts s)
+
+abbrev pub answer_text : Request → List Named → QueryTree → List ℕ
+answer_text r ts s = text_by r.command r ts s
+
+-- whether each number of the answer lies in 128 bits, the printed counts of a guess among them
+abbrev pub fit_by : Command → Request → List Named → QueryTree → Bool
+fit_by Guess r ts s = guess_answer_fits ts s && counts_fit (world_rows (guess_answer ts s))
+fit_by _ r ts s = answer_fits r.combine ts s
+
+abbrev pub numbers_fit : Request → List Named → QueryTree → Bool
+numbers_fit r ts s = fit_by r.command r ts s
+
+-- the printed rows hold in every possible world, and their guesses are the answer in the guess world
+abbrev pub HoldsBy : Command → Request → List Named → QueryTree → Type 0
+HoldsBy Guess r ts s = ⊤
+HoldsBy _ r ts s = RowsHold ts s (answer_rows r.combine ts s)
+
+-- only the plan of `answer` may pass over a number that leaves 128 bits
+abbrev pub FitsBy : Command → Bool → Type 0
+FitsBy Answer fit = ⊤
+FitsBy _ fit = fit ≡ true
+
+-- a text is the answer's, and the answer holds
+pub record IsAnswer (r : Request) (text : List ℕ) (ts : List Named) (s : QueryTree) : Type 0 where
+  pub is : text ≡ answer_text r ts s
+  pub holds : HoldsBy r.command r ts s
+  pub fits : FitsBy r.command (numbers_fit r ts s)
+
+-- the answer is put whole, and it holds
+pub record Prints (r : Request) (old new : Option (List ℕ)) (ts : List Named) (s : QueryTree) : Type 0 where
+  pub text : Appends old new (answer_text r ts s)
+  pub holds : HoldsBy r.command r ts s
+  pub fits : FitsBy r.command (numbers_fit r ts s)
+
+-- a front of it is put
+abbrev pub PrintsFront : Request → Option (List ℕ) → Option (List ℕ) → List Named → QueryTree → Type 0
+PrintsFront r old new ts s = AppendsFront old new (answer_text r ts s)

@@ -1,0 +1,90 @@
+//! The text of what a request asks for, over a shelf.
+ghost use Rattle.std.specs.Prelude.{◌≡◌, ◌≤◌, None, Some, map, Ok, IfOk, IfErr, IfSome};
+ghost use Rattle.au_parse.specs.Views.{statement_tree};
+ghost use Rattle.au_parse.specs.Whole.{WholeQuery};
+ghost use Rattle.au_engine.specs.Reading.{TextCause, refused_text, statement_of};
+ghost use Rattle.au_words.specs.CommandLine.{seen_request};
+ghost use Rattle.au_cli.specs.Causes.{Gives, IsRead, IsRefusedBefore, RequestCause, StatementCause};
+ghost use Rattle.au_cli.specs.Requests.{IsAnswer, ended as ended_of, refused_request};
+
+use crate::answering::answer_text;
+use crate::files::read_tables;
+use crate::outcome::Outcome;
+use au_engine::{EngineFault, LimitFault, read_query};
+use au_io::Shelf;
+use au_parse::Statement;
+use au_words::Request;
+use std::alloc::Global;
+
+// The greatest number of table words.
+const MAX_FILES: usize = 8;
+
+/// The text of what a request asks for, or the outcome that is in its place.
+pub(crate) fn request_text<S: Shelf>(
+    alloc: Global,
+    shelf: &mut S,
+    request: &Request<'_>,
+) -> Result<Vec<u8>, Outcome>
+    ensures text { IfOk result (λ t. IsRead (seen_request request.now) × Gives (S.files shelf.old) (seen_request request.now) (IsAnswer (seen_request request.now) t.items)) }
+    ensures refused { IfErr result (RequestCause (seen_request request.now) (S.files shelf.old) (S.faults shelf.old) (S.faults shelf.new) (S.absences shelf.old) (S.absences shelf.new)) }
+    ensures files { S.files shelf.new ≡ S.files shelf.old }
+    ensures counts { (S.faults shelf.old ≤ S.faults shelf.new) × (S.absences shelf.old ≤ S.absences shelf.new) }
+{
+    match read_statement(alloc, request) {
+        Ok(statement) => statement_text(alloc, shelf, request, &statement),
+        Err(outcome) => Err(outcome),
+    }
+}
+
+// The statement of a request.
+fn read_statement(alloc: Global, request: &Request<'_>) -> Result<Statement, Outcome>
+    ensures allowed { IfOk result (λ s. refused_request (seen_request request.now) ≡ None) }
+    ensures tree { IfOk result (λ s. statement_of request.now.query.now ≡ Some (statement_tree s)) }
+    ensures whole { IfOk result (λ s. WholeQuery (statement_tree s)) }
+    ensures refused { IfErr result (StatementCause (seen_request request.now)) }
+{
+    if request.tables.len() > MAX_FILES {
+        return Err(Outcome::Limit(LimitFault::Files(request.tables.len())));
+    }
+    match read_query(alloc, request.query) {
+        Ok(statement) => Ok(statement),
+        Err(fault) => Err(ended(fault)),
+    }
+}
+
+// The text over the files of a request that is read.
+fn statement_text<S: Shelf>(
+    alloc: Global,
+    shelf: &mut S,
+    request: &Request<'_>,
+    statement: &Statement,
+) -> Result<Vec<u8>, Outcome>
+    requires whole { WholeQuery (statement_tree statement.now) }
+    requires allowed { refused_request (seen_request request.now) ≡ None }
+    requires tree { statement_of request.now.query.now ≡ Some (statement_tree statement.now) }
+    ensures text { IfOk result (λ t. IsRead (seen_request request.now) × Gives (S.files shelf.old) (seen_request request.now) (IsAnswer (seen_request request.now) t.items)) }
+    ensures refused { IfErr result (RequestCause (seen_request request.now) (S.files shelf.old) (S.faults shelf.old) (S.faults shelf.new) (S.absences shelf.old) (S.absences shelf.new)) }
+    ensures files { S.files shelf.new ≡ S.files shelf.old }
+    ensures counts { (S.faults shelf.old ≤ S.faults shelf.new) × (S.absences shelf.old ≤ S.absences shelf.new) }
+{
+    let tables = match read_tables(alloc, shelf, request.tables.as_slice()) {
+        Ok(tables) => tables,
+        Err(outcome) => return Err(outcome),
+    };
+    match answer_text(alloc, request, statement, tables.as_slice()) {
+        Ok(text) => Ok(text),
+        Err(fault) => Err(ended(fault)),
+    }
+}
+
+// What a fault of the engine ends in.
+fn ended(fault: EngineFault) -> Outcome
+    ensures { result ≡ ended_of fault }
+{
+    match fault {
+        EngineFault::Query(fault) => Outcome::Query(fault),
+        EngineFault::Limit(fault) => Outcome::Limit(fault),
+        EngineFault::Overflow => Outcome::Overflow,
+        EngineFault::NoMemory => Outcome::NoMemory,
+    }
+}

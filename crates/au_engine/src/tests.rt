@@ -1,0 +1,103 @@
+//! Statements over the tables of two files.
+use crate::{
+    EngineFault, LimitFault, Options, QueryFault, answer, answer_directly, guess_answer, read_query,
+};
+use au_blocks::{Table, read_table};
+use au_print::{csv_text, guess_text};
+use au_value::Word;
+use std::alloc::Global;
+use std::test::Fail;
+
+const ORDERS: &str =
+    "_block,_role,id:int,city:text,amount:int\na,guess,1,Oslo,10\na,alt,1,Bergen,12\nb,guess,2,Bergen,5\nc,guess,3,Oslo,7\nc,absent,,,\n";
+
+// A table of a file's text, under a name.
+fn table(alloc: Global, name: &str, text: &str) -> Result<(Word, Table), Fail> {
+    let table = read_table(alloc, text.as_bytes()).ok().ok_or("a table")?;
+    Ok((Word::new(String::from_str(alloc, name)?), table))
+}
+
+fn tables(alloc: Global) -> Result<Vec<(Word, Table)>, Fail> {
+    let mut tables = Vec::new(alloc);
+    tables.push(table(alloc, "orders", ORDERS)?)?;
+    tables.push(table(alloc, "rates", "city,fee:int\nOslo,3\nBergen,4\n")?)?;
+    Ok(tables)
+}
+
+#[test]
+fn a_statement_has_one_answer_by_both_roads(rt: HostRuntime) -> Result<(), Fail> {
+    let alloc = rt.alloc();
+    let tables = tables(alloc)?;
+    let query = "SELECT city, SUM(amount) AS s FROM orders GROUP BY city";
+    let statement = read_query(alloc, query).ok().ok_or("a statement")?;
+    let options = Options { combine: false };
+    let planned = answer(alloc, &statement, tables.as_slice(), options)
+        .ok()
+        .ok_or("an answer")?;
+    let direct = answer_directly(alloc, &statement, tables.as_slice(), options)
+        .ok()
+        .ok_or("a direct answer")?;
+    let want =
+        "row_lo,row,row_hi,city_lo,city,city_hi,s_lo,s,s_hi\n1,1,1,Bergen,Bergen,Bergen,5,5,17\n0,1,2,Bergen,Oslo,Oslo,0,17,24\n";
+    assert_eq!(rt;
+        csv_text(alloc, &planned)?.as_slice(),
+        want.as_bytes(),
+        "by plans"
+    );
+    assert_eq!(rt;
+        csv_text(alloc, &direct)?.as_slice(),
+        want.as_bytes(),
+        "directly"
+    );
+    Ok(())
+}
+
+#[test]
+fn a_join_has_an_answer_in_the_guess_world(rt: HostRuntime) -> Result<(), Fail> {
+    let alloc = rt.alloc();
+    let tables = tables(alloc)?;
+    let query = "SELECT o.id, r.fee FROM orders o, rates AS r WHERE o.city = r.city";
+    let statement = read_query(alloc, query).ok().ok_or("a statement")?;
+    let guess = guess_answer(alloc, &statement, tables.as_slice())
+        .ok()
+        .ok_or("an answer")?;
+    let text = guess_text(alloc, guess.names.as_slice(), &guess.rows)
+        .ok()
+        .ok_or("a text")?;
+    assert_eq!(rt;
+        text.as_slice(),
+        b"row,id,fee\n1,1,3\n1,2,4\n1,3,3\n".as_slice()
+    );
+    Ok(())
+}
+
+#[test]
+fn a_refused_text_has_its_byte(rt: HostRuntime) -> Result<(), Fail> {
+    let cases = [
+        ("SELECT 'a", EngineFault::Query(QueryFault::OpenText(7))),
+        ("SELECT id FROM", EngineFault::Query(QueryFault::Syntax(14))),
+        (
+            "SELECT 1 FROM a,b,c,d,e,f,g,h,i",
+            EngineFault::Limit(LimitFault::FromItems(30)),
+        ),
+    ];
+    for (text, want) in cases {
+        let fault = read_query(rt.alloc(), text).err();
+        assert_eq!(rt; fault, Some(want), "{text}");
+    }
+    Ok(())
+}
+
+#[test]
+fn a_defect_has_its_byte(rt: HostRuntime) -> Result<(), Fail> {
+    let alloc = rt.alloc();
+    let tables = tables(alloc)?;
+    let options = Options { combine: true };
+    let statement = read_query(alloc, "SELECT z FROM orders")
+        .ok()
+        .ok_or("a statement")?;
+    let fault = answer(alloc, &statement, tables.as_slice(), options).err();
+    let want = EngineFault::Query(QueryFault::UnknownColumn(7));
+    assert_eq!(rt; fault, Some(want));
+    Ok(())
+}
