@@ -1,8 +1,12 @@
 //! Statements over the tables of two files.
+ghost use Rattle.au_parse.specs.Views.{statement_tree};
+ghost use Rattle.au_parse.specs.Whole.{WholeQuery};
+
 use crate::{
     EngineFault, LimitFault, Options, QueryFault, answer, answer_directly, guess_answer, read_query,
 };
 use au_blocks::{Table, read_table};
+use au_parse::Statement;
 use au_print::{csv_text, guess_text};
 use au_value::Word;
 use std::alloc::Global;
@@ -24,31 +28,47 @@ fn tables(alloc: Global) -> Result<Vec<(Word, Table)>, Fail> {
     Ok(tables)
 }
 
+// The text of a statement's answer, by plans or directly.
+fn planned_text(alloc: Global, statement: &Statement, tables: &[(Word, Table)]) -> Option<Vec<u8>>
+    requires { WholeQuery (statement_tree statement.now) }
+{
+    match answer(alloc, statement, tables, Options { combine: false }) {
+        Ok(answer) => csv_text(alloc, &answer).ok(),
+        Err(_) => None,
+    }
+}
+
+fn direct_text(alloc: Global, statement: &Statement, tables: &[(Word, Table)]) -> Option<Vec<u8>>
+    requires { WholeQuery (statement_tree statement.now) }
+{
+    match answer_directly(alloc, statement, tables, Options { combine: false }) {
+        Ok(answer) => csv_text(alloc, &answer).ok(),
+        Err(_) => None,
+    }
+}
+
+// The text of a statement's answer in the guess world.
+fn guessed_text(alloc: Global, statement: &Statement, tables: &[(Word, Table)]) -> Option<Vec<u8>>
+    requires { WholeQuery (statement_tree statement.now) }
+{
+    match guess_answer(alloc, statement, tables) {
+        Ok(guess) => guess_text(alloc, guess.names.as_slice(), &guess.rows).ok(),
+        Err(_) => None,
+    }
+}
+
 #[test]
 fn a_statement_has_one_answer_by_both_roads(rt: HostRuntime) -> Result<(), Fail> {
     let alloc = rt.alloc();
     let tables = tables(alloc)?;
     let query = "SELECT city, SUM(amount) AS s FROM orders GROUP BY city";
     let statement = read_query(alloc, query).ok().ok_or("a statement")?;
-    let options = Options { combine: false };
-    let planned = answer(alloc, &statement, tables.as_slice(), options)
-        .ok()
-        .ok_or("an answer")?;
-    let direct = answer_directly(alloc, &statement, tables.as_slice(), options)
-        .ok()
-        .ok_or("a direct answer")?;
     let want =
         "row_lo,row,row_hi,city_lo,city,city_hi,s_lo,s,s_hi\n1,1,1,Bergen,Bergen,Bergen,5,5,17\n0,1,2,Bergen,Oslo,Oslo,0,17,24\n";
-    assert_eq!(rt;
-        csv_text(alloc, &planned)?.as_slice(),
-        want.as_bytes(),
-        "by plans"
-    );
-    assert_eq!(rt;
-        csv_text(alloc, &direct)?.as_slice(),
-        want.as_bytes(),
-        "directly"
-    );
+    let planned = planned_text(alloc, &statement, tables.as_slice()).ok_or("an answer")?;
+    assert_eq!(rt; planned.as_slice(), want.as_bytes(), "by plans");
+    let direct = direct_text(alloc, &statement, tables.as_slice()).ok_or("a direct answer")?;
+    assert_eq!(rt; direct.as_slice(), want.as_bytes(), "directly");
     Ok(())
 }
 
@@ -58,12 +78,7 @@ fn a_join_has_an_answer_in_the_guess_world(rt: HostRuntime) -> Result<(), Fail> 
     let tables = tables(alloc)?;
     let query = "SELECT o.id, r.fee FROM orders o, rates AS r WHERE o.city = r.city";
     let statement = read_query(alloc, query).ok().ok_or("a statement")?;
-    let guess = guess_answer(alloc, &statement, tables.as_slice())
-        .ok()
-        .ok_or("an answer")?;
-    let text = guess_text(alloc, guess.names.as_slice(), &guess.rows)
-        .ok()
-        .ok_or("a text")?;
+    let text = guessed_text(alloc, &statement, tables.as_slice()).ok_or("an answer")?;
     assert_eq!(rt;
         text.as_slice(),
         b"row,id,fee\n1,1,3\n1,2,4\n1,3,3\n".as_slice()
