@@ -1,5 +1,5 @@
 -- A grouping of rows that are made from others, with the groups of the others.
-use Rattle.std.specs.Prelude.{◌≡◌, ℕ, ◌<◌, Bool, true, false, cond, List, [], ◌∷◌, ◌++◌, map, filter}
+use Rattle.std.specs.Prelude.{◌≡◌, ℕ, ◌<◌, Bool, true, false, cond, List, [], ◌∷◌, ◌++◌, map, filter, flat_map}
 use Rattle.std.specs.List.{AllByRecursion}
 use Rattle.std.proofs.Common.{arith, refl, ◌∙◌, ap}
 use Rattle.au_value.specs.declared.value.Value.{Value}
@@ -9,6 +9,7 @@ use Rattle.au_algebra.proofs.Copies.{copies-cons, counted_other}
 use Rattle.au_algebra.proofs.DistinctKeys.{occurs_distinct}
 use Rattle.au_plain.specs.declared.plan.PAgg.{PAgg}
 use Rattle.au_plain.specs.Meaning.{kept, plain_group, plain_aggregate}
+use Rattle.au_plain.specs.PlanNumbers.{magnitudes, group_numbers}
 use Rattle.au_rwexpr.proofs.Gives.{map_valid, map-map}
 
 module _ {S : Type 0} (P : S → Type 0) (f : S → List Value) where
@@ -34,6 +35,14 @@ module _ {S : Type 0} (P : S → Type 0) (f : S → List Value) where
         (λ key. filter_made (λ row. same_row key (kept places row)) (λ x. same_row key (keys x)) xs v (λ x p. ap (same_row key) (same x p))) in
         let all : map (kept places) (map f xs) ≡ map keys xs = map-map f (kept places) xs ∙ map_valid P (λ x. kept places (f x)) keys xs v same in
         λ i. map (λ key. key ++ map (plain_aggregate (made key i)) aggs) (distinct same_row (all i))
+
+    -- and the numbers of their sums
+    pub numbers_made : (aggs : List PAgg) (xs : List S) → AllByRecursion P xs → group_numbers places aggs (map f xs) ≡ flat_map (λ key. flat_map (magnitudes (map f (belonging key xs))) aggs) (distinct same_row (map keys xs))
+    numbers_made aggs xs v =
+        let made : (key : List Value) → filter (λ row. same_row key (kept places row)) (map f xs) ≡ map f (belonging key xs) =
+        (λ key. filter_made (λ row. same_row key (kept places row)) (λ x. same_row key (keys x)) xs v (λ x p. ap (same_row key) (same x p))) in
+        let all : map (kept places) (map f xs) ≡ map keys xs = map-map f (kept places) xs ∙ map_valid P (λ x. kept places (f x)) keys xs v same in
+        λ i. flat_map (λ key. flat_map (magnitudes (made key i)) aggs) (distinct same_row (all i))
 
 -- a group with a key that occurs: a first one, and others
 module _ {S : Type 0} (keys : S → List Value) where

@@ -1,6 +1,9 @@
 pub mod BoxKinds
 pub mod BoxPlaces
 pub mod BoxRows
+pub mod CombineNumbers
 pub mod CombineRows
-pub mod Counting
 pub mod Grouping
+pub mod Laws
+pub mod OneTable
+pub mod Steps

@@ -11,16 +11,16 @@ use Rattle.au_expr.specs.Ordinary.{is_true}
 use Rattle.au_algebra.specs.Lists.{same_row}
 use Rattle.au_algebra.specs.Bounded.{RangeRow}
 use Rattle.au_algebra.specs.Laws.{IsRangeRow}
-use Rattle.au_plain.specs.PTerms.{plain_value}
+use Rattle.au_plain.specs.PTerms.{Column, And, plain_value}
 use Rattle.au_plain.specs.Meaning.{kept, passes}
 use Rattle.au_encode.specs.Encode.{encode_row}
 use Rattle.au_encode.proofs.Decoded.{cells_length}
 use Rattle.au_rwexpr.specs.Cells.{run}
-use Rattle.au_rwdiff.specs.Meets.{meets}
+use Rattle.au_rwdiff.specs.Meets.{meets, same_guesses, surely_equal}
 use Rattle.au_rwdiff.specs.Differences.{taken_columns}
 use Rattle.au_rwexpr.proofs.Places.{At, at_past, Ends, EndsOfAll, ends_more, all_ends_more}
-use Rattle.au_rwexpr.proofs.Columns.{adds}
-use Rattle.au_rwexpr.proofs.OnValues.{reading, column_has}
+use Rattle.au_rwexpr.proofs.Columns.{AllMean, adds}
+use Rattle.au_rwexpr.proofs.OnValues.{reading, Has, column_has}
 use Rattle.au_rwexpr.proofs.Picks.{Picks, kept_are, coded_cells, coded_long, right_cells, right_triple, pair_long}
 use Rattle.au_combine.proofs.BoxPlaces.{run_picks}
 use Rattle.au_rwexpr.specs.Adding.{grow}
@@ -51,7 +51,7 @@ module _ (ks : List Kind) where
   abbrev u : ℕ
   u = 3 * c + 3 + 3 * c
 
-  long : (r : RangeRow) → IsRangeRow ks r → length r.cells ≡ c
+  pub long : (r : RangeRow) → IsRangeRow ks r → length r.cells ≡ c
   long r v = cells_length IsRangeOf ks r.cells v.cells
 
   abbrev pub right_row : Side → List Value
@@ -91,16 +91,16 @@ module _ (ks : List Kind) where
     as_pair : pair_row ++ value.Flag s.1.0 ∷ [] ≡ joined s
     as_pair = append_assoc (encode_row s.0) (encode_row s.1.1) (value.Flag s.1.0 ∷ [])
 
-    lefts : EndsOfAll rl rs rh (joined s) 0 s.0.cells
+    pub lefts : EndsOfAll rl rs rh (joined s) 0 s.0.cells
     lefts = all_ends_more rl rs rh (encode_row s.0) (right_row s.1) 0 s.0.cells (coded_cells rl rs rh cl cg cm c s.0.cells s.0.annot (long s.0 v.0))
 
-    rights : EndsOfAll rl rs rh (joined s) w s.1.1.cells
+    pub rights : EndsOfAll rl rs rh (joined s) w s.1.1.cells
     rights =
         subst (λ r. EndsOfAll rl rs rh r w s.1.1.cells) as_pair
         (all_ends_more rl rs rh pair_row (value.Flag s.1.0 ∷ []) w s.1.1.cells
         (right_cells rl rs rh cl cg cm c c s.0.cells s.1.1.cells s.0.annot s.1.1.annot (long s.0 v.0) (long s.1.1 v.1)))
 
-    triple : Ends cl cg cm (joined s) u s.1.1.annot
+    pub triple : Ends cl cg cm (joined s) u s.1.1.annot
     triple =
         subst (λ r. Ends cl cg cm r u s.1.1.annot) as_pair
         (ends_more cl cg cm pair_row (value.Flag s.1.0 ∷ []) u s.1.1.annot
@@ -109,7 +109,7 @@ module _ (ks : List Kind) where
     pair_is_long : length pair_row ≡ w + w
     pair_is_long = pair_long rl rs rh cl cg cm c c s.0.cells s.1.1.cells s.0.annot s.1.1.annot (long s.0 v.0) (long s.1.1 v.1) ∙ (let e : 3 * c + 3 + 3 * c + 3 ≡ w + w = omega arith in e)
 
-    flag : At (joined s) (w + w) (value.Flag s.1.0)
+    pub flag : At (joined s) (w + w) (value.Flag s.1.0)
     flag = subst (λ r. At r (w + w) (value.Flag s.1.0)) as_pair (at_past pair_row (value.Flag s.1.0 ∷ []) 0 (w + w) (value.Flag s.1.0) (omega (arith, pair_is_long)) refl)
 
     pub joined_long : length (joined s) ≡ w + w + 1
@@ -124,24 +124,32 @@ module _ (ks : List Kind) where
     and_true true = refl
     and_true false = refl
 
-    pub taken_grown : grow (taken_columns c) (joined s) ≡ joined s ++ new s
-    taken_grown =
-        let f = column_has (joined s) (w + w) (value.Flag s.1.0) flag in
+    -- whether the row is one of the right side, and what it would take
+    pub flag_has : Has (joined s) (Column (w + w)) (value.Flag s.1.0)
+    flag_has = column_has (joined s) (w + w) (value.Flag s.1.0) flag
+
+    pub same_is : Has (joined s) (And (Column (w + w)) (same_guesses 0 w c)) (value.Flag (s.1.0 && same s.0 s.1.1))
+    same_is = λ more. λ i. on_values.and (flag_has more i) (same_has (joined s) 0 w c s.0.cells s.1.1.cells (long s.0 v.0) (long s.1.1 v.1) lefts rights more i)
+
+    pub sure_is : Has (joined s) (And (Column (w + w)) (surely_equal 0 w c)) (value.Flag (s.1.0 && sure s.0 s.1.1))
+    sure_is = λ more. λ i. on_values.and (flag_has more i) (surely_has (joined s) 0 w c s.0.cells s.1.1.cells (long s.0 v.0) (long s.1.1 v.1) lefts rights more i)
+
+    pub taken_mean : AllMean reading (joined s) (taken_columns c) (new s)
+    taken_mean =
         let l = column_has (joined s) u (cl s.1.1.annot) triple.lo in
         let g = column_has (joined s) (u + 1) (cg s.1.1.annot) triple.sg in
-        let m = column_has (joined s) (u + 2) (cm s.1.1.annot) triple.hi in
-        let same_is = same_has (joined s) 0 w c s.0.cells s.1.1.cells (long s.0 v.0) (long s.1.1 v.1) lefts rights in
-        let sure_is = surely_has (joined s) 0 w c s.0.cells s.1.1.cells (long s.0 v.0) (long s.1.1 v.1) lefts rights in
-        grow_is (taken_columns c) (joined s) (joined s ++ new s)
-        (adds reading (joined s) (taken_columns c) (new s) (
+        let m = column_has (joined s) (u + 2) (cm s.1.1.annot) triple.hi in (
           (λ more.
-              (λ i. Some (on_values.choose (f more i) (m more i) (value.Int (pos 0))))
+              (λ i. Some (on_values.choose (flag_has more i) (m more i) (value.Int (pos 0))))
               ∙ ap Some (ap (λ b. if b then value.Int (pos s.1.1.annot.most) else value.Int (pos 0)) (and_true s.1.0) ∙ count_if (s.1.0 && true) s.1.1.annot.most)),
           (
-            (λ more. (λ i. Some (on_values.choose (on_values.and (f more i) (same_is more i)) (g more i) (value.Int (pos 0)))) ∙ ap Some (count_if (s.1.0 && same s.0 s.1.1) s.1.1.annot.guess)),
-            ((λ more. (λ i. Some (on_values.choose (on_values.and (f more i) (sure_is more i)) (l more i) (value.Int (pos 0)))) ∙ ap Some (count_if (s.1.0 && sure s.0 s.1.1) s.1.1.annot.least)), tt),
+            (λ more. (λ i. Some (on_values.choose (same_is more i) (g more i) (value.Int (pos 0)))) ∙ ap Some (count_if (s.1.0 && same s.0 s.1.1) s.1.1.annot.guess)),
+            ((λ more. (λ i. Some (on_values.choose (sure_is more i) (l more i) (value.Int (pos 0)))) ∙ ap Some (count_if (s.1.0 && sure s.0 s.1.1) s.1.1.annot.least)), tt),
           ),
-        ))
+        )
+
+    pub taken_grown : grow (taken_columns c) (joined s) ≡ joined s ++ new s
+    taken_grown = grow_is (taken_columns c) (joined s) (joined s ++ new s) (adds reading (joined s) (taken_columns c) (new s) taken_mean)
 
   pub row_long : (r : RangeRow) → IsRangeRow ks r → length (encode_row r) ≡ w
   row_long r v = coded_long rl rs rh cl cg cm c r.cells r.annot (long r v)

@@ -4,6 +4,7 @@ use Rattle.std.specs.List.{AllByRecursion}
 use Rattle.std.proofs.Common.{refl, sym, ◌∙◌, ap}
 use Rattle.std.proofs.lemmas.Bool.{true≢false, false_from_ne_true}
 use Rattle.std.proofs.lemmas.List.{map-append, append-nil}
+use Rattle.std.proofs.lemmas.List.Folds.{flat_map-map}
 use Rattle.au_value.specs.declared.value.Value.{Value}
 use Rattle.au_algebra.specs.Lists.{distinct, same_row}
 use Rattle.au_algebra.specs.Ordinary.{Rows}
@@ -13,10 +14,15 @@ use Rattle.au_algebra.proofs.Filters.{filter_again}
 use Rattle.au_plain.specs.declared.plan.PAgg.{PAgg}
 use Rattle.au_plain.specs.Meaning.{kept, plain_group, plain_aggregate}
 use Rattle.au_rwexpr.proofs.Gives.{map_valid, map-map}
-use Rattle.au_combine.proofs.Grouping.{group_made}
+use Rattle.au_plain.specs.PlanNumbers.{magnitudes, group_numbers}
+use Rattle.au_combine.proofs.Grouping.{group_made, numbers_made}
 
 pub turned : (j k : List Value) → same_row j k ≡ false → same_row k j ≡ false
 turned j k e = false_from_ne_true (same_row k j) (λ t. true≢false (sym (ap (λ m. same_row m k) (sym (same_row_is k j t)) ∙ same_row_refl k) ∙ e))
+
+pub flat_map_valid : {A B : Type 0} (P : A → Type 0) (f g : A → List B) (xs : List A) → AllByRecursion P xs → ((x : A) → P x → f x ≡ g x) → flat_map f xs ≡ flat_map g xs
+flat_map_valid P f g [] v same = refl
+flat_map_valid P f g (x ∷ xs) v same = λ i. same x v.0 i ++ flat_map_valid P f g xs v.1 same i
 
 -- pairwise different rows
 abbrev pub Apart : {T : Type 0} → (T → List Value) → List T → Type 0
@@ -146,3 +152,13 @@ module _ {T M : Type 0} (e : T → List Value) (members : T → List M) where
         ∙ map_valid (Own ts) (λ t. e t ++ map (plain_aggregate (map f (filter (λ s. same_row (e t) (key s)) (pairs ts)))) aggs)
         (λ t. e t ++ map (plain_aggregate (map f (with_left t (members t)))) aggs) ts (all_own ts a)
         (λ t own. ap (λ ss. e t ++ map (plain_aggregate (map f ss)) aggs) own)
+
+    -- the numbers of their sums
+    pub join_numbers : (aggs : List PAgg) (ts : List T) → Apart e ts → AllByRecursion Met ts → AllByRecursion P (pairs ts) → group_numbers places aggs (map f (pairs ts)) ≡ flat_map (λ t. flat_map (magnitudes (map f (with_left t (members t)))) aggs) ts
+    join_numbers aggs ts a met v =
+        let of_key = λ (k : List Value). flat_map (magnitudes (map f (filter (λ s. same_row k (key s)) (pairs ts)))) aggs in
+        numbers_made P f key places same aggs (pairs ts) v
+        ∙ ap (flat_map of_key) (pair_keys ts a met)
+        ∙ flat_map-map of_key e ts
+        ∙ flat_map_valid (Own ts) (λ t. of_key (e t)) (λ t. flat_map (magnitudes (map f (with_left t (members t)))) aggs) ts (all_own ts a)
+        (λ t own. ap (λ ss. flat_map (magnitudes (map f ss)) aggs) own)

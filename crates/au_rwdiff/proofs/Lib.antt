@@ -1,11 +1,15 @@
-pub mod Counting
+pub mod CombinedOnce
 pub mod DifferenceGives
 pub mod DifferenceKinds
+pub mod DifferenceNumbers
 pub mod DifferenceRows
 pub mod Flags
 pub mod Floor
 pub mod JoinGroups
 pub mod JoinRows
+pub mod Laws
 pub mod Meeting
+pub mod MeetingNumbers
+pub mod Minus
 pub mod RowsApart
 pub mod Taken

@@ -12,21 +12,15 @@ use Rattle.au_algebra.specs.Bounded as bounded
 use Rattle.au_algebra.specs.Bounded.{RangeRow, Bounded, hull_of, guessing, merged}
 use Rattle.au_algebra.specs.Laws.{IsRangeRow, IsRelation}
 use Rattle.au_algebra.proofs.Copies.{same_row_is, same_row_refl}
-use Rattle.au_algebra.proofs.DifferenceRelation.{combine_relation}
 use Rattle.au_algebra.proofs.Each.{all_filter, all_from}
 use Rattle.au_plain.specs.Meaning.{kept}
-use Rattle.au_plain.specs.Plans.{PlanTree}
 use Rattle.au_encode.specs.Encode.{encode_row, encode_cells, encode_counts}
 use Rattle.au_encode.proofs.Decoded.{cells_length}
-use Rattle.au_combine.specs.Boxes.{sg_places, combine}
-use Rattle.au_rwdiff.specs.Differences.{difference}
+use Rattle.au_combine.specs.Boxes.{sg_places}
 use Rattle.au_rwexpr.proofs.Places.{EndsOfAll, all_ends_at}
 use Rattle.au_rwexpr.proofs.Picks.{Picks, kept_are}
-use Rattle.au_rwexpr.proofs.Gives.{Gives}
 use Rattle.au_combine.proofs.Grouping.{Some, all_occur, some_with}
 use Rattle.au_combine.proofs.BoxRows.{hull_long}
-use Rattle.au_combine.proofs.CombineRows.{combine_gives}
-use Rattle.au_rwdiff.proofs.DifferenceGives.{difference_gives}
 use Rattle.au_rwdiff.proofs.JoinGroups.{Apart, distinct_apart}
 use Rattle.au_rwexpr.proofs.Coded.{rl, rs, rh}
 
@@ -74,24 +68,30 @@ module _ {S : Type 0} (P : S → Type 0) (cells : S → List Span) (k : ℕ) (lo
   abbrev keys : S → List Value
   keys s = guesses (cells s)
 
-  -- a box of a key that occurs shows the key
-  pub box_shows : (key : List Value) (more : List Value) → Some keys key xs → kept (sg_places 0 k) (encode_cells (hull_of (map cells (filter (λ s. same_row key (keys s)) xs))) ++ more) ≡ key
-  box_shows key more some =
-      let group = filter (λ s. same_row key (keys s)) xs in
-      let all = subst (λ ss. AllByRecursion P ss) some.is (all_filter P (λ s. same_row key (keys s)) xs ok) in
-      let longs = all_from P (λ s. length (cells s) ≡ k) (some.first ∷ some.others) long all in
-      let box_long : length (hull_of (map cells group)) ≡ k = subst (λ ss. length (hull_of (map cells ss)) ≡ k) (sym some.is) (hull_long cells k some.first some.others longs) in
-      let box_guess : guesses (hull_of (map cells group)) ≡ key =
-      ap (λ ss. guesses (hull_of (map cells ss))) some.is ∙ guesses-hull cells k some.first some.others longs ∙ sym (same_row_is key (keys some.first) some.key_is) in
-      let box = hull_of (map cells group) in
-      kept_are (encode_cells box ++ more) (sg_places 0 k) (guesses box) (guess_picks (encode_cells box ++ more) 0 k box box_long (all_ends_at rl rs rh [] more 0 box refl)) ∙ box_guess
+  -- a box of a key that occurs has the key for its guesses
+  module _ (key : List Value) (some : Some keys key xs) where
+    abbrev group : List S
+    group = filter (λ s. same_row key (keys s)) xs
+
+    longs : AllByRecursion (λ s. length (cells s) ≡ k) (some.first ∷ some.others)
+    longs = all_from P (λ s. length (cells s) ≡ k) (some.first ∷ some.others) long (subst (λ ss. AllByRecursion P ss) some.is (all_filter P (λ s. same_row key (keys s)) xs ok))
+
+    pub box_guesses : guesses (hull_of (map cells group)) ≡ key
+    box_guesses = ap (λ ss. guesses (hull_of (map cells ss))) some.is ∙ guesses-hull cells k some.first some.others longs ∙ sym (same_row_is key (keys some.first) some.key_is)
+
+    -- and shows it
+    pub box_shows : (more : List Value) → kept (sg_places 0 k) (encode_cells (hull_of (map cells group)) ++ more) ≡ key
+    box_shows more =
+        let box = hull_of (map cells group) in
+        let box_long : length box ≡ k = subst (λ ss. length (hull_of (map cells ss)) ≡ k) (sym some.is) (hull_long cells k some.first some.others longs) in
+        kept_are (encode_cells box ++ more) (sg_places 0 k) (guesses box) (guess_picks (encode_cells box ++ more) 0 k box box_long (all_ends_at rl rs rh [] more 0 box refl)) ∙ box_guesses
 
   -- so the boxes of the distinct keys are pairwise different
   pub boxes_apart : (more : List Value → List Value) → Apart (λ key. encode_cells (hull_of (map cells (filter (λ s. same_row key (keys s)) xs))) ++ more key) (distinct same_row (map keys xs))
   boxes_apart more =
       apart_from (λ key. encode_cells (hull_of (map cells (filter (λ s. same_row key (keys s)) xs))) ++ more key) (kept (sg_places 0 k)) (distinct same_row (map keys xs))
       (all_from (λ key. 0 < copies key (map keys xs)) (λ u. kept (sg_places 0 k) (encode_cells (hull_of (map cells (filter (λ s. same_row u (keys s)) xs))) ++ more u) ≡ u) (distinct same_row (map keys xs))
-      (λ key o. box_shows key (more key) (some_with keys key xs o)) (all_occur keys xs))
+      (λ key o. box_shows key (some_with keys key xs o) (more key)) (all_occur keys xs))
       (distinct_apart (map keys xs))
 
 -- the rows of a combined relation are pairwise different
@@ -100,7 +100,14 @@ combine_apart ks rows ok =
     apart_mapped (λ key. merged (guessing key rows)) encode_row (distinct same_row (map (λ r. guesses r.cells) rows))
     (boxes_apart (IsRangeRow ks) (λ r. r.cells) (length ks) (λ r v. cells_length IsRangeOf ks r.cells v.cells) rows ok (λ key. encode_counts (merged (guessing key rows)).annot))
 
--- Difference's plan over the combined left side gives the rows of the bounded operator.
-pub combined_difference_gives : (ks : List Kind) (ts : List Rows) (p q : PlanTree) (left right : Bounded) → IsRelation ks left → IsRelation ks right → Gives ts p left → Gives ts q right → Gives ts (difference (length ks) (combine (length ks) p) q) (bounded.difference left right)
-combined_difference_gives ks ts p q left right v w g h =
-    difference_gives ks (bounded.combine left) right (combine_relation ks left v) w (combine_apart ks left v) ts (combine (length ks) p) q (combine_gives ks ts p left v g) h
+-- and so are their guesses
+pub combine_guesses_apart : (ks : List Kind) (rows : Bounded) → IsRelation ks rows → Apart (λ r. guesses r.cells) (bounded.combine rows)
+combine_guesses_apart ks rows ok =
+    let shown = λ (r : RangeRow). guesses r.cells in
+    let all = distinct same_row (map shown rows) in
+    let own = λ (key : List Value). merged (guessing key rows) in
+    apart_mapped own shown all
+    (apart_from (λ key. shown (own key)) (λ key. key) all
+    (all_from (λ key. 0 < copies key (map shown rows)) (λ key. shown (own key) ≡ key) all
+    (λ key o. box_guesses (IsRangeRow ks) (λ r. r.cells) (length ks) (λ r v. cells_length IsRangeOf ks r.cells v.cells) rows ok key (some_with shown key rows o)) (all_occur shown rows))
+    (distinct_apart (map shown rows)))

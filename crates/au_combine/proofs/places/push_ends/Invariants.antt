@@ -1,0 +1,13 @@
+-- The aggregates so far, with those of the ranges that are left, are those of all.
+use Rattle.std.proofs.Common.{◌≡◌, ◌++◌, ◌+◌, ◌*◌}
+use Rattle.au_combine.specs.Boxes.{box_aggs}
+use Rattle.au_combine.proofs.places.push_ends.Given as goal
+
+abbrev pub invariant-loop-left : goal.invariant-loop-left
+invariant-loop-left l = record {
+  placed : l.aggs.items ++ box_aggs l.place l.left ≡ l.fn.aggs.items ++ box_aggs l.fn.from l.fn.columns;
+  room : l.place + 3 * l.left ≡ l.fn.from + 3 * l.fn.columns;
+}
+
+abbrev pub decreases-loop-left : goal.decreases-loop-left
+decreases-loop-left l = l.left

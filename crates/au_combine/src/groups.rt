@@ -1,0 +1,63 @@
+//! Groupings as plans.
+ghost use Rattle.std.specs.Prelude.{◌≡◌, ◌+◌, ◌*◌, ◌<◌, ◌^◌, ◌++◌, IfOk, length};
+ghost use Rattle.au_plain.specs.Plans.{plan_tree};
+ghost use Rattle.au_plain.specs.Plans as tree;
+ghost use Rattle.au_rwexpr.specs.Cells.{run};
+ghost use Rattle.au_combine.specs.Boxes.{box_aggs, boxes as boxed, sg_places, weave};
+
+use crate::places::{push_ends, push_guesses, push_run, push_woven};
+use au_plain::{PAgg, Plan};
+use au_rwexpr::keep;
+use au_value::NoMemory;
+use std::alloc::Global;
+
+/// One row for each list of values in these places: the values, then the aggregates over the rows that have them.
+pub fn group(alloc: Global, keys: Vec<usize>, aggs: Vec<PAgg>, plan: Plan) -> Result<Plan, NoMemory>
+    ensures { IfOk result (λ p. plan_tree p ≡ tree.Group keys.items aggs.items (plan_tree plan)) }
+{
+    Ok(Plan::Group(keys, aggs, Box::new(alloc, plan)?))
+}
+
+/// One row for each list of guesses of the first so many ranges of a plan's rows: the hulls of these ranges over the
+/// rows that have the guesses, then further aggregates over these rows.
+///
+/// `NoMemory` comes also where a row cannot have so many columns.
+pub fn boxes(alloc: Global, of: Plan, columns: usize, further: Vec<PAgg>) -> Result<Plan, NoMemory>
+    ensures { IfOk result (λ p. plan_tree p ≡ boxed columns further.items (plan_tree of)) }
+{
+    let Some(ends) = columns.checked_mul(3) else {
+        return Err(NoMemory);
+    };
+    let Some(_width) = ends.checked_add(further.len()) else {
+        return Err(NoMemory);
+    };
+    let places = box_places(alloc, columns, further.len())?;
+    let mut keys = Vec::new(alloc);
+    push_guesses(&mut keys, 0, columns)?;
+    let aggs = box_aggregates(alloc, columns, further)?;
+    keep(alloc, places, group(alloc, keys, aggs, of)?)
+}
+
+// The places of the ranges in a row of guesses, ends and further columns, and then of these.
+fn box_places(alloc: Global, columns: usize, further: usize) -> Result<Vec<usize>, NoMemory>
+    requires { 3 * columns + further < 2 ^ 64 }
+    ensures { IfOk result (λ v. v.items ≡ weave 0 columns columns ++ run (columns + 2 * columns) further) }
+{
+    let mut places = Vec::new(alloc);
+    push_woven(&mut places, 0, columns, columns)?;
+    push_run(&mut places, columns + 2 * columns, further)?;
+    Ok(places)
+}
+
+// The ends of the ranges, and then the further aggregates.
+fn box_aggregates(alloc: Global, columns: usize, further: Vec<PAgg>) -> Result<Vec<PAgg>, NoMemory>
+    requires { 3 * columns < 2 ^ 64 }
+    ensures { IfOk result (λ v. v.items ≡ box_aggs 0 columns ++ further.items) }
+{
+    let mut aggs = Vec::new(alloc);
+    push_ends(&mut aggs, 0, columns)?;
+    for agg in further {
+        aggs.push(agg)?;
+    }
+    Ok(aggs)
+}
