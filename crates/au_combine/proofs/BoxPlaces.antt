@@ -7,7 +7,8 @@ use Rattle.au_plain.specs.declared.plan.PAgg.TheVariants.{Min, Max}
 use Rattle.au_combine.specs.Boxes.{box_aggs, weave}
 use Rattle.au_rwexpr.specs.Cells.{run}
 use Rattle.au_rwexpr.proofs.Places.{At, at_past, all_ends}
-use Rattle.au_rwexpr.proofs.Picks.{Picks}
+use Rattle.au_rwexpr.proofs.Picks.{Picks, picks_wider}
+use Rattle.au_rwexpr.proofs.Gives.{same_map}
 
 pub map_at : {A B : Type 0} (f : A → B) (xs : List A) (i : ℕ) (x : A) → At xs i x → At (map f xs) i (f x)
 map_at f [] i x h = cc
@@ -80,3 +81,9 @@ run_picks g pre (x ∷ xs) i e = (
   subst (λ r. Picks r (run (i + 1) (length xs)) (map g xs)) (append_assoc pre (g x ∷ []) (map g xs))
       (run_picks g (pre ++ g x ∷ []) xs (i + 1) (omega (arith, e, length-append pre (g x ∷ [])))),
 )
+
+-- a run of places from the first on has the columns that stand there
+pub first_picks : {A : Type 0} (xs more : List A) (w : ℕ) → length xs ≡ w → Picks (xs ++ more) (run 0 w) xs
+first_picks {A} xs more w e =
+    let all : Picks xs (run 0 (length xs)) xs = subst (λ ys. Picks ys (run 0 (length xs)) ys) (same_map xs) (run_picks (λ (x : A). x) [] xs 0 refl) in
+    subst (λ m. Picks (xs ++ more) (run 0 m) xs) e (picks_wider xs more (run 0 (length xs)) xs all)

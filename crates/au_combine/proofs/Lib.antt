@@ -4,6 +4,9 @@ pub mod BoxRows
 pub mod CombineNumbers
 pub mod CombineRows
 pub mod Grouping
+pub mod JoinGroups
+pub mod JoinRows
 pub mod Laws
 pub mod OneTable
+pub mod RowsApart
 pub mod Steps

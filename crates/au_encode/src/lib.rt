@@ -14,6 +14,8 @@
 
 mod decoding;
 mod encoding;
+#[cfg(test)]
+mod tests;
 
 pub use decoding::decode;
 pub use encoding::encode;

@@ -1,12 +1,14 @@
 -- Which plans are typed over tables of which column kinds,
 -- and the kinds of the columns that they give.
-use Rattle.std.specs.Prelude.{◌≡◌, ℕ, ◌&&◌, IsTrue, List, [], ◌∷◌, ◌++◌, length, map, Option, Some, None, is_some, ◌==◌, slice_get, option_and_then, if◌then◌else◌}
+use Rattle.std.specs.Prelude.{◌≡◌, ℕ, Bool, ◌&&◌, IsTrue, List, [], ◌∷◌, ◌++◌, length, map, Option, Some, None, is_some, ◌==◌, slice_get, option_and_then, if◌then◌else◌}
 use Rattle.std.specs.List.{AllByRecursion, AllZip, list_all}
 use Rattle.au_value.specs.declared.kinds.Kind.{Kind}
 use Rattle.au_value.specs.declared.kinds.Kind.TheVariants.{Int, Flag}
 use Rattle.au_value.specs.declared.value.Value.{Value}
 use Rattle.au_value.specs.Order.{kind_of}
 use Rattle.au_expr.specs.Kinds.{kind_if, is_kind, agreed, only_if}
+use Rattle.au_expr.specs.Figures.{fit}
+use Rattle.au_expr.specs.Numbers.{number_if_any}
 use Rattle.au_algebra.specs.Ordinary.{Rows}
 use Rattle.au_algebra.specs.Typing.{all_kinds, kinds_if, same_kinds}
 use Rattle.au_plain.specs.declared.plan.PAgg.{PAgg}
@@ -49,11 +51,16 @@ plain_agg_kind ks (Sum c) = if is_kind Int (slice_get ks c) then Some Int else N
 plain_agg_kind ks (Min c) = slice_get ks c
 plain_agg_kind ks (Max c) = slice_get ks c
 
--- the kinds of rows of a width: all rows have it and the kinds of the first, and above width 0 there is a row
+-- whether each number of a row lies between -2^127 and 2^127 - 1
+abbrev pub row_fits : List Value → Bool
+row_fits row = list_all (λ v. fit (number_if_any v)) row
+
+-- the kinds of rows of a width: all rows have it and the kinds of the first, and their numbers lie in the range;
+-- above width 0 there is a row
 abbrev pub list_kinds : ℕ → List (List Value) → Option (List Kind)
 list_kinds w [] = kinds_if (w == 0) []
 list_kinds w (row ∷ rows) =
-    let ks = map kind_of row in kinds_if (list_all (λ r. (length r == w) && same_kinds (map kind_of r) ks) (row ∷ rows)) ks
+    let ks = map kind_of row in kinds_if (list_all (λ r. (length r == w) && (same_kinds (map kind_of r) ks && row_fits r)) (row ∷ rows)) ks
 
 -- the kinds of a plan's rows over tables of these kinds, and none where it is not typed
 abbrev pub plan_kinds : List (List Kind) → PlanTree → Option (List Kind)
@@ -77,6 +84,13 @@ IsTypedPlan ts p = IsTrue (is_some (plan_kinds ts p))
 -- each row has these kinds
 abbrev pub HaveKinds : List Kind → Rows → Type 0
 HaveKinds ks rows = AllByRecursion (λ row. map kind_of row ≡ ks) rows
+
+-- each number of the rows lies in the range
+abbrev pub FitRows : Rows → Type 0
+FitRows rows = AllByRecursion (λ row. IsTrue (row_fits row)) rows
+
+abbrev pub FitTables : List Rows → Type 0
+FitTables ts = AllByRecursion FitRows ts
 
 -- the plan is typed over these lists of rows: for column kinds that all their rows have
 pub record IsTypedFor (ts : List Rows) (p : PlanTree) : Type 0 where

@@ -1,9 +1,7 @@
-pub mod Allowed
 pub mod CoreKinds
 pub mod ItemSteps
 pub mod Laws
 pub mod OneTable
-pub mod Present
 pub mod ProductNumbers
 pub mod ProductRows
 pub mod ProjectNumbers

@@ -29,7 +29,7 @@ use Rattle.au_rwexpr.proofs.Gives.{Gives}
 use Rattle.au_rwexpr.proofs.OnValues.{column_has}
 use Rattle.au_rwexpr.proofs.Places.{ends}
 use Rattle.au_rwexpr.proofs.PlanNumbersOf.{all_fit, fit_all, numbers-extend_all}
-use Rattle.au_rwcore.proofs.Allowed.{triple_of, all_of, all_split, factor_fits, other_fits}
+use Rattle.au_rwexpr.proofs.Allowed.{triple_of, all_of, all_split, factor_fits, other_fits}
 use Rattle.au_rwcore.proofs.ProductRows.{new, joined, both, at_left, at_right, new_mean, pairs, joined_rows, all_present}
 
 module _ (ks js : List Kind) where

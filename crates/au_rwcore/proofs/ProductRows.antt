@@ -29,7 +29,7 @@ use Rattle.au_rwexpr.proofs.OnValues.{reading, column_has}
 use Rattle.au_rwexpr.proofs.Picks.{kept_are, pair_picks, left_triple, right_triple}
 use Rattle.au_rwexpr.proofs.Gives.{Gives, grow_is, rows-extend_all, map-map}
 use Rattle.au_rwexpr.proofs.Coded.{rl, rs, rh, cl, cg, cm}
-use Rattle.au_rwcore.proofs.Present.{present_map}
+use Rattle.au_rwexpr.proofs.Present.{present_map}
 use Rattle.au_rwexpr.proofs.Places.{Ends}
 use Rattle.au_rwexpr.proofs.Columns.{AllMean}
 

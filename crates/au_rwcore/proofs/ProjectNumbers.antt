@@ -27,7 +27,7 @@ use Rattle.au_rwexpr.proofs.OnNumbers.{Fine, below_fine, careful_steps}
 use Rattle.au_rwexpr.proofs.Picks.{coded_long, coded_cells}
 use Rattle.au_rwexpr.proofs.PlanNumbersOf.{all_fit, all_made, numbers-extend_all}
 use Rattle.au_rwexpr.proofs.Structure.{items_added, items_law}
-use Rattle.au_rwcore.proofs.Allowed.{all_both}
+use Rattle.au_rwexpr.proofs.Allowed.{all_both}
 
 module _ (ks : List Kind) (items : List Term) (js : List Kind) (typed : items_kinds ks items ≡ Some js) where
   abbrev c : ℕ

@@ -26,7 +26,7 @@ use Rattle.au_rwexpr.proofs.OnValues.{reading, value_steps}
 use Rattle.au_rwexpr.proofs.Picks.{kept_are, coded_long, coded_cells, coded_triple, picks_more, pick_three}
 use Rattle.au_rwexpr.proofs.Gives.{Gives, grow_is, rows-extend_all, map-map, map_valid}
 use Rattle.au_rwexpr.proofs.Coded.{rl, rs, rh, cl, cg, cm}
-use Rattle.au_rwcore.proofs.Present.{present_map}
+use Rattle.au_rwexpr.proofs.Present.{present_map}
 
 module _ (ks : List Kind) (items : List Term) (js : List Kind) (typed : items_kinds ks items ≡ Some js) where
   abbrev c : ℕ

@@ -35,7 +35,7 @@ use Rattle.au_rwexpr.proofs.Gives.{Gives}
 use Rattle.au_rwexpr.proofs.OnNumbers.{components_fit, lo_fits, sg_fits, hi_fits}
 use Rattle.au_rwexpr.proofs.OnValues.{lo_has, sg_has, column_has}
 use Rattle.au_rwexpr.proofs.PlanNumbersOf.{all_fit, all_made, made_all, all_passing, passed_all, numbers-extend_all, numbers-filter}
-use Rattle.au_rwcore.proofs.Allowed.{triple_of, fits_now, all_both, left_fits}
+use Rattle.au_rwexpr.proofs.Allowed.{triple_of, fits_now, all_both, left_fits}
 use Rattle.au_rwcore.proofs.SelectRows.{one, new, selected, least_left, guess_left, long, at_whole, at_triple, same_test, new_mean, inner_rows}
 
 module _ (ks : List Kind) (e : Term) (typed : kind_in ks e ≡ Some Flag) where

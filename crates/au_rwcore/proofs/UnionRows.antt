@@ -13,7 +13,7 @@ use Rattle.au_plain.specs.Plans.{PlanTree}
 use Rattle.au_encode.specs.Encode.{encode, encode_row}
 use Rattle.au_rwcore.specs.Core.{union}
 use Rattle.au_rwexpr.proofs.Gives.{Gives}
-use Rattle.au_rwcore.proofs.Present.{present_all}
+use Rattle.au_rwexpr.proofs.Present.{present_all}
 
 -- Union's plan gives the rows of the bounded union.
 pub union_gives : (ks : List Kind) (ts : List Rows) (p q : PlanTree) (xs ys : Bounded) → IsRelation ks xs → IsRelation ks ys → Gives ts p xs → Gives ts q ys → Gives ts (union p q) (bounded.union xs ys)

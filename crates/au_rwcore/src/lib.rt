@@ -16,7 +16,6 @@
 #![tactic(auto)]
 
 mod pairing;
-mod places;
 mod projection;
 mod selection;
 #[cfg(test)]

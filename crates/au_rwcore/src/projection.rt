@@ -8,10 +8,9 @@ ghost use Rattle.au_rwexpr.specs.Flatten.{flatten_items, item_places};
 ghost use Rattle.au_rwcore.specs.Core.{project as projected};
 ghost use Rattle.au_rwcore.specs.Gives.{Projects};
 
-use crate::places::push_three;
 use au_expr::Expr;
 use au_plain::{Layout, PExpr, Plan};
-use au_rwexpr::{RangeColumns, extend_all, keep, push_columns, width_of};
+use au_rwexpr::{RangeColumns, extend_all, keep, push_columns, push_three, width_of};
 use au_value::NoMemory;
 use std::alloc::Global;
 

@@ -10,10 +10,12 @@ ghost use Rattle.au_rwexpr.specs.Flatten.{extend_all as extended};
 ghost use Rattle.au_rwcore.specs.Core.{select as selected, weighed};
 ghost use Rattle.au_rwcore.specs.Gives.{Selects};
 
-use crate::places::{behind, push_cells};
 use au_expr::Expr;
 use au_plain::{Layout, PExpr, Plan};
-use au_rwexpr::{RangeColumns, case, extend, extend_all, filter, keep, push_columns, width_of};
+use au_rwexpr::{
+    RangeColumns, behind, case, extend, extend_all, filter, keep, push_cells, push_columns,
+    width_of,
+};
 use au_value::{NoMemory, Value};
 use std::alloc::Global;
 

@@ -22,6 +22,7 @@ use au_encode::encode;
 use au_exec::run_list;
 use au_expr::{EvalFault, Expr};
 use au_plain::{Layout, PRow, Plan};
+use au_rwexpr::{extend_all, flatten};
 use au_value::{Comparison, NoMemory, Range, Value};
 use std::alloc::{AllocError, Global};
 use std::process::Abort;
@@ -140,6 +141,17 @@ fn run(alloc: Global, plan: &Plan, of: &Rel<Range, Triple>) -> Result<Vec<PRow>,
     run_list(alloc, plan, tables.as_slice())
 }
 
+// The rows of the table with the columns of the item behind them.
+fn flattened(alloc: Global, of: &Rel<Range, Triple>) -> Result<Vec<PRow>, EvalFault>
+    requires { IsRelation (Kind.Int ∷ []) of.now }
+{
+    let item = item(alloc)?;
+    let steps = flatten(alloc, &item, &Layout { columns: 1 })?;
+    let plan = extend_all(alloc, steps.columns, Plan::Scan(0, 6))?;
+    let tables = table(alloc, of)?;
+    run_list(alloc, &plan, tables.as_slice())
+}
+
 fn selected(alloc: Global, of: &Rel<Range, Triple>) -> Result<Vec<PRow>, EvalFault>
     requires { IsRelation (Kind.Int ∷ []) of.now }
 {
@@ -175,6 +187,43 @@ fn doubled(alloc: Global, of: &Rel<Range, Triple>) -> Result<Vec<PRow>, EvalFaul
     run(alloc, &plan, of)
 }
 
+// `5 < 6`, of no column.
+fn always(alloc: Global) -> Result<Expr, NoMemory>
+    ensures { IfOk result (λ e. kind_in [] (term e) ≡ Some Kind.Flag) }
+{
+    let left = Box::new(alloc, Expr::Literal(Value::Int(5)))?;
+    let right = Box::new(alloc, Expr::Literal(Value::Int(6)))?;
+    Ok(Expr::Compare(Comparison::Less, left, right))
+}
+
+// `-5`, of no column.
+fn constant(alloc: Global) -> Result<Expr, NoMemory>
+    ensures { IfOk result (λ e. kind_in [] (term e) ≡ Some Kind.Int) }
+{
+    let five = Box::new(alloc, Expr::Literal(Value::Int(5)))?;
+    Ok(Expr::Negate(five))
+}
+
+// The triples of rows without columns for which a test of constants holds.
+fn kept(alloc: Global, of: &Rel<Range, Triple>) -> Result<Vec<PRow>, EvalFault>
+    requires { IsRelation (Kind.Int ∷ []) of.now }
+{
+    let left = triples(alloc)?;
+    let condition = always(alloc)?;
+    let plan = select(alloc, left, &condition, &Layout { columns: 0 })?;
+    run(alloc, &plan, of)
+}
+
+// A constant for each row without columns.
+fn constants(alloc: Global, of: &Rel<Range, Triple>) -> Result<Vec<PRow>, EvalFault>
+    requires { IsRelation (Kind.Int ∷ []) of.now }
+{
+    let left = triples(alloc)?;
+    let item = constant(alloc)?;
+    let plan = project(alloc, left, &[item], &Layout { columns: 0 })?;
+    run(alloc, &plan, of)
+}
+
 // Each triple with each row.
 fn paired(alloc: Global, of: &Rel<Range, Triple>) -> Result<Vec<PRow>, EvalFault>
     requires { IsRelation (Kind.Int ∷ []) of.now }
@@ -184,6 +233,20 @@ fn paired(alloc: Global, of: &Rel<Range, Triple>) -> Result<Vec<PRow>, EvalFault
     let layout = Layout { columns: 1 };
     let plan = product(alloc, left, Plan::Scan(0, 6), &empty, &layout)?;
     run(alloc, &plan, of)
+}
+
+// The last three values of each row.
+fn last_three(alloc: Global, rows: Vec<PRow>) -> Result<Vec<PRow>, NoMemory> {
+    let mut ends = Vec::new(alloc);
+    for row in rows {
+        let before = row.len().saturating_sub(3);
+        let mut end = Vec::new(alloc);
+        for value in row.into_iter().skip(before) {
+            end.push(value)?;
+        }
+        ends.push(end)?;
+    }
+    Ok(ends)
 }
 
 // All values, one row after the other.
@@ -222,9 +285,41 @@ fn rows_of_plans(rt: HostRuntime) -> Result<(), Fail> {
 }
 
 #[test]
+fn the_last_columns_of_an_expression(rt: HostRuntime) -> Result<(), Fail> {
+    let alloc = rt.alloc();
+    let of = relation(
+        &rt,
+        alloc,
+        &[((1, 2, 9), (1, 1, 2)), ((7, 8, 9), (1, 1, 1))],
+    )?;
+    let rows = flattened(alloc, &of)?;
+    assert!(rt;
+        rows.iter().all(|row| row.len() == 6 + 3 * 8),
+        "three of each part"
+    );
+    let ends = values(alloc, last_three(alloc, rows)?)?;
+    assert_eq!(rt;
+        ends.as_slice(),
+        [1, 3, 10, 1, 1, 1].as_slice(),
+        "the range"
+    );
+    let none = relation(&rt, alloc, &[])?;
+    assert!(rt; flattened(alloc, &none)?.is_empty(), "no rows");
+    Ok(())
+}
+
+#[test]
 fn rows_without_columns(rt: HostRuntime) -> Result<(), Fail> {
     let alloc = rt.alloc();
     let of = relation(&rt, alloc, &[((1, 2, 9), (1, 1, 2))])?;
+    let all = values(alloc, kept(alloc, &of)?)?;
+    assert_eq!(rt; all.as_slice(), [1, 1, 2].as_slice(), "select");
+    let items = values(alloc, constants(alloc, &of)?)?;
+    assert_eq!(rt;
+        items.as_slice(),
+        [-5, -5, -5, 1, 1, 2].as_slice(),
+        "project"
+    );
     let twice = values(alloc, doubled(alloc, &of)?)?;
     assert_eq!(rt; twice.as_slice(), [1, 1, 2, 1, 1, 2].as_slice(), "union");
     let pairs = values(alloc, paired(alloc, &of)?)?;

@@ -1,15 +1,10 @@
-pub mod CombinedOnce
-pub mod DifferenceGives
 pub mod DifferenceKinds
 pub mod DifferenceNumbers
 pub mod DifferenceRows
-pub mod Flags
-pub mod Floor
-pub mod JoinGroups
-pub mod JoinRows
+pub mod FirstGroups
+mod Floor
+pub mod JoinedRows
 pub mod Laws
-pub mod Meeting
-pub mod MeetingNumbers
-pub mod Minus
-pub mod RowsApart
-pub mod Taken
+mod Minus
+mod Taken
+pub mod TwoTables

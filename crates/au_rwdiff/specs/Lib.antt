@@ -1,3 +1,2 @@
 pub mod Differences
 pub mod Gives
-pub mod Meets

@@ -4,7 +4,6 @@ use Rattle.std.specs.List.{AllByRecursion}
 use Rattle.std.proofs.Common.{refl, sym, ◌∙◌, ap}
 use Rattle.std.proofs.lemmas.Bool.{cond_both}
 use Rattle.au_value.specs.declared.value.Value.{Value}
-use Rattle.au_value.specs.Order.{at_most}
 use Rattle.au_value.specs.Ranges.{lesser, greater}
 use Rattle.au_expr.specs.Ordinary as on_values
 use Rattle.au_expr.specs.Ordinary.{is_true}
@@ -16,6 +15,7 @@ use Rattle.au_plain.specs.declared.expr.Comparison2.{Comparison2}
 use Rattle.au_plain.specs.PTerms.{PTerm, plain_value, Column, Add, Subtract, Multiply, Negate, Compare, And, Or, Not, Case}
 use Rattle.au_plain.specs.Meaning.{extended}
 use Rattle.au_plain.specs.PlanNumbers.{term_numbers}
+use Rattle.au_plain.proofs.Held.{fit_lesser, fit_greater}
 use Rattle.au_rwexpr.specs.Flatten.{least_of_two, greatest_of_two}
 use Rattle.au_rwexpr.specs.Adding.{grow, grow_numbers}
 use Rattle.au_rwexpr.proofs.Columns.{Means, AllMean, add_columns}
@@ -47,12 +47,6 @@ careful_grow (e ∷ es) row r h =
     let same : plain_value e row ≡ p.0 = some_is _ _ q.1 in
     let rest = careful_grow es (extended e row) r (ap (λ v. add_columns careful es (row ++ v ∷ [])) same ∙ p.2) in
     (rest.0, fit_both (term_numbers e row) (grow_numbers es (extended e row)) q.0 rest.1)
-
-pub fit_lesser : (a b : Value) → Fit (number_if_any a) → Fit (number_if_any b) → Fit (number_if_any (lesser a b))
-fit_lesser a b p q = cond_both (at_most a b) a b (λ v. Fit (number_if_any v)) (λ _. p) (λ _. q)
-
-pub fit_greater : (a b : Value) → Fit (number_if_any a) → Fit (number_if_any b) → Fit (number_if_any (greater a b))
-fit_greater a b p q = cond_both (at_most a b) b a (λ v. Fit (number_if_any v)) (λ _. q) (λ _. p)
 
 -- each way of making an expression
 module _ (row : List Value) where

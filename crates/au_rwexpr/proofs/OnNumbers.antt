@@ -20,11 +20,12 @@ use Rattle.au_algebra.proofs.Items.{some_is}
 use Rattle.au_plain.specs.declared.expr.Comparison2.{Comparison2}
 use Rattle.au_plain.specs.declared.expr.Comparison2.TheVariants as how
 use Rattle.au_plain.specs.PTerms.{PTerm, Multiply, Compare, And, Case}
+use Rattle.au_plain.proofs.Held.{fit_lesser, fit_greater}
 use Rattle.au_rwexpr.specs.Flatten as step
 use Rattle.au_rwexpr.proofs.Columns.{Means}
 use Rattle.au_rwexpr.proofs.Structure.{Steps, Below, Any}
 use Rattle.au_rwexpr.proofs.OnValues.{reading, span_ends, Has, EndsAt, lo_has, sg_has, hi_has, value_steps}
-use Rattle.au_rwexpr.proofs.Careful.{careful, Fits, all_careful, fit_lesser, fit_greater, column_fits, add_fits, subtract_fits, multiply_fits, least_fits, greatest_fits, compare_fits, and_fits, or_fits, case_fits, negate_fits, not_fits}
+use Rattle.au_rwexpr.proofs.Careful.{careful, Fits, all_careful, column_fits, add_fits, subtract_fits, multiply_fits, least_fits, greatest_fits, compare_fits, and_fits, or_fits, case_fits, negate_fits, not_fits}
 
 three_of : {A B C : Type 0} → A → B → C → A × (B × (C × Unit {0}))
 three_of a b c = (a, (b, (c, tt)))

@@ -1,5 +1,7 @@
 pub mod Adding
 pub mod Cells
+pub mod Copies
 pub mod Counts
 pub mod Flatten
+pub mod Meets
 pub mod Nodes

@@ -15,16 +15,22 @@
 //! It belongs to docs/ARCHITECTURE.md.
 #![tactic(auto)]
 
+mod copies;
 mod expressions;
 mod nodes;
+mod pairwise;
 mod plans;
 mod range_columns;
+mod row_places;
 mod terms;
 
+pub use copies::{copy_expr, copy_plan};
 pub use expressions::{flatten, push_columns};
 pub use nodes::{Node, certainly_equal, overlap};
+pub use pairwise::{meets, same_guesses, surely_equal};
 pub use plans::{extend, extend_all, filter, join, keep, union};
 pub use range_columns::{RangeColumns, width_of};
+pub use row_places::{behind, push_cells, push_three};
 pub use terms::{
     add, and, case, compare, greatest_of_two, least_of_two, multiply, negate, not, or, subtract,
 };

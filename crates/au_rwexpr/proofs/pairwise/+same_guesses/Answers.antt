@@ -1,0 +1,19 @@
+-- The first columns' test, and then the others'.
+use Rattle.std.proofs.Common.{◌≡◌, ◌-◌, ◌∙◌, arith}
+use Rattle.std.proofs.lemmas.Result.{IfOk-weaker}
+use Rattle.au_plain.specs.declared.expr.Comparison2.TheVariants.{Equal}
+use Rattle.au_plain.specs.PTerms.{And, Compare, pterm}
+use Rattle.au_rwexpr.specs.Meets as tests
+use Rattle.au_rwexpr.proofs.PairwiseSteps.{same_step}
+use Rattle.au_rwexpr.proofs.pairwise.+same_guesses.Goals as goal
+
+pub returns : goal.returns
+returns depth c =
+    let i = c.args.left.first in
+    let j = c.args.right.first in
+    let a = c.in_ok-behind.field-0.first in
+    let b = c.in_ok-behind-2.field-0.first in
+    let step = same_step i j a b c.in_ok-behind.ensures c.in_ok-behind-2.ensures c.args.columns (omega (arith, c.if-columns-eq0.false)) in
+    IfOk-weaker c.and.result _ (λ e. pterm e ≡ tests.same_guesses i j c.args.columns)
+    (λ e is. is ∙ (λ k. And (c.in_ok-test.ensures k) (c.in_ok-rest.ensures k))
+    ∙ (λ k. And (Compare Equal (c.sg.ensures k) (c.sg-2.ensures k)) (tests.same_guesses a b (c.args.columns - 1))) ∙ step) c.and.ensures
