@@ -1,0 +1,41 @@
+-- Group by the first columns; and how many Scans its plan has.
+use Rattle.std.specs.Prelude.{ℕ, zero, suc, ◌+◌, ◌≤◌, List, [], ◌∷◌, length, take}
+use Rattle.std.specs.List.{AllByRecursion, AllZip}
+use Rattle.std.proofs.Common.{arith}
+use Rattle.std.proofs.lemmas.List.{length-take-le}
+use Rattle.au_value.specs.declared.kinds.Kind.{Kind}
+use Rattle.au_value.specs.Ranges.{IsRangeOf}
+use Rattle.au_algebra.specs.declared.query.Agg.{Agg}
+use Rattle.au_algebra.specs.Ordinary.{Rows}
+use Rattle.au_algebra.specs.Bounded as bounded
+use Rattle.au_algebra.specs.Bounded.{RangeRow, Bounded}
+use Rattle.au_algebra.specs.Laws.{IsRelation}
+use Rattle.au_plain.specs.Plans.{PlanTree}
+use Rattle.au_encode.proofs.Decoded.{cells_length}
+use Rattle.au_rwgroup.specs.GroupPlan.{group}
+use Rattle.au_rwexpr.proofs.Places.{EndsOfAll}
+use Rattle.au_rwexpr.proofs.Gives.{Gives}
+use Rattle.au_rwgroup.proofs.GroupRows.{group_by_gives}
+use Rattle.au_rwgroup.proofs.MemberColumns.{IsOn}
+use Rattle.au_rwexpr.proofs.Coded.{rl, rs, rh}
+
+-- the first ranges stand in the same columns
+pub take_there : {A X : Type 0} (l s h : X → A) (row : List A) (i m : ℕ) (xs : List X) → EndsOfAll l s h row i xs → EndsOfAll l s h row i (take m xs)
+take_there l s h row i zero xs e = tt
+take_there l s h row i (suc m) [] e = tt
+take_there l s h row i (suc m) (x ∷ xs) e = (e.0, take_there l s h row (i + 3) m xs e.1)
+
+-- the first ranges are of the first kinds
+pub take_zip : {A B : Type 0} (Q : A → B → Type 0) (m : ℕ) (ks : List A) (xs : List B) → AllZip Q ks xs → AllZip Q (take m ks) (take m xs)
+take_zip Q zero ks xs z = tt
+take_zip Q (suc m) [] [] z = tt
+take_zip Q (suc m) [] (x ∷ xs) z = elim z [ ]
+take_zip Q (suc m) (k ∷ ks) [] z = elim z [ ]
+take_zip Q (suc m) (k ∷ ks) (x ∷ xs) z = (z.0, take_zip Q m ks xs z.1)
+
+-- Group's plan gives the rows of the bounded operator, if each aggregate is over a column that is there.
+pub group_gives : (ks : List Kind) (m : ℕ) → m ≤ length ks → (aggs : List Agg) → AllByRecursion (IsOn (length ks)) aggs → (ts : List Rows) (p : PlanTree) (rows : Bounded) → IsRelation ks rows → Gives ts p rows → Gives ts (group (length ks) m aggs p) (bounded.group m aggs rows)
+group_gives ks m fits aggs there ts p rows ok g =
+    group_by_gives ks m (take m)
+    (λ r v. length-take-le m r.cells (omega (arith, fits, cells_length IsRangeOf ks r.cells v.cells)))
+    (λ r v row i e. take_there rl rs rh row i m r.cells e) (take m ks) (λ r v. take_zip IsRangeOf m ks r.cells v.cells) aggs there rows ok ts p g

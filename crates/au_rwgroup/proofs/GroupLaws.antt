@@ -1,0 +1,128 @@
+-- What the plan of Group gives, with the numbers that it makes and the Scans that it has.
+use Rattle.std.specs.Prelude.{◌≡◌, ◌≤◌, ℕ, zero, suc, ◌+◌, ◌*◌, List, [], ◌∷◌, ◌++◌, length, map, take, flat_map, nat_le, Some, option_and_then, ℤ}
+use Rattle.std.proofs.Common.{arith, sym, ◌∙◌, ap, subst}
+use Rattle.std.proofs.lemmas.Bool.{leb-true}
+use Rattle.std.proofs.lemmas.List.{length-take-le}
+use Rattle.au_value.specs.declared.kinds.Kind.{Kind}
+use Rattle.au_value.specs.declared.value.Value.{Value}
+use Rattle.au_value.specs.Ranges.{Span, IsRangeOf}
+use Rattle.au_expr.specs.Figures.{Fit}
+use Rattle.au_expr.proofs.Fits.{fit_parts}
+use Rattle.au_algebra.specs.declared.query.Agg.{Agg}
+use Rattle.au_algebra.specs.Bounded as bounded
+use Rattle.au_algebra.specs.Bounded.{RangeRow, Bounded, guessed_keys, grouped}
+use Rattle.au_algebra.specs.Fits.{agg_numbers, group_numbers, triple_numbers}
+use Rattle.au_algebra.specs.Laws.{IsRangeRow}
+use Rattle.au_algebra.specs.Ordinary.{Rows}
+use Rattle.au_algebra.specs.Typing.{all_kinds, agg_kind, group_kinds}
+use Rattle.au_algebra.proofs.GroupRelation.{group_relation}
+use Rattle.au_algebra.proofs.Items.{and_then_is, chosen_is, some_is}
+use Rattle.au_plain.specs.PTerms.{Column}
+use Rattle.au_plain.specs.Plans.{PlanTree, Join}
+use Rattle.au_plain.specs.PlanKinds.{FitTables}
+use Rattle.au_plain.specs.PlanNumbers.{scans, plan_numbers}
+use Rattle.au_encode.specs.Encode.{encoded_kinds}
+use Rattle.au_encode.specs.Gives.{Gives}
+use Rattle.au_encode.proofs.Decoded.{cells_length}
+use Rattle.au_encode.proofs.HeldCells.{AllFit, gives_held}
+use Rattle.au_rwexpr.specs.Counts.{positive}
+use Rattle.au_rwexpr.specs.Flatten.{sg}
+use Rattle.au_rwexpr.specs.Meets.{meets}
+use Rattle.au_rwexpr.proofs.Coded.{rl, rs, rh, own}
+use Rattle.au_rwexpr.proofs.Counting.{scans-extend_all}
+use Rattle.au_rwexpr.proofs.Places.{EndsOfAll}
+use Rattle.au_rwexpr.proofs.PlanNumbersOf.{all_fit}
+use Rattle.au_rwgroup.specs.Gives.{Groups}
+use Rattle.au_rwgroup.specs.Groups.{group_columns, first_grouping}
+use Rattle.au_rwgroup.specs.GroupPlan.{kept_for, places, all_member_columns, all_member_aggs, all_result_columns, second_grouping, group}
+use Rattle.au_rwgroup.proofs.AggregatesOn.{Typed, typed_on, are_on}
+use Rattle.au_rwgroup.proofs.GroupGives.{group_gives, take_there, take_zip}
+use Rattle.au_rwgroup.proofs.GroupKinds.{group_typed}
+use Rattle.au_rwgroup.proofs.GroupNumbers.{group_fits}
+
+-- the first ranges fit where all do
+first_fit : (m : ℕ) (xs : List Span) → AllFit xs → AllFit (take m xs)
+first_fit zero xs f = tt
+first_fit (suc m) [] f = tt
+first_fit (suc m) (x ∷ xs) f = (f.0, first_fit m xs f.1)
+
+-- the parts of typed keys and aggregates
+record Parts (m : ℕ) (aggs : List Agg) (ks js : List Kind) : Type 0 where
+  pub enough : m ≤ length ks
+  pub others : List Kind
+  pub typed : all_kinds (map (agg_kind ks) aggs) ≡ Some others
+  pub whole : take m ks ++ others ≡ js
+
+parts : (m : ℕ) (aggs : List Agg) (ks js : List Kind) → group_kinds m aggs ks ≡ Some js → Parts m aggs ks js
+parts m aggs ks js h =
+    let p = chosen_is (nat_le m (length ks)) (option_and_then (λ more. Some (take m ks ++ more)) (all_kinds (map (agg_kind ks) aggs))) js h in
+    let q = and_then_is _ (all_kinds (map (agg_kind ks) aggs)) js p.1 in
+    record { enough = leb-true m (length ks) p.0; others = q.0; typed = q.1; whole = some_is _ _ q.2 }
+
+module _ (kinds : List (List Kind)) (tables : List Rows) (ks : List Kind) (m : ℕ) (aggs : List Agg) (of : PlanTree) (rows : Bounded) (ns : List ℤ) (others : List Kind) (enough : m ≤ length ks) (typed : all_kinds (map (agg_kind ks) aggs) ≡ Some others) (tables_fit : FitTables tables) (g : Gives kinds tables of ks rows ns) where
+  abbrev t : Typed ks aggs others
+  t = typed_on ks aggs others typed
+
+  keys_long : length (take m ks) ≡ m
+  keys_long = length-take-le m ks enough
+
+  abbrev kinds_there : (row : List Kind) (i : ℕ) → EndsOfAll own own own row i ks → EndsOfAll own own own row i (take m ks)
+  kinds_there row i e = take_there own own own row i m ks e
+
+  cells_long : (r : RangeRow) → IsRangeRow ks r → length (take m r.cells) ≡ m
+  cells_long r v = length-take-le m r.cells (omega (arith, enough, cells_length IsRangeOf ks r.cells v.cells))
+
+  abbrev cells_there : (r : RangeRow) → IsRangeRow ks r → (row : List Value) (i : ℕ) → EndsOfAll rl rs rh row i r.cells → EndsOfAll rl rs rh row i (take m r.cells)
+  cells_there r v row i e = take_there rl rs rh row i m r.cells e
+
+  abbrev own_numbers : List ℤ
+  own_numbers = group_numbers (take m) aggs rows ++ triple_numbers (bounded.group m aggs rows)
+
+  numbers_fit : Fit (ns ++ own_numbers) → Fit (plan_numbers (group (length ks) m aggs of) tables)
+  numbers_fit f =
+      let p = fit_parts ns own_numbers f in
+      let q = fit_parts (group_numbers (take m) aggs rows) (triple_numbers (bounded.group m aggs rows)) p.1 in
+      group_fits ks m (take m) cells_long cells_there (take m ks) (λ r v. take_zip IsRangeOf m ks r.cells v.cells) aggs t.on rows g.relation kinds tables of g.typed tables_fit g.encoded
+      (gives_held kinds tables of ks rows ns g tables_fit p.0) (g.fit p.0) (λ xs h. first_fit m xs h) keys_long kinds_there
+      (all_fit (λ key. flat_map (agg_numbers (grouped (take m) rows key)) aggs) (guessed_keys (take m) rows) q.0) q.1
+
+  all_given : Gives kinds tables (group (length ks) m aggs of) (take m ks ++ others) (bounded.group m aggs rows) (ns ++ own_numbers)
+  all_given = record {
+    typed =
+        group_typed ks (take m ks) m keys_long kinds_there aggs t.on kinds of g.typed
+        ∙ ap (λ es. Some (encoded_kinds (take m ks ++ es))) (sym t.kinds);
+    relation = group_relation ks others m aggs rows typed g.relation;
+    encoded = group_gives ks m enough aggs (are_on ks aggs t.on) tables of rows g.relation g.encoded;
+    fit = numbers_fit;
+  }
+
+-- the input's plan twice
+twice_scanned : (c k : ℕ) (aggs : List Agg) (p : PlanTree) → scans (group c k aggs p) ≡ 2 * scans p
+twice_scanned c k aggs p =
+    let kept = flat_map kept_for aggs in
+    let b = 3 * k + 3 + length kept in
+    let columns = all_member_columns (places k b (b + 3 * c)) (3 * k + 3) aggs in
+    let boxes = first_grouping c k kept p in
+    let second = second_grouping k b columns (all_member_aggs (b + 3 * c + 8) aggs) boxes p in
+    let finish = all_result_columns (positive (Column (b + 4 * length aggs))) (positive (sg (3 * k))) b aggs in
+    scans-extend_all finish second
+    ∙ scans-extend_all columns (Join (meets b 0 k) boxes p)
+    ∙ (let e : scans boxes + scans p ≡ 2 * scans p = omega (arith, scans-extend_all (group_columns c k) p) in e)
+
+equal_le : (m n : ℕ) → m ≡ n → m ≤ n
+equal_le m n h = omega (arith, h)
+
+module _ (c m : ℕ) (aggs : List Agg) (of p : PlanTree) (is : p ≡ group c m aggs of) where
+  group_as_is : Groups c m aggs of (group c m aggs of)
+  group_as_is kinds tables ks js rows ns fits long typed g =
+      let own = group_numbers (take m) aggs rows ++ triple_numbers (bounded.group m aggs rows) in
+      let q = parts m aggs ks js typed in
+      subst (λ n. Gives kinds tables (group n m aggs of) js (bounded.group m aggs rows) (ns ++ own)) long
+      (subst (λ es. Gives kinds tables (group (length ks) m aggs of) es (bounded.group m aggs rows) (ns ++ own)) q.whole
+      (all_given kinds tables ks m aggs of rows ns q.others q.enough q.typed fits g))
+
+  pub group_gives_all : Groups c m aggs of p
+  group_gives_all = subst (λ q. Groups c m aggs of q) (sym is) group_as_is
+
+  pub group_scans : scans p ≤ 2 * scans of
+  group_scans = equal_le (scans p) (2 * scans of) (ap scans is ∙ twice_scanned c m aggs of)

@@ -1,0 +1,37 @@
+-- The parts of Group's plan, made one by one, are those of the definition.
+use Rattle.std.specs.Prelude.{◌≡◌, ℕ, ◌+◌, ◌*◌, List, length, flat_map}
+use Rattle.std.proofs.Common.{◌∙◌, ap}
+use Rattle.au_algebra.specs.declared.query.Agg.{Agg}
+use Rattle.au_plain.specs.declared.plan.PAgg.{PAgg}
+use Rattle.au_plain.specs.PTerms.{PTerm, Column}
+use Rattle.au_plain.specs.Plans.{PlanTree, Keep}
+use Rattle.au_rwexpr.specs.Counts.{positive}
+use Rattle.au_rwexpr.specs.Flatten.{extend_all}
+use Rattle.au_rwgroup.specs.Groups.{first_grouping}
+use Rattle.au_rwgroup.specs.GroupPlan.{kept_for, places, all_member_columns, all_member_aggs, all_result_columns, second_grouping, result_places, group}
+
+-- the places that were worked out
+pub record PlacesAre (c k : ℕ) (aggs : List Agg) (kept : List PAgg) (counts keys row triple there number : ℕ) : Type 0 where
+  pub kept_is : kept ≡ flat_map kept_for aggs
+  pub counts_is : counts ≡ 3 * k
+  pub keys_is : keys ≡ k
+  pub row_is : row ≡ 3 * k + 3 + length kept
+  pub triple_is : triple ≡ 3 * k + 3 + length kept + 3 * c
+  pub there_is : there ≡ 3 * k + 3 + length kept + 4 * number
+  pub number_is : number ≡ length aggs
+
+module _ (c k : ℕ) (aggs : List Agg) (kept : List PAgg) (counts keys row triple there number : ℕ) (at : PlacesAre c k aggs kept counts keys row triple there number) where
+  -- the whole plan, from its parts
+  pub plan_is : (of groups p : PlanTree) (shown : List ℕ) (columns : List PTerm) → columns ≡ all_result_columns (positive (Column there)) (positive (Column (counts + 1))) row aggs → shown ≡ result_places k (there + 1) number → groups ≡ second_grouping keys row (all_member_columns (places keys row triple) (counts + 3) aggs) (all_member_aggs (triple + 8) aggs) (first_grouping c keys kept of) of → p ≡ Keep shown (extend_all columns groups) → p ≡ group c k aggs of
+  plan_is of groups p shown columns columns_are shown_are groups_are whole =
+      let kept_long = ap (λ xs. 3 * k + 3 + length xs) at.kept_is in
+      let row_at = at.row_is ∙ kept_long in
+      let triple_at = at.triple_is ∙ ap (λ n. n + 3 * c) kept_long in
+      let there_at = at.there_is ∙ (λ i. kept_long i + 4 * at.number_is i) in
+      whole
+      ∙ (λ i. Keep (shown_are i) (extend_all (columns_are i) (groups_are i)))
+      ∙ (λ i.
+      Keep (result_places k (there_at i + 1) (at.number_is i))
+      (extend_all (all_result_columns (positive (Column (there_at i))) (positive (Column (at.counts_is i + 1))) (row_at i) aggs)
+      (second_grouping (at.keys_is i) (row_at i) (all_member_columns (places (at.keys_is i) (row_at i) (triple_at i)) (at.counts_is i + 3) aggs) (all_member_aggs (triple_at i + 8) aggs)
+      (first_grouping c (at.keys_is i) (at.kept_is i) of) of)))

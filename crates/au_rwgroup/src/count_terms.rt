@@ -1,0 +1,64 @@
+//! Terms over counts and certain ranges.
+ghost use Rattle.std.specs.Prelude.{◌≡◌, IfOk};
+ghost use Rattle.au_plain.specs.PTerms.{pterm};
+ghost use Rattle.au_plain.specs.PTerms as term;
+ghost use Rattle.au_rwexpr.specs.Counts.{one_term, positive as is_positive, zero_term};
+ghost use Rattle.au_rwgroup.specs.Groups.{all_sure as are_sure};
+ghost use Rattle.au_rwgroup.specs.Totals.{signed as signed_term};
+
+use au_plain::{Comparison2, PExpr};
+use au_rwexpr::{RangeColumns, and, behind, case, compare, multiply};
+use au_value::{NoMemory, Value};
+use std::alloc::Global;
+
+pub(crate) fn zero() -> PExpr
+    ensures { pterm result ≡ zero_term }
+{
+    PExpr::Literal(Value::Int(0))
+}
+
+pub(crate) fn one() -> PExpr
+    ensures { pterm result ≡ one_term }
+{
+    PExpr::Literal(Value::Int(1))
+}
+
+/// Whether a count is not 0.
+pub(crate) fn positive(alloc: Global, count: PExpr) -> Result<PExpr, NoMemory>
+    ensures { IfOk result (λ e. pterm e ≡ is_positive (pterm count)) }
+{
+    compare(alloc, Comparison2::Less, zero(), count)
+}
+
+/// Whether so many ranges, from a place on, are certain.
+///
+/// `NoMemory` comes also where a row cannot have so many columns.
+pub(crate) fn all_sure(
+    alloc: Global,
+    first: RangeColumns,
+    columns: usize,
+) -> Result<PExpr, NoMemory>
+    ensures { IfOk result (λ e. pterm e ≡ are_sure first.first columns) }
+{
+    if columns == 0 {
+        return Ok(PExpr::Literal(Value::Flag(true)));
+    }
+    let rest = all_sure(alloc, behind(first)?, columns - 1)?;
+    let test = compare(alloc, Comparison2::Equal, first.lo(), first.hi())?;
+    and(alloc, test, rest)
+}
+
+/// A column times the first count where it is below 0, and times the second where not.
+pub(crate) fn signed(
+    alloc: Global,
+    below: PExpr,
+    above: PExpr,
+    column: usize,
+) -> Result<PExpr, NoMemory>
+    ensures { IfOk result (λ e. pterm e ≡ signed_term (pterm below) (pterm above) (term.Column column)) }
+{
+    let test = compare(alloc, Comparison2::Less, PExpr::Column(column), zero())?;
+    let less = multiply(alloc, below, PExpr::Column(column))?;
+    let more = multiply(alloc, above, PExpr::Column(column))?;
+    case(alloc, test, less, more)
+}

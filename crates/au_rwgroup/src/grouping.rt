@@ -1,0 +1,99 @@
+//! Group as a plan.
+ghost use Rattle.std.specs.Prelude.{◌≡◌, ◌≤◌, ◌*◌, ◌+◌, ◌<◌, ◌^◌, IfOk, flat_map, length, map};
+ghost use Rattle.au_plain.specs.PTerms.{pterm};
+ghost use Rattle.au_plain.specs.Plans.{plan_tree};
+ghost use Rattle.au_plain.specs.PlanNumbers.{scans};
+ghost use Rattle.au_rwgroup.specs.Gives.{Groups};
+ghost use Rattle.au_rwgroup.specs.Groups as first;
+ghost use Rattle.au_rwgroup.specs.GroupPlan as plan;
+ghost use Rattle.au_rwgroup.specs.JoinedPlaces.{places_of};
+
+use crate::group_aggregates::{kept_aggregates, member_aggregates};
+use crate::group_places::GroupPlaces;
+use crate::guessed_keys::first_grouping;
+use crate::joined_row::JoinedRow;
+use crate::member_columns::all_member_columns;
+use crate::result_columns::{all_result_columns, result_places};
+use au_algebra::Agg;
+use au_combine::{group as grouped, push_run};
+use au_plain::{Layout, PAgg, PExpr, Plan};
+use au_rwexpr::{RangeColumns, copy_plan, extend_all, join, keep, meets};
+use au_value::NoMemory;
+use std::alloc::Global;
+
+/// One row for each list of guesses of the first so many columns of a plan's rows: the hulls of these keys, and the
+/// ranges of the aggregates over the rows that may belong to them.
+///
+/// The layout is that of the plan's rows. Those of the result have the keys, then a column for each aggregate.
+/// `NoMemory` comes also where a row cannot have so many columns.
+#[tactic(auto, using(crate::proofs::GroupLaws::group_scans))]
+pub fn group(
+    alloc: Global,
+    of: Plan,
+    keys: usize,
+    aggs: &[Agg],
+    layout: &Layout,
+) -> Result<Plan, NoMemory>
+    ensures gives { IfOk result (λ p. Groups layout.now.columns keys aggs.now (plan_tree of) (plan_tree p)) }
+    ensures scans { IfOk result (λ p. scans (plan_tree p) ≤ 2 * scans (plan_tree of)) }
+{
+    let plan = group_plan(alloc, of, keys, aggs, layout)?;
+    Ok(plan)
+}
+
+fn group_plan(
+    alloc: Global,
+    of: Plan,
+    keys: usize,
+    aggs: &[Agg],
+    layout: &Layout,
+) -> Result<Plan, NoMemory>
+    ensures { IfOk result (λ p. plan_tree p ≡ plan.group layout.now.columns keys aggs.now (plan_tree of)) }
+{
+    let kept = kept_aggregates(alloc, aggs)?;
+    let places = GroupPlaces::of(keys, kept.len(), layout.columns, aggs.len())?;
+    let columns = all_result_columns(alloc, places.tests(), places.joined.row, aggs)?;
+    let shown = result_places(alloc, places.triple, keys, places.there + 1, places.aggs)?;
+    let groups = with_members(alloc, of, layout.columns, kept, places, aggs)?;
+    keep(alloc, shown, extend_all(alloc, columns, groups)?)
+}
+
+// Each box with the results over the rows that overlap it.
+fn with_members(
+    alloc: Global,
+    of: Plan,
+    columns: usize,
+    kept: Vec<PAgg>,
+    places: GroupPlaces,
+    aggs: &[Agg],
+) -> Result<Plan, NoMemory>
+    requires aggs { places.aggs ≡ length aggs.now }
+    requires kept { places.triple.first + 3 + 2 * length aggs.now < 2 ^ 64 }
+    ensures { IfOk result (λ p. plan_tree p ≡ plan.second_grouping places.joined.keys places.joined.row (plan.all_member_columns (places_of places.joined) (places.triple.first + 3) aggs.now) (plan.all_member_aggs (places.joined.triple + 8) aggs.now) (first.first_grouping columns places.joined.keys kept.items (plan_tree of)) (plan_tree of)) }
+{
+    let joined = places.joined;
+    let rows = copy_plan(alloc, &of)?;
+    let added = all_member_columns(alloc, joined, places.triple.first + 3, aggs)?;
+    let over = member_aggregates(alloc, joined.behind_tests(), aggs)?;
+    let boxes = first_grouping(alloc, of, columns, joined.keys, kept)?;
+    second_grouping(alloc, joined, added, over, boxes, rows)
+}
+
+// The boxes joined with the rows that overlap them, with further columns, grouped by the boxes.
+fn second_grouping(
+    alloc: Global,
+    joined: JoinedRow,
+    columns: Vec<PExpr>,
+    aggs: Vec<PAgg>,
+    boxes: Plan,
+    rows: Plan,
+) -> Result<Plan, NoMemory>
+    ensures { IfOk result (λ p. plan_tree p ≡ plan.second_grouping joined.keys joined.row (map pterm columns.items) aggs.items (plan_tree boxes) (plan_tree rows)) }
+{
+    let row = RangeColumns::at(joined.row)?;
+    let overlap = meets(alloc, row, RangeColumns::at(0)?, joined.keys)?;
+    let mut keys = Vec::new(alloc);
+    push_run(&mut keys, 0, joined.row)?;
+    let pairs = join(alloc, overlap, boxes, rows)?;
+    grouped(alloc, keys, aggs, extend_all(alloc, columns, pairs)?)
+}
