@@ -1,5 +1,5 @@
 -- The tables' rows in the guess world: what they stand for, and that they have the columns' kinds.
-use Rattle.std.specs.Prelude.{◌≡◌, ℕ, zero, suc, ◌+◌, Bool, true, false, not, ◌==◌, cond, List, [], ◌∷◌, ◌++◌, length, map, filter, flat_map, zip, Option, Some, None, option_to_list, option_and_then, slice_get, sum_by, is_some}
+use Rattle.std.specs.Prelude.{◌≡◌, ℕ, zero, suc, ◌+◌, Bool, true, cond, List, [], ◌∷◌, ◌++◌, length, map, filter, Option, Some, None, option_to_list, slice_get, sum_by, is_some}
 use Rattle.std.specs.List.{AllByRecursion, AllZip, list_all}
 use Rattle.std.proofs.Common.{arith, refl, sym, ◌∙◌, ap, subst}
 use Rattle.std.proofs.lemmas.Bool.{and_parts}
@@ -13,7 +13,7 @@ use Rattle.au_algebra.specs.Entries.{Entry, entry}
 use Rattle.au_algebra.specs.Lists.{same_row, copies}
 use Rattle.au_algebra.specs.Ordinary.{Rows}
 use Rattle.au_algebra.specs.Trees.{Tree}
-use Rattle.au_algebra.specs.Typing.{IsTyped, kinds_of}
+use Rattle.au_algebra.specs.Typing.{kinds_of}
 use Rattle.au_algebra.proofs.Copies.{copies-cons}
 use Rattle.au_algebra.proofs.Choices.{sum_if}
 use Rattle.au_blocks.specs.Blocks.{Choices}

@@ -1,4 +1,6 @@
 mod GuessTables
+mod PlanRuns
+mod PlanSteps
 mod ReadCauses
 mod Shown
 mod TableRelations

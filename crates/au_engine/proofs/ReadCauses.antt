@@ -1,16 +1,13 @@
 -- Why the text of a query is not read, from why its tokens or its statement are not.
-use Rattle.std.proofs.Common.{◌≡◌, ◌≤◌, ◌<◌, ◌⊎◌, inl, inr, ℕ, Bool, true, false, List, [], ◌∷◌, Option, Some, None, Result, Ok, Err, refl, sym, ◌∙◌, ap, ltb, arith, length}
-use Rattle.std.specs.Prelude.{nat_lt, is_none, option_map}
+use Rattle.std.proofs.Common.{◌≡◌, ◌≤◌, ◌<◌, ◌⊎◌, inl, inr, ℕ, true, false, List, None, Ok, Err, refl, ◌∙◌, ap, arith, length}
+use Rattle.std.specs.Prelude.{nat_lt}
 use Rattle.au_lex.specs.declared.Token.{Token}
 use Rattle.au_lex.specs.declared.LexFault.{LexFault}
 use Rattle.au_lex.specs.declared.LexFault.TheVariants as lex
 use Rattle.au_lex.specs.Tokens.{tokens_of}
 use Rattle.au_parse.specs.declared.ParseFault.{ParseFault}
 use Rattle.au_parse.specs.declared.ParseFault.TheVariants as fault
-use Rattle.au_parse.specs.Limits.{limit_fault}
 use Rattle.au_parse.specs.Parsing as parsing
-use Rattle.au_parse.specs.Queries.{tree_of}
-use Rattle.au_parse.specs.Tree.{QueryTree}
 use Rattle.au_engine.specs.declared.faults.EngineFault.{EngineFault}
 use Rattle.au_engine.specs.declared.faults.EngineFault.TheVariants as engine
 use Rattle.au_engine.specs.declared.faults.LimitFault.TheVariants as limit

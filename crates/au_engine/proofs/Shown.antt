@@ -1,12 +1,11 @@
 -- The numbers of an answer are those of its tree and of its rows as they are shown, and the rows of a tree whose numbers
 -- fit have triples that fit.
-use Rattle.std.proofs.Common.{◌≡◌, ℕ, suc, length, Bool, true, false, ◌&&◌, not, List, [], ◌∷◌, ◌++◌, map, filter, flat_map, take, refl, sym, ◌∙◌, ap, cond, IsTrue, Some, Option, subst}
-use Rattle.std.specs.Prelude.{if◌then◌else◌, ℤ, pos, is_some}
+use Rattle.std.proofs.Common.{◌≡◌, ℕ, suc, length, Bool, true, false, ◌&&◌, not, List, [], ◌∷◌, ◌++◌, map, filter, flat_map, take, refl, sym, ◌∙◌, ap, cond, Some, subst}
+use Rattle.std.specs.Prelude.{ℤ, pos, is_some}
 use Rattle.std.specs.List.{list_all, AllByRecursion, AllZip}
 use Rattle.std.proofs.lemmas.List.{length-map}
 use Rattle.std.proofs.lemmas.List.Folds.{list_all-append}
 use Rattle.au_value.specs.declared.kinds.Kind.{Kind}
-use Rattle.au_expr.specs.Terms.{Term}
 use Rattle.au_expr.specs.Numbers.{expr_numbers}
 use Rattle.au_expr.specs.OnRanges.{range_of}
 use Rattle.au_value.specs.Ranges.{Span, IsRangeOf}
@@ -16,7 +15,7 @@ use Rattle.au_algebra.specs.Trees.{Tree, Table, Select, Project, Product, Union,
 use Rattle.au_algebra.specs.Typing.{IsTyped, kinds_of}
 use Rattle.au_algebra.specs.Laws.{IsRelation}
 use Rattle.au_algebra.specs.Bounded.{Bounded, RangeRow, bounded, bounded_answer, combine, normal}
-use Rattle.au_algebra.specs.Fits.{agg_numbers, difference_sums, fits, group_numbers, in_range, numbers, triple_numbers, triples_fit}
+use Rattle.au_algebra.specs.Fits.{difference_sums, fits, group_numbers, in_range, numbers, triple_numbers, triples_fit}
 use Rattle.au_algebra.proofs.TreeRelation.{answer_is_relation, tree_relation}
 use Rattle.au_blocks.specs.Tables.{BlockTable, IsBlockTable, column_kinds}
 use Rattle.au_blocks.specs.declared.column.Column.{Column}
@@ -171,9 +170,9 @@ same_length [] (c ∷ cells) h = elim h [ ]
 same_length (k ∷ ks) [] h = elim h [ ]
 same_length (k ∷ ks) (c ∷ cells) h = ap suc (same_length ks cells h.1)
 
-widths : (ks : List Kind) (n : ℕ) (rows : Bounded) → length ks ≡ n → IsRelation ks rows → AllByRecursion (λ r. length r.cells ≡ n) rows
-widths ks n [] e h = tt
-widths ks n (r ∷ rows) e h = (same_length ks r.cells h.0.cells ∙ e, widths ks n rows e h.1)
+pub have_columns : (ks : List Kind) (n : ℕ) (rows : Bounded) → length ks ≡ n → IsRelation ks rows → AllByRecursion (λ r. length r.cells ≡ n) rows
+have_columns ks n [] e h = tt
+have_columns ks n (r ∷ rows) e h = (same_length ks r.cells h.0.cells ∙ e, have_columns ks n rows e h.1)
 
 -- the answer of a tree whose kinds are these, over block tables
 pub record Answered (ts : List BlockTable) (q : Tree) (ks : List Kind) (rows : Bounded) : Type 0 where
@@ -191,5 +190,5 @@ answered combined ts q ks rows ok typed e = record {
 pub as_wide : (ks : List Kind) (names : List (List ℕ)) (columns : List Column) (rows : Bounded) → names ≡ map (λ c. c.name) columns → ks ≡ map (λ c. c.kind) columns
     → IsRelation ks rows → AllByRecursion (λ r. length r.cells ≡ length names) rows
 as_wide ks names columns rows named kinds ok =
-    widths ks (length names) rows
+    have_columns ks (length names) rows
     (ap length kinds ∙ length-map columns (λ c. c.kind) ∙ sym (ap length named ∙ length-map columns (λ c. c.name))) ok

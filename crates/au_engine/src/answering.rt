@@ -14,6 +14,7 @@ ghost use Rattle.au_value.specs.declared.kinds.Kind.{Kind};
 ghost use Rattle.au_engine.specs.Answers.{AnswerCause, RowsCause, RowsHold, blocks_of, shown_fits, tree_answer, tree_fits, answer_fits, answer_kinds, answer_names, answer_rows as answer_rows_of, statement_defects};
 
 use crate::faults::EngineFault;
+use crate::running::evaluated_by_plan;
 use crate::tables::bounded_tables;
 use crate::typing::resolved;
 use au_algebra::{Query, Rel, normal};
@@ -32,6 +33,13 @@ use std::alloc::Global;
 pub struct Options {
     /// Whether the rows of one guess are combined.
     pub combine: bool,
+}
+
+// How a tree is evaluated: by its plan over encoded rows, or by the definitions.
+#[derive(Clone, Copy)]
+enum Road {
+    Plans,
+    Direct,
 }
 
 /// The bounded answer of a statement over tables, each under its name.
@@ -54,7 +62,7 @@ pub fn answer(
     ensures holds { IfOk result (λ a. RowsHold tables.now (statement_tree statement.now) a.rows) }
     ensures refused { IfErr result (AnswerCause (statement_defects tables.now (statement_tree statement.now)) (answer_fits options.combine tables.now (statement_tree statement.now))) }
 {
-    answer_directly(alloc, statement, tables, options)
+    answer_by(alloc, statement, tables, options, Road::Plans)
 }
 
 /// The same answer, by the generic evaluator. `Overflow` comes exactly where a number of the answer leaves 128 bits.
@@ -75,11 +83,33 @@ pub fn answer_directly(
     ensures fits { OnOk result (answer_fits options.combine tables.now (statement_tree statement.now) ≡ true) }
     ensures refused { IfErr result (AnswerCause (statement_defects tables.now (statement_tree statement.now)) (answer_fits options.combine tables.now (statement_tree statement.now))) }
 {
+    answer_by(alloc, statement, tables, options, Road::Direct)
+}
+
+// The answer by either road. By plans there may be one where a number that the definitions name leaves 128 bits.
+fn answer_by(
+    alloc: Global,
+    statement: &Statement,
+    tables: &[(Word, Table)],
+    options: Options,
+    road: Road,
+) -> Result<Answer, EngineFault>
+    requires { WholeQuery (statement_tree statement.now) }
+    ensures typed { OnOk result (statement_defects tables.now (statement_tree statement.now) ≡ []) }
+    ensures names { IfOk result (λ a. a.names.items ≡ answer_names tables.now (statement_tree statement.now)) }
+    ensures kinds { IfOk result (λ a. a.kinds.items ≡ answer_kinds tables.now (statement_tree statement.now)) }
+    ensures rows { IfOk result (λ a. a.rows ≡ answer_rows_of options.combine tables.now (statement_tree statement.now)) }
+    ensures relation { IfOk result (λ a. IsRelation a.kinds.items a.rows) }
+    ensures widths { IfOk result (λ a. AllByRecursion (λ r. length r.cells ≡ length a.names.items) a.rows) }
+    ensures holds { IfOk result (λ a. RowsHold tables.now (statement_tree statement.now) a.rows) }
+    ensures fits { road ≡ Road.Direct → OnOk result (answer_fits options.combine tables.now (statement_tree statement.now) ≡ true) }
+    ensures refused { IfErr result (AnswerCause (statement_defects tables.now (statement_tree statement.now)) (answer_fits options.combine tables.now (statement_tree statement.now))) }
+{
     let typed = match resolved(alloc, statement, tables) {
         Ok(typed) => typed,
         Err(fault) => return Err(fault),
     };
-    match typed_answer(alloc, typed, tables, options) {
+    match typed_answer(alloc, typed, tables, options, road) {
         Ok(answer) => Ok(answer),
         Err(fault) => Err(fault),
     }
@@ -91,16 +121,17 @@ fn typed_answer(
     typed: Typed,
     tables: &[(Word, Table)],
     options: Options,
+    road: Road,
 ) -> Result<Answer, EngineFault>
     requires { kinds_of (map column_kinds (blocks_of tables.now)) (tree typed.query) ≡ Some typed.kinds.items }
     ensures names { IfOk result (λ a. a.names.items ≡ typed.names.items) }
     ensures kinds { IfOk result (λ a. a.kinds.items ≡ typed.kinds.items) }
     ensures rows { IfOk result (λ a. a.rows ≡ tree_answer options.combine tables.now (tree typed.query)) }
     ensures tables { OnOk result (AllByRecursion IsBlockTable (blocks_of tables.now)) }
-    ensures fits { OnOk result (tree_fits options.combine tables.now (tree typed.query) ≡ true) }
+    ensures fits { road ≡ Road.Direct → OnOk result (tree_fits options.combine tables.now (tree typed.query) ≡ true) }
     ensures refused { IfErr result (RowsCause (tree_fits options.combine tables.now (tree typed.query))) }
 {
-    match answer_rows(alloc, &typed.query, tables, options) {
+    match answer_rows(alloc, &typed.query, tables, options, road) {
         Ok(rows) => Ok(Answer {
             names: typed.names,
             kinds: typed.kinds,
@@ -117,14 +148,15 @@ fn answer_rows(
     query: &Query,
     tables: &[(Word, Table)],
     options: Options,
+    road: Road,
 ) -> Result<Rel<Range, Triple>, EvalFault>
     requires { (ks : List Kind) × (kinds_of (map column_kinds (blocks_of tables.now)) (tree query.now) ≡ Some ks) }
     ensures rows { IfOk result (λ r. r ≡ tree_answer options.combine tables.now (tree query.now)) }
     ensures tables { OnOk result (AllByRecursion IsBlockTable (blocks_of tables.now)) }
-    ensures fits { OnOk result (tree_fits options.combine tables.now (tree query.now) ≡ true) }
+    ensures fits { road ≡ Road.Direct → OnOk result (tree_fits options.combine tables.now (tree query.now) ≡ true) }
     ensures overflow { result ≡ Err EvalFault.Overflow → tree_fits options.combine tables.now (tree query.now) ≡ false }
 {
-    let rows = match evaluated(alloc, query, tables) {
+    let rows = match evaluated(alloc, query, tables, road) {
         Ok(rows) => rows,
         Err(fault) => return Err(fault),
     };
@@ -134,8 +166,27 @@ fn answer_rows(
     }
 }
 
-// The bounded relation of the tree.
+// The bounded relation of the tree, by either road.
 fn evaluated(
+    alloc: Global,
+    query: &Query,
+    tables: &[(Word, Table)],
+    road: Road,
+) -> Result<Rel<Range, Triple>, EvalFault>
+    requires { (ks : List Kind) × (kinds_of (map column_kinds (blocks_of tables.now)) (tree query.now) ≡ Some ks) }
+    ensures rows { IfOk result (λ r. r ≡ bounded (tree query.now) (map bounded_table (blocks_of tables.now))) }
+    ensures tables { OnOk result (AllByRecursion IsBlockTable (blocks_of tables.now)) }
+    ensures fits { road ≡ Road.Direct → OnOk result (list_all in_range (numbers (tree query.now) (map bounded_table (blocks_of tables.now))) ≡ true) }
+    ensures overflow { result ≡ Err EvalFault.Overflow → list_all in_range (numbers (tree query.now) (map bounded_table (blocks_of tables.now))) ≡ false }
+{
+    match road {
+        Road::Plans => evaluated_by_plan(alloc, query, tables),
+        Road::Direct => evaluated_directly(alloc, query, tables),
+    }
+}
+
+// The bounded relation of the tree, by the generic evaluator.
+fn evaluated_directly(
     alloc: Global,
     query: &Query,
     tables: &[(Word, Table)],

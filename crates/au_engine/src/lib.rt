@@ -1,7 +1,8 @@
 //! The road of a query: from its text to its statement, and from a statement over block tables to its bounded answer.
 //!
-//! [`read_query`] reads the text, and [`answer`] gives the answer with its names and kinds. docs/ARCHITECTURE.md shows the
-//! road.
+//! [`read_query`] reads the text, and [`answer`] gives the answer with its names and kinds: the typed tree becomes a plain
+//! plan, which is run over the encoded rows of the tables, and its rows are decoded and shown. [`answer_directly`] gives
+//! the same rows by the generic evaluator. docs/ARCHITECTURE.md shows the road.
 //!
 //! ```text
 //! let statement = read_query(alloc, "SELECT city FROM orders")?;
@@ -13,7 +14,12 @@
 mod answering;
 mod faults;
 mod guessing;
+#[cfg(test)]
+mod plan_tests;
+mod planned;
 mod reading;
+mod running;
+mod steps;
 mod tables;
 #[cfg(test)]
 mod tests;

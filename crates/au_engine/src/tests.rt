@@ -15,6 +15,26 @@ use std::test::Fail;
 const ORDERS: &str =
     "_block,_role,id:int,city:text,amount:int\na,guess,1,Oslo,10\na,alt,1,Bergen,12\nb,guess,2,Bergen,5\nc,guess,3,Oslo,7\nc,absent,,,\n";
 
+// Queries of each operator over the two tables.
+const QUERIES: &str =
+    "SELECT id, CASE WHEN amount > 6 THEN amount ELSE -amount END AS a FROM orders WHERE city <> 'Bergen' OR id = 2
+SELECT o.id, r.fee FROM orders o, rates AS r WHERE o.city = r.city AND o.amount > r.fee * 2
+SELECT city, amount FROM orders UNION ALL SELECT city, fee FROM rates
+SELECT o.city, r.fee FROM orders o, (SELECT * FROM rates WHERE fee > 99) r
+SELECT p.id, q.amount FROM (SELECT id, amount + 1 AS more FROM orders) p, orders q WHERE p.more <= q.amount
+SELECT city, amount FROM orders EXCEPT ALL SELECT city, fee + 6 FROM rates
+SELECT city FROM orders EXCEPT SELECT city FROM rates WHERE fee = 3
+SELECT city FROM orders UNION SELECT city FROM rates
+SELECT DISTINCT city FROM orders
+SELECT SUM(amount) AS s, COUNT(*) AS n FROM orders
+SELECT SUM(fee) AS s FROM rates WHERE fee > 99
+SELECT 1 AS one FROM orders HAVING TRUE
+SELECT COUNT(*) AS n FROM (SELECT DISTINCT city FROM orders) t
+SELECT city, SUM(amount) AS s, MIN(amount) AS low, MAX(id) AS top, COUNT(*) AS n FROM orders GROUP BY city
+SELECT city FROM orders GROUP BY city HAVING COUNT(*) >= 2
+SELECT r.fee, t.s FROM (SELECT city, SUM(amount) AS s FROM orders GROUP BY city) t, rates r WHERE t.city = r.city
+";
+
 // A table of a file's text, under a name.
 fn table(alloc: Global, name: &str, text: &str) -> Result<(Word, Table), Fail> {
     let table = read_table(alloc, text.as_bytes()).ok().ok_or("a table")?;
@@ -47,6 +67,21 @@ fn direct_text(alloc: Global, statement: &Statement, tables: &[(Word, Table)]) -
     }
 }
 
+// Whether a query has an answer, and the same by plans and directly.
+fn has_one_answer(alloc: Global, query: &str, tables: &[(Word, Table)]) -> bool {
+    match read_query(alloc, query) {
+        Ok(statement) => {
+            let planned = planned_text(alloc, &statement, tables);
+            let direct = direct_text(alloc, &statement, tables);
+            match (planned, direct) {
+                (Some(planned), Some(direct)) => planned.as_slice() == direct.as_slice(),
+                _ => false,
+            }
+        }
+        Err(_) => false,
+    }
+}
+
 // The text of a statement's answer in the guess world.
 fn guessed_text(alloc: Global, statement: &Statement, tables: &[(Word, Table)]) -> Option<Vec<u8>>
     requires { WholeQuery (statement_tree statement.now) }
@@ -69,6 +104,17 @@ fn a_statement_has_one_answer_by_both_roads(rt: HostRuntime) -> Result<(), Fail>
     assert_eq!(rt; planned.as_slice(), want.as_bytes(), "by plans");
     let direct = direct_text(alloc, &statement, tables.as_slice()).ok_or("a direct answer")?;
     assert_eq!(rt; direct.as_slice(), want.as_bytes(), "directly");
+    Ok(())
+}
+
+#[test]
+fn each_operator_has_one_answer_by_both_roads(rt: HostRuntime) -> Result<(), Fail> {
+    let alloc = rt.alloc();
+    let tables = tables(alloc)?;
+    for query in QUERIES.lines() {
+        let same = has_one_answer(alloc, query, tables.as_slice());
+        assert!(rt; same, "{query}");
+    }
     Ok(())
 }
 

@@ -1,5 +1,5 @@
 -- The rows are shown, and their numbers are those of the answer.
-use Rattle.std.proofs.Common.{map, ap, subst, sym, ◌∙◌, true, ◌≡◌}
+use Rattle.std.proofs.Common.{map, subst, true, ◌≡◌}
 use Rattle.au_algebra.specs.Trees.{tree}
 use Rattle.au_algebra.specs.Fits.{triples_fit}
 use Rattle.au_translate.specs.Translate.{bounded_table}
@@ -12,6 +12,6 @@ shown-requires c =
     rows_relation (blocks_of c.args.tables.now) (tree c.args.query.now) c.requires.0 c.in-Ok.rows c.requires.1 c.in-Ok.ensures.rows c.in-Ok.ensures.tables
 
 pub returns-in-Ok-shown-clause-fits : goal.returns-in-Ok-shown-clause-fits
-returns-in-Ok-shown-clause-fits c =
-    answer_fits c.args.options.combine (tree c.args.query.now) (map bounded_table (blocks_of c.args.tables.now)) c.in-Ok.ensures.fits
+returns-in-Ok-shown-clause-fits c directly =
+    answer_fits c.args.options.combine (tree c.args.query.now) (map bounded_table (blocks_of c.args.tables.now)) (c.in-Ok.ensures.fits directly)
     (subst (λ rows. triples_fit rows ≡ true → shown_fits c.args.options.combine rows ≡ true) c.in-Ok.ensures.rows c.in-Ok-shown.ensures.fits)

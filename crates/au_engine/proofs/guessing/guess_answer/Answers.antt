@@ -1,5 +1,4 @@
 -- Each row has as many values as there are names.
-use Rattle.std.proofs.Common.{refl}
 use Rattle.au_parse.specs.Views.{statement_tree}
 use Rattle.au_typing.specs.Queries.{typing}
 use Rattle.au_engine.specs.Answers.{relations_of}

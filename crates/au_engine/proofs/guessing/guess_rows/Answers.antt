@@ -1,10 +1,9 @@
 -- The rows of the guess world are given, each once.
-use Rattle.std.proofs.Common.{ap, map, sym, subst, ◌∙◌, ◌≡◌, false, true, refl, rules}
+use Rattle.std.proofs.Common.{ap, sym, subst, ◌∙◌, rules}
 use Rattle.std.specs.List.{AllZip, list_all}
-use Rattle.au_algebra.specs.Fits.{certain_rows, in_range, numbers}
+use Rattle.au_algebra.specs.Fits.{in_range}
 use Rattle.au_algebra.specs.Trees.{tree}
-use Rattle.au_kfull.specs.Embedding.{StandsFor, ones}
-use Rattle.au_translate.specs.Translate.{guessed_table}
+use Rattle.au_kfull.specs.Embedding.{StandsFor}
 use Rattle.au_engine.specs.Answers.{blocks_of, guess_tables}
 use Rattle.au_engine.proofs.GuessTables.{all_stand, are_ones, can_guess, guess_widths}
 use Rattle.au_engine.proofs.guessing.guess_rows.Goals as goal

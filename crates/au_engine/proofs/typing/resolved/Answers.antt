@@ -1,5 +1,5 @@
 -- The kinds of the tables' columns, by their names or by their blocks.
-use Rattle.std.proofs.Common.{ap, sym, ◌∙◌, Some}
+use Rattle.std.proofs.Common.{ap, sym, ◌∙◌}
 use Rattle.au_algebra.specs.Trees.{tree}
 use Rattle.au_algebra.specs.Typing.{kinds_of}
 use Rattle.au_typing.specs.Queries.{relations, table_kinds}

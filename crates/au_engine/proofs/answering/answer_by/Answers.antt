@@ -1,14 +1,13 @@
 -- What holds of the answer of a typed tree holds of the statement's.
-use Rattle.std.proofs.Common.{subst, sym, ◌∙◌, map, ap}
+use Rattle.std.proofs.Common.{subst, sym, ◌∙◌}
 use Rattle.au_parse.specs.Views.{statement_tree}
-use Rattle.au_algebra.specs.Bounded.{Bounded}
 use Rattle.au_algebra.specs.Laws.{IsRelation}
 use Rattle.au_algebra.specs.Trees.{tree}
 use Rattle.au_translate.specs.Headline.{HoldsInEveryWorld}
 use Rattle.au_typing.specs.Queries.{typing}
-use Rattle.au_engine.specs.Answers.{answer_tree, blocks_of, relations_of}
+use Rattle.au_engine.specs.Answers.{blocks_of, relations_of}
 use Rattle.au_engine.proofs.Shown.{Answered, answered, as_wide}
-use Rattle.au_engine.proofs.answering.answer_directly.Goals as goal
+use Rattle.au_engine.proofs.answering.answer_by.Goals as goal
 
 holds : (c : goal.In-Ok-typed_answer) → Answered (blocks_of c.args.tables.now) (tree c.in-Ok.typed.query) c.in-Ok.typed.kinds.items c.in-Ok-typed_answer.answer.rows
 holds c =

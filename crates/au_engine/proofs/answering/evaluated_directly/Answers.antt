@@ -1,9 +1,9 @@
 -- The tree is typed for the tables' relations.
-use Rattle.std.proofs.Common.{subst, sym, ◌∙◌}
+use Rattle.std.proofs.Common.{◌∙◌}
 use Rattle.au_algebra.specs.Trees.{tree}
 use Rattle.au_engine.specs.Answers.{blocks_of}
 use Rattle.au_engine.proofs.Shown.{can_evaluate}
-use Rattle.au_engine.proofs.answering.evaluated.Goals as goal
+use Rattle.au_engine.proofs.answering.evaluated_directly.Goals as goal
 
 pub direct-requires : goal.direct-requires
 direct-requires c =

@@ -1,0 +1,14 @@
+-- The rows of the plan's run decode to the relation.
+use Rattle.std.proofs.Common.{◌∙◌}
+use Rattle.au_algebra.specs.Trees.{tree}
+use Rattle.au_exec.specs.Outcomes.{rows_of}
+use Rattle.au_engine.specs.Answers.{blocks_of}
+use Rattle.au_engine.proofs.PlanRuns.{decodable, decoded}
+use Rattle.au_engine.proofs.running.evaluated_by_plan.Goals as goal
+
+pub decode-requires : goal.decode-requires
+decode-requires c = decodable (blocks_of c.args.tables.now) (tree c.args.query.now) c.in-Ok.found.1 (rows_of c.in-Ok.found.0) c.in-Ok.ensures.rows
+
+pub returns-in-Ok-decode-clause-rows : goal.returns-in-Ok-decode-clause-rows
+returns-in-Ok-decode-clause-rows c =
+    c.in-Ok-decode.ensures.rows ∙ decoded (blocks_of c.args.tables.now) (tree c.args.query.now) c.in-Ok.found.1 (rows_of c.in-Ok.found.0) c.in-Ok.ensures.rows

@@ -1,0 +1,152 @@
+//! Each operator of a tree as a step of its plan.
+//!
+//! Each step gives `NoMemory` also where a row cannot have so many columns.
+ghost use Rattle.std.specs.Prelude.{◌≡◌, ◌+◌, ◌*◌, IfOk, Some, length, map, slice_get};
+ghost use Rattle.au_expr.specs.Terms.{term};
+ghost use Rattle.au_plain.specs.Plans.{PlanTree, Scan, plan_tree};
+ghost use Rattle.au_rwcore.specs.Gives.{Multiplies, Projects, Selects, Unites};
+ghost use Rattle.au_combine.specs.Gives.{Combines};
+ghost use Rattle.au_rwdiff.specs.Gives.{Subtracts};
+ghost use Rattle.au_rwgroup.specs.Gives.{Distincts, Groups, Totals};
+
+use au_algebra::Agg;
+use au_combine::combine;
+use au_expr::Expr;
+use au_plain::{Layout, Plan};
+use au_rwcore::{product, project, select, union};
+use au_rwdiff::difference;
+use au_rwexpr::width_of;
+use au_rwgroup::{distinct, group, total};
+use au_value::NoMemory;
+use std::alloc::Global;
+
+/// A plan over encoded tables, with the layout of its rows.
+#[derive(Drop)]
+pub(crate) struct Planned {
+    pub(crate) plan: Plan,
+    pub(crate) layout: Layout,
+}
+
+/// The encoded rows of a table, where the tables have so many columns each. `NoMemory` comes also where there is no such
+/// table.
+pub(crate) fn scan(table: usize, columns: &[usize]) -> Result<Planned, NoMemory>
+    ensures columns { IfOk result (λ p. slice_get columns.now table ≡ Some p.layout.columns) }
+    ensures plan { IfOk result (λ p. plan_tree p.plan ≡ Scan table (3 * p.layout.columns + 3)) }
+{
+    let Some(count) = columns.get(table) else {
+        return Err(NoMemory);
+    };
+    let layout = Layout { columns: *count };
+    Ok(Planned {
+        plan: Plan::Scan(table, width_of(&layout)?),
+        layout,
+    })
+}
+
+/// The rows for which a condition is possible.
+pub(crate) fn select_of(alloc: Global, condition: &Expr, of: Planned) -> Result<Planned, NoMemory>
+    ensures columns { IfOk result (λ p. p.layout.columns ≡ of.layout.columns) }
+    ensures plan { IfOk result (λ p. Selects of.layout.columns (term condition.now) (plan_tree of.plan) (plan_tree p.plan)) }
+{
+    Ok(Planned {
+        plan: select(alloc, of.plan, condition, &of.layout)?,
+        layout: of.layout,
+    })
+}
+
+/// The ranges of some items on each row.
+pub(crate) fn project_of(alloc: Global, items: &[Expr], of: Planned) -> Result<Planned, NoMemory>
+    ensures columns { IfOk result (λ p. p.layout.columns ≡ length items.now) }
+    ensures plan { IfOk result (λ p. Projects of.layout.columns (map term items.now) (plan_tree of.plan) (plan_tree p.plan)) }
+{
+    Ok(Planned {
+        plan: project(alloc, of.plan, items, &of.layout)?,
+        layout: Layout {
+            columns: items.len(),
+        },
+    })
+}
+
+/// Each pair of rows.
+pub(crate) fn product_of(alloc: Global, left: Planned, right: Planned) -> Result<Planned, NoMemory>
+    ensures columns { IfOk result (λ p. p.layout.columns ≡ left.layout.columns + right.layout.columns) }
+    ensures plan { IfOk result (λ p. Multiplies left.layout.columns right.layout.columns (plan_tree left.plan) (plan_tree right.plan) (plan_tree p.plan)) }
+{
+    let Some(columns) = left.layout.columns.checked_add(right.layout.columns) else {
+        return Err(NoMemory);
+    };
+    Ok(Planned {
+        plan: product(alloc, left.plan, right.plan, &left.layout, &right.layout)?,
+        layout: Layout { columns },
+    })
+}
+
+/// The rows of both.
+pub(crate) fn union_of(alloc: Global, left: Planned, right: Planned) -> Result<Planned, NoMemory>
+    ensures columns { IfOk result (λ p. p.layout.columns ≡ left.layout.columns) }
+    ensures plan { IfOk result (λ p. Unites (plan_tree left.plan) (plan_tree right.plan) (plan_tree p.plan)) }
+{
+    Ok(Planned {
+        plan: union(alloc, left.plan, right.plan)?,
+        layout: left.layout,
+    })
+}
+
+/// The combined left rows, each less the right rows.
+pub(crate) fn difference_of(
+    alloc: Global,
+    left: Planned,
+    right: Planned,
+) -> Result<Planned, NoMemory>
+    ensures columns { IfOk result (λ p. p.layout.columns ≡ left.layout.columns) }
+    ensures plan { IfOk result (λ p. (m : PlanTree) × Combines left.layout.columns (plan_tree left.plan) m × Subtracts left.layout.columns m (plan_tree right.plan) (plan_tree p.plan)) }
+{
+    let combined = combine(alloc, left.plan, &left.layout)?;
+    Ok(Planned {
+        plan: difference(alloc, combined, right.plan, &left.layout)?,
+        layout: left.layout,
+    })
+}
+
+/// Each row once.
+pub(crate) fn distinct_of(alloc: Global, of: Planned) -> Result<Planned, NoMemory>
+    ensures columns { IfOk result (λ p. p.layout.columns ≡ of.layout.columns) }
+    ensures plan { IfOk result (λ p. Distincts of.layout.columns (plan_tree of.plan) (plan_tree p.plan)) }
+{
+    Ok(Planned {
+        plan: distinct(alloc, of.plan, &of.layout)?,
+        layout: of.layout,
+    })
+}
+
+/// A row for each list of guesses of so many leading columns, with aggregates.
+pub(crate) fn group_of(
+    alloc: Global,
+    keys: usize,
+    aggs: &[Agg],
+    of: Planned,
+) -> Result<Planned, NoMemory>
+    ensures columns { IfOk result (λ p. p.layout.columns ≡ keys + length aggs.now) }
+    ensures plan { IfOk result (λ p. Groups of.layout.columns keys aggs.now (plan_tree of.plan) (plan_tree p.plan)) }
+{
+    let Some(columns) = keys.checked_add(aggs.len()) else {
+        return Err(NoMemory);
+    };
+    Ok(Planned {
+        plan: group(alloc, of.plan, keys, aggs, &of.layout)?,
+        layout: Layout { columns },
+    })
+}
+
+/// One row, of sums over all rows.
+pub(crate) fn total_of(alloc: Global, aggs: &[Agg], of: Planned) -> Result<Planned, NoMemory>
+    ensures columns { IfOk result (λ p. p.layout.columns ≡ length aggs.now) }
+    ensures plan { IfOk result (λ p. Totals of.layout.columns aggs.now (plan_tree of.plan) (plan_tree p.plan)) }
+{
+    Ok(Planned {
+        plan: total(alloc, of.plan, aggs, &of.layout)?,
+        layout: Layout {
+            columns: aggs.len(),
+        },
+    })
+}
