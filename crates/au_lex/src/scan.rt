@@ -16,6 +16,7 @@ fn is_space(b: u8) -> bool
     b == b' ' || b == b'\t' || b == b'\n' || b == b'\r'
 }
 
+/// Whether a name may begin with this byte: a letter of ASCII or `_`.
 pub fn begins_name(b: u8) -> bool
     ensures { result ≡ begins_name b }
 {
@@ -72,14 +73,14 @@ fn name_length(text: &[u8]) -> usize
     text.iter().take_while(|b| continues_name(**b)).count()
 }
 
-// How many digits a text begins with.
+/// How many digits a text begins with.
 pub fn digits_length(text: &[u8]) -> usize
     ensures { result ≡ prefix_len is_ascii_digit text.now }
 {
     text.iter().take_while(|b| b.is_ascii_digit()).count()
 }
 
-// How long the name or reserved word is that begins here.
+/// How long the name or reserved word is that begins here.
 pub fn word_length(text: &[u8]) -> usize
     requires some { 0 < length text.now }
     requires begins { begins_name (slice_index text.now 0) ≡ true }
@@ -113,7 +114,7 @@ impl<T: Drop> From<AllocFailed<T>> for LexFault {
     }
 }
 
-// A text without its first bytes.
+/// A text without its first bytes.
 pub fn behind(text: &[u8], count: usize) -> &[u8]
     requires { count ≤ length text.now }
     ensures { result.now ≡ drop count text.now }

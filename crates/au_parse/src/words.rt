@@ -9,6 +9,7 @@ use au_lex::{Keyword, Lexeme, Symbol};
 use au_value::Word;
 use std::alloc::{AllocError, Global};
 
+/// Whether a lexeme opens what another closes: a bracket or a CASE.
 pub fn is_open(what: &Lexeme) -> bool
     ensures { result ≡ is_open what.now }
 {
@@ -18,6 +19,7 @@ pub fn is_open(what: &Lexeme) -> bool
     )
 }
 
+/// Whether a lexeme closes what another opened: a bracket or END.
 pub fn is_close(what: &Lexeme) -> bool
     ensures { result ≡ is_close what.now }
 {
@@ -27,66 +29,77 @@ pub fn is_close(what: &Lexeme) -> bool
     )
 }
 
+/// Whether a lexeme is `(`.
 pub fn is_group_open(what: &Lexeme) -> bool
     ensures { result ≡ is_group_open what.now }
 {
     matches!(what, Lexeme::Symbol(Symbol::Open))
 }
 
+/// Whether a lexeme is `)`.
 pub fn is_group_close(what: &Lexeme) -> bool
     ensures { result ≡ is_group_close what.now }
 {
     matches!(what, Lexeme::Symbol(Symbol::Close))
 }
 
+/// Whether a lexeme is END.
 pub fn is_end(what: &Lexeme) -> bool
     ensures { result ≡ is_end what.now }
 {
     matches!(what, Lexeme::Key(Keyword::End))
 }
 
+/// Whether a lexeme is CASE.
 pub fn is_case(what: &Lexeme) -> bool
     ensures { result ≡ is_case what.now }
 {
     matches!(what, Lexeme::Key(Keyword::Case))
 }
 
+/// Whether a lexeme is NOT.
 pub fn is_not(what: &Lexeme) -> bool
     ensures { result ≡ is_not what.now }
 {
     matches!(what, Lexeme::Key(Keyword::Not))
 }
 
+/// Whether a lexeme is `-`.
 pub fn is_minus(what: &Lexeme) -> bool
     ensures { result ≡ is_minus what.now }
 {
     matches!(what, Lexeme::Symbol(Symbol::Minus))
 }
 
+/// Whether a lexeme is `*`.
 pub fn is_star(what: &Lexeme) -> bool
     ensures { result ≡ is_star what.now }
 {
     matches!(what, Lexeme::Symbol(Symbol::Star))
 }
 
+/// Whether a lexeme is `.`.
 pub fn is_dot(what: &Lexeme) -> bool
     ensures { result ≡ is_dot what.now }
 {
     matches!(what, Lexeme::Symbol(Symbol::Dot))
 }
 
+/// Whether a lexeme is WHEN.
 pub fn is_when(what: &Lexeme) -> bool
     ensures { result ≡ is_when what.now }
 {
     matches!(what, Lexeme::Key(Keyword::When))
 }
 
+/// Whether a lexeme is THEN.
 pub fn is_then(what: &Lexeme) -> bool
     ensures { result ≡ is_then what.now }
 {
     matches!(what, Lexeme::Key(Keyword::Then))
 }
 
+/// Whether a lexeme is ELSE.
 pub fn is_else(what: &Lexeme) -> bool
     ensures { result ≡ is_else what.now }
 {
@@ -152,6 +165,7 @@ pub fn copied(alloc: Global, word: &Word) -> Result<Word, AllocError>
     Ok(Word::new(text))
 }
 
+/// Whether a lexeme is `,`.
 pub fn is_comma(what: &Lexeme) -> bool
     ensures { result ≡ is_comma what.now }
 {
@@ -169,36 +183,42 @@ pub fn name_word(alloc: Global, what: &Lexeme) -> Result<Option<Word>, AllocErro
     }
 }
 
+/// Whether a lexeme is `;`.
 pub fn is_semicolon(what: &Lexeme) -> bool
     ensures { result ≡ is_semicolon what.now }
 {
     matches!(what, Lexeme::Symbol(Symbol::Semicolon))
 }
 
+/// Whether a lexeme is AS.
 pub fn is_as(what: &Lexeme) -> bool
     ensures { result ≡ is_as what.now }
 {
     matches!(what, Lexeme::Key(Keyword::As))
 }
 
+/// Whether a lexeme is SELECT.
 pub fn is_select(what: &Lexeme) -> bool
     ensures { result ≡ is_select what.now }
 {
     matches!(what, Lexeme::Key(Keyword::Select))
 }
 
+/// Whether a lexeme is BY.
 pub fn is_by(what: &Lexeme) -> bool
     ensures { result ≡ is_by what.now }
 {
     matches!(what, Lexeme::Key(Keyword::By))
 }
 
+/// Whether a lexeme is ALL.
 pub fn is_all(what: &Lexeme) -> bool
     ensures { result ≡ is_all what.now }
 {
     matches!(what, Lexeme::Key(Keyword::All))
 }
 
+/// Whether a lexeme is DISTINCT.
 pub fn is_distinct(what: &Lexeme) -> bool
     ensures { result ≡ is_distinct what.now }
 {

@@ -34,18 +34,21 @@ impl RangeColumns {
         }
     }
 
+    /// The column of the lower bound.
     pub fn lo(self) -> PExpr
         ensures { pterm result ≡ columns.lo self.first }
     {
         PExpr::Column(self.first)
     }
 
+    /// The column of the guess.
     pub fn sg(self) -> PExpr
         ensures { pterm result ≡ columns.sg self.first }
     {
         PExpr::Column(self.first + 1)
     }
 
+    /// The column of the upper bound.
     pub fn hi(self) -> PExpr
         ensures { pterm result ≡ columns.hi self.first }
     {

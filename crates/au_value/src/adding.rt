@@ -35,6 +35,7 @@ impl Adder {
         }
     }
 
+    /// The sum of the terms so far.
     pub fn total(&self) -> i128
         ensures { result ≡ self.now.total }
     {

@@ -7,6 +7,8 @@ use crate::faults::NoMemory;
 use crate::value::{Value, copy, order};
 use std::marker::Model;
 
+/// What is known of a value: a lower bound `lo`, the guess `sg` and an upper bound `hi`, all of one kind and in this order.
+/// Contracts see a `Span` of the three.
 #[derive(Drop)]
 pub struct Range {
     lo: Value,
@@ -25,6 +27,7 @@ impl Model for Range {
 }
 
 impl Range {
+    /// The range of these three. It takes no memory.
     pub fn of(lo: Value, sg: Value, hi: Value) -> Range
         requires { IsRange (range lo sg hi) }
         ensures { result ≡ range lo sg hi }
@@ -32,6 +35,7 @@ impl Range {
         Range { lo, sg, hi }
     }
 
+    /// The lower bound.
     pub fn lo(&self) -> &Value
         ensures of { result.now ≡ self.now.lo }
         ensures ordered { IsRange self.now }
@@ -39,6 +43,7 @@ impl Range {
         &self.lo
     }
 
+    /// The guess.
     pub fn sg(&self) -> &Value
         ensures of { result.now ≡ self.now.sg }
         ensures ordered { IsRange self.now }
@@ -46,6 +51,7 @@ impl Range {
         &self.sg
     }
 
+    /// The upper bound.
     pub fn hi(&self) -> &Value
         ensures of { result.now ≡ self.now.hi }
         ensures ordered { IsRange self.now }
@@ -53,6 +59,7 @@ impl Range {
         &self.hi
     }
 
+    /// The range in which all three are copies of the value.
     pub fn certain(value: &Value) -> Result<Range, NoMemory>
         ensures { IfOk result (λ r. r ≡ certain value.now) }
     {
@@ -63,6 +70,7 @@ impl Range {
         })
     }
 
+    /// Whether the value, of the range's kind, lies between the bounds or on one.
     pub fn holds(&self, value: &Value) -> bool
         requires { kind_of value.now ≡ kind_of self.now.sg }
         ensures { result ≡ holds self.now value.now }
@@ -70,6 +78,7 @@ impl Range {
         order(&self.lo, value).is_le() && order(value, &self.hi).is_le()
     }
 
+    /// Whether some value could lie in both ranges, which are of one kind.
     pub fn overlaps(&self, other: &Range) -> bool
         requires { kind_of self.now.sg ≡ kind_of other.now.sg }
         ensures { result ≡ overlap self.now other.now }
@@ -77,12 +86,14 @@ impl Range {
         order(&self.lo, &other.hi).is_le() && order(&other.lo, &self.hi).is_le()
     }
 
+    /// Whether the bounds are equal, so that the range holds one value alone.
     pub fn is_certain(&self) -> bool
         ensures { result ≡ is_certain self.now }
     {
         order(&self.lo, &self.hi).is_eq()
     }
 
+    /// The least range that holds what either holds, with the guess of `self`. Both are of one kind.
     pub fn hull(&self, other: &Range) -> Result<Range, NoMemory>
         requires { kind_of self.now.sg ≡ kind_of other.now.sg }
         ensures { IfOk result (λ r. r ≡ hull self.now other.now) }

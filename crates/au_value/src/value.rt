@@ -12,10 +12,13 @@ use std::cmp::Ordering;
 pub enum Value {
     /// A whole number of 128 bits.
     Int(i128),
+    /// A text, ordered by its bytes.
     Text(Word),
+    /// A truth value, false before true.
     Flag(bool),
 }
 
+/// The kind of a value.
 pub fn kind(value: &Value) -> Kind
     ensures { result ≡ kind_of value.now }
 {
@@ -39,6 +42,7 @@ pub fn order(a: &Value, b: &Value) -> Ordering
     }
 }
 
+/// A copy of a value. Only that of a text takes memory.
 pub fn copy(value: &Value) -> Result<Value, NoMemory>
     ensures { IfOk result (λ v. v ≡ value.now) }
 {

@@ -29,6 +29,7 @@ impl Word {
         Word { text }
     }
 
+    /// The text, lent.
     pub fn as_str(&self) -> &str
         ensures { result.now ≡ self.now }
     {
@@ -49,6 +50,7 @@ impl Word {
         self.text.cmp(&other.text)
     }
 
+    /// A copy of the word.
     pub fn copy(&self) -> Result<Word, NoMemory>
         ensures { IfOk result (λ w. w ≡ self.now) }
     {
