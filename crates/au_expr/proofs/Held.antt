@@ -1,50 +1,17 @@
 -- Rows of ranges that hold rows of values, by their kinds.
 use Rattle.std.specs.Prelude.{◌≡◌, true, List, [], ◌∷◌}
 use Rattle.std.specs.List.{AllZip}
-use Rattle.std.proofs.Common.{refl, sym, ◌∙◌}
+use Rattle.std.proofs.Common.{sym, ◌∙◌}
 use Rattle.std.proofs.lemmas.Bool.{and_parts, and_from, true≢false}
 use Rattle.au_value.specs.declared.value.Value.{Value}
 use Rattle.au_value.specs.declared.kinds.Kind.{Kind}
-use Rattle.au_value.specs.declared.value.Value.TheVariants as value
-use Rattle.au_value.specs.Order.{kind_of, at_most}
+use Rattle.au_value.specs.Order.{kind_of}
 use Rattle.au_value.specs.Ranges.{Span, all_hold, guesses, IsRangeOf}
+use Rattle.au_value.proofs.OrderLaws.{kind_between}
 use Rattle.au_expr.specs.Holding.{RangesHoldValues}
 use Rattle.au_expr.specs.Related.{RelatedRows}
-use Rattle.au_expr.proofs.Kept.{range_from}
+use Rattle.au_expr.proofs.Kept.{guesses_itself, range_from}
 use Rattle.au_expr.proofs.Within.{Within, GuessIs, range_holds, range_guesses}
-
-between_kinds : (a b v : Value) → kind_of a ≡ kind_of b → at_most a v ≡ true → at_most v b ≡ true → kind_of v ≡ kind_of a
-between_kinds (value.Int a) (value.Int b) (value.Int v) p h g = refl
-between_kinds (value.Int a) (value.Text b) (value.Int v) p h g = refl
-between_kinds (value.Int a) (value.Flag b) (value.Int v) p h g = refl
-between_kinds (value.Int a) (value.Int b) (value.Text v) p h g = cc
-between_kinds (value.Int a) (value.Text b) (value.Text v) p h g = cc
-between_kinds (value.Int a) (value.Flag b) (value.Text v) p h g = cc
-between_kinds (value.Int a) (value.Int b) (value.Flag v) p h g = cc
-between_kinds (value.Int a) (value.Text b) (value.Flag v) p h g = cc
-between_kinds (value.Int a) (value.Flag b) (value.Flag v) p h g = cc
-between_kinds (value.Text a) (value.Int b) (value.Int v) p h g = cc
-between_kinds (value.Text a) (value.Text b) (value.Int v) p h g = cc
-between_kinds (value.Text a) (value.Flag b) (value.Int v) p h g = cc
-between_kinds (value.Text a) (value.Int b) (value.Text v) p h g = refl
-between_kinds (value.Text a) (value.Text b) (value.Text v) p h g = refl
-between_kinds (value.Text a) (value.Flag b) (value.Text v) p h g = refl
-between_kinds (value.Text a) (value.Int b) (value.Flag v) p h g = cc
-between_kinds (value.Text a) (value.Text b) (value.Flag v) p h g = cc
-between_kinds (value.Text a) (value.Flag b) (value.Flag v) p h g = cc
-between_kinds (value.Flag a) (value.Int b) (value.Int v) p h g = cc
-between_kinds (value.Flag a) (value.Text b) (value.Int v) p h g = cc
-between_kinds (value.Flag a) (value.Flag b) (value.Int v) p h g = cc
-between_kinds (value.Flag a) (value.Int b) (value.Text v) p h g = cc
-between_kinds (value.Flag a) (value.Text b) (value.Text v) p h g = cc
-between_kinds (value.Flag a) (value.Flag b) (value.Text v) p h g = cc
-between_kinds (value.Flag a) (value.Int b) (value.Flag v) p h g = refl
-between_kinds (value.Flag a) (value.Text b) (value.Flag v) p h g = refl
-between_kinds (value.Flag a) (value.Flag b) (value.Flag v) p h g = refl
-
--- a value between two of one kind has this kind
-pub kind_between : (k : Kind) (a b v : Value) → kind_of a ≡ k → kind_of b ≡ k → at_most a v ≡ true → at_most v b ≡ true → kind_of v ≡ k
-kind_between k a b v p q h g = between_kinds a b v (p ∙ sym q) h g ∙ p
 
 -- values that ranges of some kinds hold lie within them
 pub cells_within : (ks : List Kind) (rs : List Span) (vs : List Value) → AllZip IsRangeOf ks rs → all_hold rs vs ≡ true → RelatedRows Within ks rs vs
@@ -60,22 +27,12 @@ cells_within (k ∷ ks) (r ∷ rs) (v ∷ vs) z h =
     let hi : kind_of r.hi ≡ k = z.0.range.hi_kind ∙ z.0.kind in
     (record { lo_kind = lo; hi_kind = hi; kind = kind_between k r.lo r.hi v lo hi q.0 q.1; lo = q.0; hi = q.1 }, cells_within ks rs vs z.1 p.1)
 
--- a range holds its guess
-pub within_guess : (k : Kind) (r : Span) → IsRangeOf k r → Within k r r.sg
-within_guess k r p = record {
-  lo_kind = p.range.lo_kind ∙ p.kind;
-  hi_kind = p.range.hi_kind ∙ p.kind;
-  kind = p.kind;
-  lo = p.range.lo_sg;
-  hi = p.range.sg_hi;
-}
-
 -- ranges of some kinds guess their guesses
 pub cells_guess : (ks : List Kind) (rs : List Span) → AllZip IsRangeOf ks rs → RelatedRows GuessIs ks rs (guesses rs)
 cells_guess [] [] z = tt
 cells_guess [] (r ∷ rs) z = elim z [ ]
 cells_guess (k ∷ ks) [] z = elim z [ ]
-cells_guess (k ∷ ks) (r ∷ rs) z = (record { valid = within_guess k r z.0; is = refl }, cells_guess ks rs z.1)
+cells_guess (k ∷ ks) (r ∷ rs) z = (guesses_itself k r z.0, cells_guess ks rs z.1)
 
 -- the range of a typed expression holds its value, and guesses its value on the guesses
 pub ranges_hold_values : RangesHoldValues

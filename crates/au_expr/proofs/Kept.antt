@@ -24,18 +24,19 @@ pub ranges_kept : (w : World) → Related (RangeIs w) on_ranges ordinary
 ranges_kept possible = holds_along
 ranges_kept guess = guess_along
 
--- a range guesses its guess
-pub guesses_itself : (k : Kind) (r : Span) → IsRangeOf k r → GuessIs k r r.sg
-guesses_itself k r p = record {
-  valid = record {
-    lo_kind = p.range.lo_kind ∙ p.kind;
-    hi_kind = p.range.hi_kind ∙ p.kind;
-    kind = p.kind;
-    lo = p.range.lo_sg;
-    hi = p.range.sg_hi;
-  };
-  is = refl;
+-- a range holds its guess
+pub within_guess : (k : Kind) (r : Span) → IsRangeOf k r → Within k r r.sg
+within_guess k r p = record {
+  lo_kind = p.range.lo_kind ∙ p.kind;
+  hi_kind = p.range.hi_kind ∙ p.kind;
+  kind = p.kind;
+  lo = p.range.lo_sg;
+  hi = p.range.sg_hi;
 }
+
+-- and guesses it
+pub guesses_itself : (k : Kind) (r : Span) → IsRangeOf k r → GuessIs k r r.sg
+guesses_itself k r p = record { valid = within_guess k r p; is = refl }
 
 -- and what holds its own guess is a range
 pub range_from : (k : Kind) (r : Span) → Within k r r.sg → IsRangeOf k r
