@@ -45,10 +45,10 @@ three_fit x y z (Ok l) (Ok s) (Ok t) e a b c h =
     rw h (fit_more x (y ∷ z ∷ []) a.0 (fit_more y (z ∷ []) b.0 (fit_more z [] c.0 refl)), λ i. range (Int (a.1 i)) (Int (b.1 i)) (Int (c.1 i)))
 
 -- the lesser and the greater of two values that fit
-fit_lesser : (a b : Value) → Fit (number_if_any a) → Fit (number_if_any b) → Fit (number_if_any (lesser a b))
+pub fit_lesser : (a b : Value) → Fit (number_if_any a) → Fit (number_if_any b) → Fit (number_if_any (lesser a b))
 fit_lesser a b p q = cond_both (at_most a b) a b (λ v. Fit (number_if_any v)) (λ _. p) (λ _. q)
 
-fit_greater : (a b : Value) → Fit (number_if_any a) → Fit (number_if_any b) → Fit (number_if_any (greater a b))
+pub fit_greater : (a b : Value) → Fit (number_if_any a) → Fit (number_if_any b) → Fit (number_if_any (greater a b))
 fit_greater a b p q = cond_both (at_most a b) b a (λ v. Fit (number_if_any v)) (λ _. q) (λ _. p)
 
 either_int : (t : Bool) (a b : ℤ) → Int (if t then a else b) ≡ (if t then Int a else Int b)

@@ -3,19 +3,18 @@ use Rattle.std.specs.Prelude.{◌≡◌, ℕ, zero, suc, ◌+◌, ◌-◌, ◌^�
 use Rattle.std.specs.List.{AllByRecursion, list_all}
 use Rattle.std.proofs.Common.{arith, refl, ◌∙◌}
 use Rattle.std.proofs.lemmas.Int.{ints}
-use Rattle.std.proofs.lemmas.Bool.{and_parts, and_from, le-leb, leb-true, cond_both}
+use Rattle.std.proofs.lemmas.Bool.{and_parts, and_from, le-leb, leb-true}
 use Rattle.std.proofs.lemmas.List.Folds.{list_all-append}
 use Rattle.std.proofs.lemmas.List.Sums.{sum_by-cons}
 use Rattle.au_value.specs.declared.kinds.Kind.{Kind}
 use Rattle.au_value.specs.declared.kinds.Kind.TheVariants as kind
 use Rattle.au_value.specs.declared.value.Value.{Value}
-use Rattle.au_value.specs.Order.{kind_of, at_most}
-use Rattle.au_value.specs.Ranges.{lesser, greater}
+use Rattle.au_value.specs.Order.{kind_of}
 use Rattle.au_expr.specs.Figures.{fit, Fit}
 use Rattle.au_expr.specs.Numbers.{number_if_any}
 use Rattle.au_expr.specs.Ordinary.{is_true, number}
 use Rattle.au_expr.specs.Kinds.{is_kind}
-use Rattle.au_expr.proofs.Fits.{fit_parts}
+use Rattle.au_expr.proofs.Fits.{fit_parts, fit_lesser, fit_greater}
 use Rattle.au_algebra.specs.Lists.{distinct, same_row, int_sum, least, greatest}
 use Rattle.au_algebra.specs.Ordinary.{Rows}
 use Rattle.au_algebra.specs.Typing.{same_kinds, kinds_if, all_kinds}
@@ -100,13 +99,6 @@ beside_fit row (b ∷ rows) h k = (joined_fits row b h k.0, beside_fit row rows 
 pairs_fit : (xs ys : Rows) → FitRows xs → FitRows ys → FitRows (flat_map (λ a. map (λ b. a ++ b) ys) xs)
 pairs_fit [] ys h k = tt
 pairs_fit (x ∷ xs) ys h k = all_append RowFits (map (λ b. x ++ b) ys) (flat_map (λ a. map (λ b. a ++ b) ys) xs) (beside_fit x ys h.0 k) (pairs_fit xs ys h.1 k)
-
--- the lesser and the greater of two values that fit
-pub fit_lesser : (a b : Value) → ValueFits a → ValueFits b → ValueFits (lesser a b)
-fit_lesser a b p q = cond_both (at_most a b) a b ValueFits (λ _. p) (λ _. q)
-
-pub fit_greater : (a b : Value) → ValueFits a → ValueFits b → ValueFits (greater a b)
-fit_greater a b p q = cond_both (at_most a b) b a ValueFits (λ _. q) (λ _. p)
 
 -- the least and the greatest of values that fit
 least_fits : (vs : List Value) → AllByRecursion ValueFits vs → ValueFits (least vs)

@@ -15,12 +15,11 @@ use Rattle.au_expr.specs.OnRanges as on_ranges
 use Rattle.au_expr.specs.OnRanges.{range_of}
 use Rattle.au_expr.specs.Figures.{Fit}
 use Rattle.au_expr.specs.Numbers.{number_if_any, components, end_products, expr_numbers}
-use Rattle.au_expr.proofs.Fits.{fit_parts}
+use Rattle.au_expr.proofs.Fits.{fit_parts, fit_lesser, fit_greater}
 use Rattle.au_algebra.proofs.Items.{some_is}
 use Rattle.au_plain.specs.declared.expr.Comparison2.{Comparison2}
 use Rattle.au_plain.specs.declared.expr.Comparison2.TheVariants as how
 use Rattle.au_plain.specs.PTerms.{PTerm, Multiply, Compare, And, Case}
-use Rattle.au_plain.proofs.Held.{fit_lesser, fit_greater}
 use Rattle.au_rwexpr.specs.Flatten as step
 use Rattle.au_rwexpr.proofs.Columns.{Means}
 use Rattle.au_rwexpr.proofs.Structure.{Steps, Below, Any}
