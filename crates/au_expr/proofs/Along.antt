@@ -27,6 +27,7 @@ pub is_kind_is : (k : Kind) (o : Option Kind) → is_kind k o ≡ true → o ≡
 is_kind_is k None h = absurd (true≢false (sym h))
 is_kind_is k (Some j) h = ap Some (sym (kind_eq_is k j h))
 
+-- what the kind of an expression says of its parts
 pub kind_if_is : (b : Bool) (j k : Kind) → kind_if b j ≡ Some k → (b ≡ true) × (j ≡ k)
 kind_if_is true j k h = (refl, cc)
 kind_if_is false j k h = cc
@@ -47,18 +48,21 @@ pub agreed_is : (a b : Option Kind) (k : Kind) → agreed a b ≡ Some k → (a 
 agreed_is None b k h = cc
 agreed_is (Some j) b k h = let p = kind_if_is (is_kind j b) j k h in (ap Some p.1, is_kind_is j b p.0 ∙ ap Some p.1)
 
+pub both_of : (m n : Kind) (a b : Option Kind) (k : Kind) → kind_if (is_kind m a && is_kind m b) n ≡ Some k → (a ≡ Some m) × (b ≡ Some m) × (n ≡ k)
+both_of m n a b k h =
+    let p = kind_if_is _ _ _ h in
+    let q = and_parts _ _ p.0 in
+    (is_kind_is m a q.0, is_kind_is m b q.1, p.1)
+
+pub one_of : (m n : Kind) (a : Option Kind) (k : Kind) → kind_if (is_kind m a) n ≡ Some k → (a ≡ Some m) × (n ≡ k)
+one_of m n a k h = let p = kind_if_is _ _ _ h in (is_kind_is m a p.0, p.1)
+
 module _ {C D : Type 0} (R : Kind → C → D → Type 0) (c : Operators C) (d : Operators D) (along : Related R c d) where
   cell_along : (ks : List Kind) (xs : List C) (us : List D) → RelatedRows R ks xs us → (i : ℕ) (k : Kind) → slice_get ks i ≡ Some k → R k (cell_at c xs i) (cell_at d us i)
   cell_along [] [] [] rows i k h = cc
   cell_along (j ∷ ks) (x ∷ xs) (u ∷ us) rows zero k h = subst (λ m. R m x u) (let e : j ≡ k = cc in e) rows.0
   cell_along (j ∷ ks) (x ∷ xs) (u ∷ us) rows (suc i) k h = cell_along ks xs us rows.1 i k h
   cell_along _ _ _ rows i k h = absurd rows
-
-  both_of : (m n : Kind) (a b : Option Kind) (k : Kind) → kind_if (is_kind m a && is_kind m b) n ≡ Some k → (a ≡ Some m) × (b ≡ Some m) × (n ≡ k)
-  both_of m n a b k h =
-      let p = kind_if_is _ _ _ h in
-      let q = and_parts _ _ p.0 in
-      (is_kind_is m a q.0, is_kind_is m b q.1, p.1)
 
   module _ (ks : List Kind) (xs : List C) (us : List D) (rows : RelatedRows R ks xs us) where
     at_kind : (e : Term) (m k : Kind) → m ≡ k → R m (evaluate c e xs) (evaluate d e us) → R k (evaluate c e xs) (evaluate d e us)
@@ -83,11 +87,11 @@ module _ {C D : Type 0} (R : Kind → C → D → Type 0) (c : Operators C) (d :
         let p = both_of Flag Flag _ _ k h in
         at_kind (Or a b) _ k p.2 (along.or _ _ _ _ (evaluate_along a Flag p.0) (evaluate_along b Flag p.1))
     evaluate_along (Negate a) k h =
-        let p = kind_if_is _ _ _ h in
-        at_kind (Negate a) _ k p.1 (along.negate _ _ (evaluate_along a Int (is_kind_is Int _ p.0)))
+        let p = one_of Int Int _ k h in
+        at_kind (Negate a) _ k p.1 (along.negate _ _ (evaluate_along a Int p.0))
     evaluate_along (Not a) k h =
-        let p = kind_if_is _ _ _ h in
-        at_kind (Not a) _ k p.1 (along.not _ _ (evaluate_along a Flag (is_kind_is Flag _ p.0)))
+        let p = one_of Flag Flag _ k h in
+        at_kind (Not a) _ k p.1 (along.not _ _ (evaluate_along a Flag p.0))
     evaluate_along (Compare how a b) k h =
         let p = kind_if_is _ _ _ h in
         let q = some_agreed _ _ p.0 in

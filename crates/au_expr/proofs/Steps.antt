@@ -1,7 +1,6 @@
 -- The steps of an evaluation, put together.
 use Rattle.std.specs.Prelude.{◌≡◌, ℕ, zero, suc, List, [], ◌∷◌, ◌++◌, Some, Option, slice_get, unwrap_or, get_or, pos, ◌&&◌}
 use Rattle.std.proofs.Common.{refl, sym, ◌∙◌, ap, subst}
-use Rattle.std.proofs.lemmas.Bool.{and_parts}
 use Rattle.au_value.specs.declared.kinds.Kind.{Kind}
 use Rattle.au_value.specs.declared.kinds.Kind.TheVariants as kind
 use Rattle.au_value.specs.declared.value.Value.{Value}
@@ -15,7 +14,7 @@ use Rattle.au_expr.specs.Ordinary.{ordinary, value_of}
 use Rattle.au_expr.specs.Related.{RelatedRows}
 use Rattle.au_expr.specs.Steps.{Both, Combined, Found, Held, combined, formed, kind_given}
 use Rattle.au_expr.specs.Terms.{Term, Column, Literal, Add, Subtract, Multiply, Negate, Compare, And, Or, Not, Case}
-use Rattle.au_expr.proofs.Along.{is_kind_is, kind_if_is, some_agreed}
+use Rattle.au_expr.proofs.Along.{kind_if_is, some_agreed, both_of, one_of}
 use Rattle.au_expr.proofs.Fits.{fit_both, fit_parts}
 
 -- the parts of an operator
@@ -33,27 +32,18 @@ some_is : {A : Type 0} (x y : A) → Some x ≡ Some y → x ≡ y
 some_is x y h = ap (λ o. unwrap_or o x) h
 
 -- the kinds of an operator's parts, where it has a kind
-int_pair : (a b : Option Kind) (j k : Kind) → kind_if (is_kind j a && is_kind j b) kind.Int ≡ Some k → ((a ≡ Some j) × (b ≡ Some j)) × (kind.Int ≡ k)
-int_pair a b j k h =
-    let p = kind_if_is _ _ _ h in
-    let q = and_parts _ _ p.0 in
-    ((is_kind_is j a q.0, is_kind_is j b q.1), p.1)
-
-flag_pair : (a b : Option Kind) (j k : Kind) → kind_if (is_kind j a && is_kind j b) kind.Flag ≡ Some k → ((a ≡ Some j) × (b ≡ Some j)) × (kind.Flag ≡ k)
-flag_pair a b j k h =
-    let p = kind_if_is _ _ _ h in
-    let q = and_parts _ _ p.0 in
-    ((is_kind_is j a q.0, is_kind_is j b q.1), p.1)
+pair_of : (m n : Kind) (a b : Option Kind) (k : Kind) → kind_if (is_kind m a && is_kind m b) n ≡ Some k → ((a ≡ Some m) × (b ≡ Some m)) × (n ≡ k)
+pair_of m n a b k h = let p = both_of m n a b k h in ((p.0, p.1), p.2)
 
 kinds_below : (ks : List Kind) (e l r : Term) (k : Kind) → Parts e l r → kind_in ks e ≡ Some k → Both (λ j. kind_in ks l ≡ Some j) (λ j. kind_in ks r ≡ Some j) e × (kind_given e ≡ k)
-kinds_below ks _ l r k sum h = int_pair _ _ kind.Int k h
-kinds_below ks _ l r k difference h = int_pair _ _ kind.Int k h
-kinds_below ks _ l r k product h = int_pair _ _ kind.Int k h
-kinds_below ks _ l r k negation h = let p = kind_if_is _ _ _ h in ((is_kind_is kind.Int _ p.0, is_kind_is kind.Int _ p.0), p.1)
+kinds_below ks _ l r k sum h = pair_of kind.Int kind.Int _ _ k h
+kinds_below ks _ l r k difference h = pair_of kind.Int kind.Int _ _ k h
+kinds_below ks _ l r k product h = pair_of kind.Int kind.Int _ _ k h
+kinds_below ks _ l r k negation h = let p = one_of kind.Int kind.Int _ k h in ((p.0, p.0), p.1)
 kinds_below ks _ l r k comparison h = let p = kind_if_is _ _ _ h in (some_agreed _ _ p.0, p.1)
-kinds_below ks _ l r k conjunction h = flag_pair _ _ kind.Flag k h
-kinds_below ks _ l r k disjunction h = flag_pair _ _ kind.Flag k h
-kinds_below ks _ l r k opposite h = let p = kind_if_is _ _ _ h in ((is_kind_is kind.Flag _ p.0, is_kind_is kind.Flag _ p.0), p.1)
+kinds_below ks _ l r k conjunction h = pair_of kind.Flag kind.Flag _ _ k h
+kinds_below ks _ l r k disjunction h = pair_of kind.Flag kind.Flag _ _ k h
+kinds_below ks _ l r k opposite h = let p = one_of kind.Flag kind.Flag _ k h in ((p.0, p.0), p.1)
 
 both_map : (P Q S T : Kind → Type 0) → ((j : Kind) → P j → S j) → ((j : Kind) → Q j → T j) → (e : Term) → Both P Q e → Both S T e
 both_map P Q S T f g (Add a b) h = (f kind.Int h.0, g kind.Int h.1)

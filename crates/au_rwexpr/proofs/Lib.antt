@@ -8,7 +8,6 @@ pub mod Flags
 pub mod FlattenLaws
 pub mod Flattening
 pub mod Gives
-pub mod Inversion
 pub mod Meeting
 pub mod MeetingKinds
 pub mod MeetingNumbers

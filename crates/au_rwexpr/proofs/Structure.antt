@@ -9,7 +9,7 @@ use Rattle.au_value.specs.declared.value.Value.{Value}
 use Rattle.au_value.specs.declared.comparison.Comparison.{Comparison}
 use Rattle.au_expr.specs.Terms.{Term, Column, Literal, Add, Subtract, Multiply, Negate, Compare, And, Or, Not, Case}
 use Rattle.au_expr.specs.Kinds.{kind_in}
-use Rattle.au_expr.proofs.Along.{is_kind_is}
+use Rattle.au_expr.proofs.Along.{is_kind_is, kind_if_is, only_if_is, some_agreed, agreed_is, both_of, one_of}
 use Rattle.au_plain.specs.PTerms.{PTerm}
 use Rattle.au_rwexpr.specs.Flatten as plain
 use Rattle.au_rwexpr.specs.Flatten.{before, flatten}
@@ -20,7 +20,6 @@ use Rattle.au_rwexpr.specs.Flatten.{flatten_items, item_places}
 use Rattle.au_rwexpr.specs.Cells.{three_places}
 use Rattle.au_rwexpr.proofs.Picks.{Picks, picks_more, pick_three}
 use Rattle.au_rwexpr.proofs.Columns.{AllMean, add_columns, adds, then_adds}
-use Rattle.au_rwexpr.proofs.Inversion.{kind_if_is, only_if_is, some_agreed, agreed_is, both_of, is_kind_of}
 use Rattle.au_rwexpr.proofs.Coded.{own}
 
 -- what holds of an expression holds of its parts
@@ -226,7 +225,7 @@ module _ {A X : Type 0} (l s h : X → A) (f : List A → PTerm → Option A) (k
           let p = both_of Int Int _ _ k t in
           two_parts plain.multiply_step (Multiply a b) a b (flattened a Int y.0 p.0) (flattened b Int y.1 p.1) (steps.multiply a b z p.0 p.1)
       flattened (Negate a) k z t =
-          let p = is_kind_of Int Int _ k t in one_part plain.negate_step (Negate a) a (flattened a Int (below.negate a z) p.0) (steps.negate a z p.0)
+          let p = one_of Int Int _ k t in one_part plain.negate_step (Negate a) a (flattened a Int (below.negate a z) p.0) (steps.negate a z p.0)
       flattened (Compare how a b) k z t =
           let y = below.compare how a b z in
           let p = kind_if_is _ _ _ t in
@@ -241,7 +240,7 @@ module _ {A X : Type 0} (l s h : X → A) (f : List A → PTerm → Option A) (k
           let p = both_of Flag Flag _ _ k t in
           two_parts plain.or_step (Or a b) a b (flattened a Flag y.0 p.0) (flattened b Flag y.1 p.1) (steps.or a b z p.0 p.1)
       flattened (Not a) k z t =
-          let p = is_kind_of Flag Flag _ k t in one_part plain.not_step (Not a) a (flattened a Flag (below.not a z) p.0) (steps.not a z p.0)
+          let p = one_of Flag Flag _ k t in one_part plain.not_step (Not a) a (flattened a Flag (below.not a z) p.0) (steps.not a z p.0)
       flattened (Case c a b) k z t =
           let y = below.choose c a b z in
           let p = only_if_is _ _ _ t in
