@@ -1,15 +1,14 @@
 -- At valid triples the general reading is the bounded relation, and its condition says that the numbers lie in the range.
-use Rattle.std.specs.Prelude.{◌≡◌, ℕ, zero, suc, ◌+◌, ◌-◌, ◌*◌, ◌^◌, ◌<◌, ◌≤◌, ◌==◌, Bool, true, false, not, ◌&&◌, cond, nat_le, nat_lt, List, [], ◌∷◌, ◌++◌, map, flat_map, Some, pos, ℤ}
-use Rattle.std.specs.List.{list_all, AllByRecursion, AllZip}
+use Rattle.std.specs.Prelude.{◌≡◌, ℕ, ◌+◌, ◌-◌, ◌*◌, ◌^◌, ◌≤◌, ◌==◌, Bool, true, false, not, ◌&&◌, cond, nat_le, nat_lt, List, [], ◌∷◌, ◌++◌, map, flat_map, Some, pos}
+use Rattle.std.specs.List.{list_all, AllZip}
 use Rattle.std.proofs.Common.{arith, refl, sym, ◌∙◌, ap, subst}
 use Rattle.std.proofs.lemmas.Bool.{and_parts, and_from, true≢false, eqb-true, eq-eqb}
 use Rattle.std.proofs.lemmas.List.Folds.{list_all-append}
 use borrow.Author.Tests.{leb-true, le-leb, lt-ltb, ltb-true}
 use Rattle.au_value.specs.declared.kinds.Kind.{Kind}
 use Rattle.au_value.specs.declared.kinds.Kind.TheVariants.{Flag}
-use Rattle.au_value.specs.declared.value.Value.{Value}
-use Rattle.au_value.specs.Ranges.{Span, IsRangeOf}
-use Rattle.au_annot.specs.Triples.{Counts, counts, IsTriple, plus, times, none, one, at_most, is_none, in_range as counts_in_range}
+use Rattle.au_value.specs.Ranges.{Span}
+use Rattle.au_annot.specs.Triples.{Counts, counts, IsTriple, times, none, at_most, is_none, in_range as counts_in_range}
 use Rattle.au_expr.specs.Terms.{Term}
 use Rattle.au_expr.specs.Kinds.{kind_in}
 use Rattle.au_expr.specs.Numbers.{of_ranges, expr_numbers}
@@ -19,20 +18,20 @@ use Rattle.au_expr.specs.Truths.{three_way}
 use Rattle.au_expr.proofs.Along.{is_kind_is}
 use Rattle.au_algebra.specs.Bounded as bounded
 use Rattle.au_algebra.specs.Bounded.{RangeRow, Bounded, bounded, truth, weight}
-use Rattle.au_algebra.specs.Entries.{Entry, entry}
+use Rattle.au_algebra.specs.Entries.{entry}
 use Rattle.au_algebra.specs.Fits as ints
-use Rattle.au_algebra.specs.Laws.{IsRangeRow, IsRelation}
+use Rattle.au_algebra.specs.Laws.{IsRelation}
 use Rattle.au_algebra.specs.Positive as positive
 use Rattle.au_algebra.specs.Trees.{Tree, Table, Select, Project, Product, Union, Difference, Distinct, Group, Total}
-use Rattle.au_algebra.specs.Typing.{kinds_of, items_kinds}
+use Rattle.au_algebra.specs.Typing.{kinds_of}
 use Rattle.au_algebra.proofs.Each.{all_append}
-use Rattle.au_algebra.proofs.Items.{and_then_is, some_is, chosen_is}
+use Rattle.au_algebra.proofs.Items.{and_then_is, chosen_is}
 use Rattle.au_algebra.proofs.KeptBySelect.{selected}
 use Rattle.au_algebra.proofs.PositiveRelation.{same_kinds_is, select_loose, project_loose, product_loose}
 use Rattle.au_algebra.proofs.RelationRows.{IsLooseRow, IsLoose, relation_loose}
 use Rattle.au_algebra.proofs.TreeRelation.{its_kinds, tree_relation}
-use Rattle.au_keval.specs.Links.{over_ranges, over_values, tables_fit, ReadingIsBounded, ReadingIsCounted, ConditionIsNumbers}
-use Rattle.au_keval.specs.Reading.{annotations, fits, select_fits, project_fits, product_fits, pair_fits}
+use Rattle.au_keval.specs.Links.{over_ranges, tables_fit, ReadingIsBounded, ReadingIsCounted, ConditionIsNumbers}
+use Rattle.au_keval.specs.Reading.{fits, select_fits, project_fits, product_fits}
 use Rattle.au_keval.specs.Weights.{count_of, triple_of}
 
 -- two tests that follow from each other
