@@ -5,7 +5,7 @@ ghost use Rattle.au_value.specs.Order.{order as order_of};
 ghost use Rattle.au_algebra.specs.Bounded.{ranges_order};
 ghost use Rattle.au_algebra.specs.Ends.{end_of};
 
-use au_value::{Kind, Range, Value, kind, order};
+use au_value::{Range, Value, compare};
 use std::cmp::Ordering;
 
 /// One of a range's three values.
@@ -24,17 +24,6 @@ fn value_at(end: End, range: &Range) -> &Value
         End::Guess => range.sg(),
         End::Lower => range.lo(),
         End::Upper => range.hi(),
-    }
-}
-
-// The order of two values of any kinds: numbers below texts below flags.
-fn compare(a: &Value, b: &Value) -> Ordering
-    ensures { result ≡ order_of a.now b.now }
-{
-    match (kind(a), kind(b)) {
-        (Kind::Int, Kind::Int) | (Kind::Text, Kind::Text) | (Kind::Flag, Kind::Flag) => order(a, b),
-        (Kind::Int, _) | (Kind::Text, Kind::Flag) => Ordering::Less,
-        _ => Ordering::Greater,
     }
 }
 

@@ -3,19 +3,8 @@ ghost use Rattle.std.specs.Prelude.{◌≡◌};
 ghost use Rattle.std.specs.Cmp.Lexicographic.{slice_cmp};
 ghost use Rattle.au_value.specs.Order.{order as order_of};
 
-use au_value::{Kind, Value, kind, order};
+use au_value::{Value, compare};
 use std::cmp::Ordering;
-
-// The order of two values of any kinds: numbers below texts below flags.
-fn compare(a: &Value, b: &Value) -> Ordering
-    ensures { result ≡ order_of a.now b.now }
-{
-    match (kind(a), kind(b)) {
-        (Kind::Int, Kind::Int) | (Kind::Text, Kind::Text) | (Kind::Flag, Kind::Flag) => order(a, b),
-        (Kind::Int, _) | (Kind::Text, Kind::Flag) => Ordering::Less,
-        _ => Ordering::Greater,
-    }
-}
 
 /// The order of two rows of values.
 pub fn compare_values(a: &[Value], b: &[Value]) -> Ordering

@@ -1,5 +1,7 @@
 //! Tables of cases: numerals, sums, and ranges of each kind.
-use crate::{Adder, Kind, NoMemory, Overflow, Range, Value, Word, copy, kind, order, read_numeral};
+use crate::{
+    Adder, Kind, NoMemory, Overflow, Range, Value, Word, compare, copy, kind, order, read_numeral,
+};
 use std::alloc::Global;
 use std::cmp::Ordering;
 use std::test::Fail;
@@ -76,6 +78,21 @@ fn texts_are_ordered_by_their_bytes(rt: HostRuntime) -> Result<(), Fail> {
             assert_eq!(rt; left.order(right), want, "{a} and {b}");
         }
     }
+    Ok(())
+}
+
+#[test]
+fn values_of_several_kinds_are_ordered_by_kind(rt: HostRuntime) -> Result<(), Fail> {
+    let number = Value::Int(GREATEST);
+    let word = text(rt.alloc(), "")?;
+    let flag = Value::Flag(false);
+    assert!(rt; compare(&number, &word).is_lt(), "a number below a text");
+    assert!(rt; compare(&word, &flag).is_lt(), "a text below a flag");
+    assert!(rt; compare(&flag, &number).is_gt(), "a flag above a number");
+    assert!(rt;
+        compare(&Value::Int(9), &number).is_lt(),
+        "numbers as numbers"
+    );
     Ok(())
 }
 

@@ -42,6 +42,17 @@ pub fn order(a: &Value, b: &Value) -> Ordering
     }
 }
 
+/// The order of two values of any kinds: numbers below texts below flags.
+pub fn compare(a: &Value, b: &Value) -> Ordering
+    ensures { result ≡ order_of a.now b.now }
+{
+    match (kind(a), kind(b)) {
+        (Kind::Int, Kind::Int) | (Kind::Text, Kind::Text) | (Kind::Flag, Kind::Flag) => order(a, b),
+        (Kind::Int, _) | (Kind::Text, Kind::Flag) => Ordering::Less,
+        _ => Ordering::Greater,
+    }
+}
+
 /// A copy of a value. Only that of a text takes memory.
 pub fn copy(value: &Value) -> Result<Value, NoMemory>
     ensures { IfOk result (λ v. v ≡ value.now) }
