@@ -5,7 +5,7 @@ use Rattle.au_value.specs.declared.kinds.Kind.{Kind}
 use Rattle.au_value.specs.declared.value.Value.{Value}
 use Rattle.au_value.specs.Order.{kind_of}
 use Rattle.au_value.specs.Ranges.{Span, IsRangeOf}
-use Rattle.au_value.proofs.RangeLaws.{kind_lesser, kind_greater}
+use Rattle.au_value.proofs.RangeLaws.{lesser_assoc, greater_assoc, kind_lesser, kind_greater}
 use Rattle.au_algebra.specs.Bounded.{RangeRow, Bounded}
 use Rattle.au_kfull.specs.declared.extremes.Extreme.{Extreme}
 use Rattle.au_kfull.specs.declared.extremes.Extreme.TheVariants.{Least, Greatest}
@@ -13,7 +13,6 @@ use Rattle.au_kfull.specs.declared.sums.Bound.{Bound}
 use Rattle.au_kfull.specs.declared.sums.Bound.TheVariants.{Lower, Guess, Upper}
 use Rattle.au_kfull.specs.Groups.{end_of}
 use Rattle.au_kfull.specs.Extremes.{extreme_of, better, HasColumn, HaveColumn}
-use Rattle.au_kfull.proofs.HullFolds.{lesser_assoc, greater_assoc}
 use Rattle.au_kfull.proofs.RowByRow.{split_at}
 
 -- the first two values may be put into one
