@@ -1,6 +1,7 @@
 pub mod Choices
 pub mod Each
 pub mod Copies
+pub mod Counted
 pub mod DistinctKeys
 pub mod MergedBy
 pub mod Cells

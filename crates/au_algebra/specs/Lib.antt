@@ -1,4 +1,5 @@
 pub mod Bounded
+pub mod Counted
 pub mod Distribution
 pub mod Entries
 pub mod Fits

@@ -8,6 +8,7 @@ use Rattle.au_expr.specs.Terms.{Term}
 use Rattle.au_expr.specs.Evaluate.{Operators, evaluate}
 use Rattle.au_expr.specs.Ordinary.{ordinary}
 use Rattle.au_algebra.specs.Bounded.{Bounded, truth, weight}
+use Rattle.au_algebra.specs.Counted.{CountedRow}
 use Rattle.au_algebra.specs.Entries.{Entry, entry}
 use Rattle.au_algebra.specs.Trees.{Tree, Table, Select, Project, Product, Union, Difference, Distinct, Group, Total}
 
@@ -70,5 +71,5 @@ abbrev pub numbers : Annotations Value ℕ
 numbers = record { zero = 0; one = 1; plus = λ m n. m + n; times = λ m n. m * n; is_zero = λ n. n == 0; weight = truth }
 
 -- the guessed rows with their counts, those with none left out
-abbrev pub guessed_rows : Bounded → List (Entry Value ℕ)
+abbrev pub guessed_rows : Bounded → List CountedRow
 guessed_rows rows = present ordinary numbers (map (λ r. entry (guesses r.cells) r.annot.guess) rows)

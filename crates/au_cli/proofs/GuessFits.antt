@@ -1,7 +1,8 @@
 -- Whether the numbers of an answer in the guess world fit, its printed counts among them.
 use Rattle.std.proofs.Common.{◌≡◌, ◌&&◌, Bool, true, false, List, refl, sym, ◌∙◌, ap}
+use Rattle.au_algebra.specs.Counted.{CountedRow, StandsFor}
 use Rattle.au_algebra.specs.Ordinary.{Rows}
-use Rattle.au_print.specs.GuessTexts.{CountedRow, StandsFor, counts_fit, guess_rows, world_rows}
+use Rattle.au_print.specs.GuessTexts.{counts_fit, guess_rows, world_rows}
 use Rattle.au_print.proofs.GuessWorlds.{guess_world}
 
 both : (a b : Bool) → a ≡ true → b ≡ true → (a && b) ≡ true

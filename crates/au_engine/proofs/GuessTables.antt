@@ -9,36 +9,22 @@ use Rattle.au_value.specs.declared.value.Value.{Value}
 use Rattle.au_value.specs.Order.{kind_of, kind_eq}
 use Rattle.au_expr.specs.Ordinary.{IsKind}
 use Rattle.au_expr.proofs.Along.{kind_eq_is}
+use Rattle.au_algebra.specs.Counted.{CountedRow, StandsFor, ones}
 use Rattle.au_algebra.specs.Entries.{Entry, entry}
 use Rattle.au_algebra.specs.Lists.{same_row, copies}
 use Rattle.au_algebra.specs.Ordinary.{Rows}
 use Rattle.au_algebra.specs.Trees.{Tree}
 use Rattle.au_algebra.specs.Typing.{kinds_of}
-use Rattle.au_algebra.proofs.Copies.{copies-cons}
-use Rattle.au_algebra.proofs.Choices.{sum_if}
+use Rattle.au_algebra.proofs.Counted.{ones_stand}
 use Rattle.au_blocks.specs.Blocks.{Choices}
 use Rattle.au_blocks.specs.Tables.{BlockTable, IsBlockTable, column_kinds, fits_kinds}
 use Rattle.au_blocks.specs.Worlds.{chosen, guess_world, rows_in, tables_in}
 use Rattle.au_translate.specs.Translate.{guess_choices, guessed_table}
 use Rattle.au_keval.specs.Reading as reading
-use Rattle.au_kfull.specs.Embedding.{StandsFor, count_of, ones}
 use Rattle.au_kfull.specs.Typed.{HasValueKinds, IsTypedOverValues}
 use Rattle.au_blocks.specs.declared.column.Column.{Column}
 
 -- ---- what the rows stand for
-
-stands_step : (v row : List Value) (w : Rows) → copies v w ≡ count_of (ones w) v → copies v (row ∷ w) ≡ count_of (ones (row ∷ w)) v
-stands_step v row w h =
-    let more = sum_if (λ s. s.annot) (same_row v row) (entry row 1) (filter (λ s. same_row v s.cells) (ones w)) in
-    by (same_row v row) (copies-cons v row w) more
-  where
-    by : (b : Bool) → copies v (row ∷ w) ≡ cond b 1 0 + copies v w → sum_by (λ s. s.annot) (cond b (entry row 1 ∷ filter (λ s. same_row v s.cells) (ones w)) (filter (λ s. same_row v s.cells) (ones w))) ≡ cond b 1 0 + count_of (ones w) v
-        → copies v (row ∷ w) ≡ sum_by (λ s. s.annot) (cond b (entry row 1 ∷ filter (λ s. same_row v s.cells) (ones w)) (filter (λ s. same_row v s.cells) (ones w)))
-    by b e f = omega (arith, e, f, h)
-
-ones_stand : (w : Rows) → StandsFor (ones w) w
-ones_stand [] v = refl
-ones_stand (row ∷ w) v = stands_step v row w (ones_stand w v)
 
 pub all_stand : (ws : List Rows) → AllZip StandsFor (map ones ws) ws
 all_stand [] = tt
@@ -80,7 +66,7 @@ rows_fit ks (b ∷ bs) h =
     let p = and_parts (list_all (fits_kinds ks) b.alternatives) (list_all (λ c. list_all (fits_kinds ks) c.alternatives) bs) h in
     append_fits ks (chosen b b.guess) (rows_in bs (map (λ c. c.guess) bs)) (chosen_fits ks b b.guess p.0) (rows_fit ks bs p.1)
 
-abbrev IsValues : List Kind → List (Entry Value ℕ) → Type 0
+abbrev IsValues : List Kind → List CountedRow → Type 0
 IsValues ks rows = reading.IsRelation IsKind (λ n. Unit {0}) ks rows
 
 ones_kinds : (ks : List Kind) (w : Rows) → Fits ks w → IsValues ks (ones w)
@@ -91,7 +77,7 @@ tables_kinds : (ts : List BlockTable) → AllByRecursion IsBlockTable ts → All
 tables_kinds [] h = tt
 tables_kinds (t ∷ ts) h = (ones_kinds (column_kinds t) (rows_in t.blocks (guess_choices t)) (rows_fit (column_kinds t) t.blocks h.0.table.rows), tables_kinds ts h.1)
 
-pub can_guess : (ts : List BlockTable) (q : Tree) (ks : List Kind) (rows : List (List (Entry Value ℕ))) → kinds_of (map column_kinds ts) q ≡ Some ks
+pub can_guess : (ts : List BlockTable) (q : Tree) (ks : List Kind) (rows : List (List CountedRow)) → kinds_of (map column_kinds ts) q ≡ Some ks
     → rows ≡ map guessed_table ts → AllByRecursion IsBlockTable ts → IsTypedOverValues q rows
 can_guess ts q ks rows typed e ok = (map column_kinds ts, ap is_some typed, subst (AllZip IsValues (map column_kinds ts)) (sym e) (tables_kinds ts ok))
 
@@ -103,11 +89,11 @@ same_length [] (v ∷ row) h = elim h [ ]
 same_length (k ∷ ks) [] h = elim h [ ]
 same_length (k ∷ ks) (v ∷ row) h = ap suc (same_length ks row h.1)
 
-widths : (ks : List Kind) (n : ℕ) (rows : List (Entry Value ℕ)) → length ks ≡ n → IsValues ks rows → AllByRecursion (λ r. length r.cells ≡ n) rows
+widths : (ks : List Kind) (n : ℕ) (rows : List CountedRow) → length ks ≡ n → IsValues ks rows → AllByRecursion (λ r. length r.cells ≡ n) rows
 widths ks n [] e h = tt
 widths ks n (r ∷ rows) e h = (same_length ks r.cells h.0.cells ∙ e, widths ks n rows e h.1)
 
-pub guess_widths : (ts : List BlockTable) (q : Tree) (ks : List Kind) (given : List (List (Entry Value ℕ))) (found : List (Entry Value ℕ)) (names : List (List ℕ)) (columns : List Column)
+pub guess_widths : (ts : List BlockTable) (q : Tree) (ks : List Kind) (given : List (List CountedRow)) (found : List CountedRow) (names : List (List ℕ)) (columns : List Column)
     → kinds_of (map column_kinds ts) q ≡ Some ks → given ≡ map guessed_table ts → AllByRecursion IsBlockTable ts → HasValueKinds q given found
     → names ≡ map (λ c. c.name) columns → ks ≡ map (λ c. c.kind) columns → AllByRecursion (λ r. length r.cells ≡ length names) found
 guess_widths ts q ks given found names columns typed e ok has named kinds =

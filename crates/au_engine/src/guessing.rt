@@ -1,6 +1,7 @@
 //! The answer of a statement over the guess world of block tables.
 ghost use Rattle.std.specs.Prelude.{◌≡◌, [], ℕ, List, true, false, Some, IfOk, IfErr, OnOk, length, map};
 ghost use Rattle.std.specs.List.{AllByRecursion};
+ghost use Rattle.au_algebra.specs.Counted.{StandsFor};
 ghost use Rattle.au_algebra.specs.Ordinary.{answer};
 ghost use Rattle.au_algebra.specs.Trees.{tree};
 ghost use Rattle.au_algebra.specs.Typing.{kinds_of};
@@ -8,7 +9,6 @@ ghost use Rattle.au_blocks.specs.Tables.{column_kinds};
 ghost use Rattle.au_blocks.specs.declared.column.Column.{Column};
 ghost use Rattle.au_parse.specs.Views.{statement_tree};
 ghost use Rattle.au_parse.specs.Whole.{WholeQuery};
-ghost use Rattle.au_print.specs.GuessTexts.{StandsFor};
 ghost use Rattle.au_engine.specs.Answers.{AnswerCause, answer_names, blocks_of, guess_answer as guess_answer_of, guess_answer_fits, guess_tables, statement_defects, tree_guess_fits};
 
 use crate::faults::EngineFault;

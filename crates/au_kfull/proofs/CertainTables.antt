@@ -1,5 +1,5 @@
 -- Tables of values as bounded relations: their kinds, what they guess, and what the guesses of a relation stand for.
-use Rattle.std.specs.Prelude.{◌≡◌, ℕ, zero, suc, ◌+◌, ◌==◌, ◌≤◌, Bool, true, false, not, cond, List, [], ◌∷◌, map}
+use Rattle.std.specs.Prelude.{◌≡◌, ℕ, zero, suc, ◌==◌, ◌≤◌, Bool, true, false, not, cond, List, [], ◌∷◌, map}
 use Rattle.std.specs.List.{AllZip}
 use Rattle.std.proofs.Common.{arith, refl, sym, ◌∙◌, ap, subst}
 use Rattle.std.proofs.lemmas.Bool.{eqb-true}
@@ -9,6 +9,7 @@ use Rattle.au_value.specs.Ranges.{Span, IsRangeOf, certain, guesses}
 use Rattle.au_value.proofs.RangeLaws.{IsRange-certain}
 use Rattle.au_expr.specs.Ordinary.{IsKind}
 use Rattle.au_algebra.specs.Bounded.{Bounded, bounded}
+use Rattle.au_algebra.specs.Counted.{CountedRow, count_of, ones, StandsFor}
 use Rattle.au_algebra.specs.Distribution.{guess_count}
 use Rattle.au_algebra.specs.Entries.{entry}
 use Rattle.au_algebra.specs.Fits.{certain_rows}
@@ -17,11 +18,12 @@ use Rattle.au_algebra.specs.Lists.{same_row}
 use Rattle.au_algebra.specs.Ordinary.{Rows, answer}
 use Rattle.au_algebra.specs.Positive.{guessed_rows}
 use Rattle.au_algebra.specs.Trees.{Tree}
-use Rattle.au_algebra.proofs.Choices.{cond_zero, sum_if}
+use Rattle.au_algebra.proofs.Choices.{cond_zero}
+use Rattle.au_algebra.proofs.Counted.{count_of-cons, count_of-if}
 use Rattle.au_algebra.proofs.GuessCounts.{guess-cons}
 use Rattle.au_algebra.proofs.TreeGuesses.{guess_is_exact}
 use Rattle.au_algebra.proofs.TreeRelation.{tree_relation}
-use Rattle.au_kfull.specs.Embedding.{CountedRow, IsTable, embedded, embedded_row, count_of, ones, StandsFor}
+use Rattle.au_kfull.specs.Embedding.{IsTable, embedded, embedded_row}
 use Rattle.au_kfull.specs.Typed.{IsTypedOver, IsTypedOverValues, HasValueKinds}
 
 -- ---- the kinds of the ranges
@@ -62,17 +64,14 @@ certain_guesses : (vs : List Value) → guesses (map certain vs) ≡ vs
 certain_guesses [] = refl
 certain_guesses (v ∷ vs) = ap (λ ws. v ∷ ws) (certain_guesses vs)
 
-count-cons : (v : List Value) (r : CountedRow) (rows : List CountedRow) → count_of (r ∷ rows) v ≡ cond (same_row v r.cells) r.annot 0 + count_of rows v
-count-cons v r rows = sum_if (λ s. s.annot) (same_row v r.cells) r _
-
 guesses_if : (b : Bool) (v : List Value) (r : CountedRow) (rows all : List CountedRow) → (r.annot == 0) ≡ b → guess_count (map embedded_row rows) v ≡ count_of all v → guess_count (map embedded_row (cond (not b) (r ∷ rows) rows)) v ≡ count_of (r ∷ all) v
 guesses_if true v r rows all e h =
     let none : cond (same_row v r.cells) r.annot 0 ≡ 0 = cond_zero (same_row v r.cells) r.annot (eqb-true r.annot 0 e) in
-    omega (arith, h, none, count-cons v r all)
+    omega (arith, h, none, count_of-cons v r all)
 guesses_if false v r rows all e h =
     let same : cond (same_row v (guesses (map certain r.cells))) r.annot 0 ≡ cond (same_row v r.cells) r.annot 0 =
     ap (λ vs. cond (same_row v vs) r.annot 0) (certain_guesses r.cells) in
-    omega (arith, h, same, guess-cons v (embedded_row r) (map embedded_row rows), count-cons v r all)
+    omega (arith, h, same, guess-cons v (embedded_row r) (map embedded_row rows), count_of-cons v r all)
 
 -- the relation guesses a row as often as the table counts it
 pub embedded_guesses : (v : List Value) (rows : List CountedRow) → guess_count (embedded rows) v ≡ count_of rows v
@@ -91,16 +90,11 @@ all_guess (t ∷ ts) (w ∷ ws) z = (table_guesses t w z.0, all_guess ts ws z.1)
 
 -- ---- what the guesses of a relation stand for
 
-counted_if : (b : Bool) (v : List Value) (r : CountedRow) (rows : List CountedRow) (rest : ℕ) → (r.annot == 0) ≡ b → count_of rows v ≡ rest → count_of (cond (not b) (r ∷ rows) rows) v ≡ cond (same_row v r.cells) r.annot 0 + rest
-counted_if true v r rows rest e h =
-    let none : cond (same_row v r.cells) r.annot 0 ≡ 0 = cond_zero (same_row v r.cells) r.annot (eqb-true r.annot 0 e) in omega (arith, h, none)
-counted_if false v r rows rest e h = omega (arith, h, count-cons v r rows)
-
 -- the guessed rows count a row as often as the relation guesses it
 pub guessed_counts : (v : List Value) (rows : Bounded) → count_of (guessed_rows rows) v ≡ guess_count rows v
 guessed_counts v [] = refl
 guessed_counts v (r ∷ rows) =
-    counted_if (r.annot.guess == 0) v (entry (guesses r.cells) r.annot.guess) (guessed_rows rows) (guess_count rows v) refl (guessed_counts v rows)
+    count_of-if (r.annot.guess == 0) v (entry (guesses r.cells) r.annot.guess) (guessed_rows rows) (guess_count rows v) refl (guessed_counts v rows)
     ∙ sym (guess-cons v r rows)
 
 -- the guessed rows stand for each list that the relation guesses

@@ -2,12 +2,13 @@
 use Rattle.std.specs.Prelude.{◌≡◌, ℕ, List, Some}
 use Rattle.au_value.specs.declared.kinds.Kind.{Kind}
 use Rattle.au_expr.specs.Holding.{World, guess}
+use Rattle.au_algebra.specs.Counted.{CountedRow, StandsFor}
 use Rattle.au_algebra.specs.declared.query.Agg.{Agg}
 use Rattle.au_algebra.specs.Bounded as bounded
 use Rattle.au_algebra.specs.Ordinary as ordinary
 use Rattle.au_algebra.specs.Ordinary.{Rows}
 use Rattle.au_algebra.specs.Typing.{group_kinds, total_kinds}
-use Rattle.au_kfull.specs.Embedding.{CountedRow, IsTable, embedded, StandsFor}
+use Rattle.au_kfull.specs.Embedding.{IsTable, embedded}
 use Rattle.au_kfull.specs.NonPositive.{on_values}
 use Rattle.au_kfull.specs.Outputs.{CanGroup, CanTotal}
 use Rattle.au_kfull.specs.Typed.{AreAlike, IsGroupable, IsSummable}

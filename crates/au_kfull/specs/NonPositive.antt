@@ -2,6 +2,7 @@
 -- relations, at values with counts the guesses of these over the embedded rows.
 use Rattle.std.specs.Prelude.{ℕ, Bool, List}
 use Rattle.au_expr.specs.Holding.{World, possible, guess}
+use Rattle.au_algebra.specs.Counted.{CountedRow, StandsFor}
 use Rattle.au_algebra.specs.declared.query.Agg.{Agg}
 use Rattle.au_algebra.specs.Bounded as bounded
 use Rattle.au_algebra.specs.Bounded.{Bounded, RangeRow}
@@ -10,7 +11,7 @@ use Rattle.au_algebra.specs.Laws.{Guesses}
 use Rattle.au_algebra.specs.Ordinary.{Rows}
 use Rattle.au_algebra.specs.Positive.{guessed_rows}
 use Rattle.au_kfull.specs.declared.keys.Keys.TheVariants.{Leading}
-use Rattle.au_kfull.specs.Embedding.{CountedRow, embedded, StandsFor}
+use Rattle.au_kfull.specs.Embedding.{embedded}
 use Rattle.au_kfull.specs.Numbers as numbers
 use Rattle.au_kfull.specs.Outputs as outputs
 

@@ -6,12 +6,13 @@ use Rattle.au_value.specs.declared.kinds.Kind.{Kind}
 use Rattle.au_value.specs.declared.kinds.Kind.TheVariants.{Flag}
 use Rattle.au_expr.specs.Terms.{Term}
 use Rattle.au_expr.specs.Kinds.{kind_in}
+use Rattle.au_algebra.specs.Counted.{CountedRow}
 use Rattle.au_algebra.specs.declared.query.Agg.{Agg}
 use Rattle.au_algebra.specs.Bounded.{Bounded}
 use Rattle.au_algebra.specs.Laws.{IsRelation}
 use Rattle.au_algebra.specs.Trees.{Tree}
 use Rattle.au_algebra.specs.Typing.{items_kinds, kinds_of, IsTyped}
-use Rattle.au_kfull.specs.Embedding.{CountedRow, IsTable}
+use Rattle.au_kfull.specs.Embedding.{IsTable}
 use Rattle.au_kfull.specs.Outputs.{CanGroup, CanTotal}
 
 -- the tree is typed for the relations

@@ -15,6 +15,7 @@ use Rattle.au_value.specs.Order.{order}
 use Rattle.au_value.specs.Ranges.{Span, certain, guesses, lower_ends, upper_ends}
 use Rattle.au_annot.specs.Counts.{fits}
 use Rattle.au_annot.specs.Triples.{counts, total}
+use Rattle.au_algebra.specs.Counted.{CountedRow, count_of}
 use Rattle.au_algebra.specs.Entries.{entry}
 use Rattle.au_algebra.specs.Lists.{distinct, same_row}
 use Rattle.au_algebra.specs.Ordinary.{Rows}
@@ -22,7 +23,7 @@ use Rattle.au_algebra.specs.Bounded.{RangeRow, Bounded, same_ranges, ranges_orde
 use Rattle.au_algebra.specs.Fits.{triples_fit}
 use Rattle.au_algebra.proofs.Runs.{normal_shuffled}
 use Rattle.au_algebra.proofs.TripleFits.{IsInRange, all_fit}
-use Rattle.au_print.specs.GuessTexts.{CountedRow, count_of, insert_values, in_order, counted, counts_fit}
+use Rattle.au_print.specs.GuessTexts.{insert_values, in_order, counted, counts_fit}
 
 -- each value as the range of it alone
 abbrev pub ranges : List Value → List Span

@@ -8,6 +8,7 @@ use Rattle.std.proofs.Common.{refl, sym, ◌∙◌, ap, subst, append-nil, lt-lt
 use Rattle.std.proofs.lemmas.List.{map-append}
 use Rattle.au_value.specs.Order.{order}
 use Rattle.au_annot.specs.Triples.{plus}
+use Rattle.au_algebra.specs.Counted.{CountedRow}
 use Rattle.au_algebra.specs.Entries.{entry}
 use Rattle.au_algebra.specs.Bounded.{RangeRow, normal}
 use Rattle.au_algebra.specs.Fits.{triples_fit}
@@ -15,7 +16,7 @@ use Rattle.au_algebra.proofs.Each.{all_append}
 use Rattle.au_algebra.proofs.MergedRuns.{ended, passed, map_put}
 use Rattle.au_algebra.proofs.Runs.{joins, finished, carried, runs_from, row_below}
 use Rattle.au_algebra.proofs.TripleFits.{RunsSoFar, one_more}
-use Rattle.au_print.specs.GuessTexts.{CountedRow, counted, counts_fit}
+use Rattle.au_print.specs.GuessTexts.{counted, counts_fit}
 use Rattle.au_print.specs.Places.{values_at, row_at}
 use Rattle.au_print.proofs.CertainRows.{as_bounded, ranges_order_of, normal_of, counted_one, counts_past, map_map}
 

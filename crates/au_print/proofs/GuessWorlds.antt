@@ -1,5 +1,5 @@
 -- The rows of a guess are those of a world where the counts of each row of values add up to its copies in it.
-use Rattle.std.specs.Prelude.{◌≡◌, ℕ, zero, suc, ◌+◌, ◌<◌, Bool, true, false, not, ◌==◌, cond, List, [], ◌∷◌, map, filter, sum_by}
+use Rattle.std.specs.Prelude.{◌≡◌, ℕ, zero, suc, ◌<◌, true, false, not, ◌==◌, cond, List, [], ◌∷◌, map, filter, sum_by}
 use Rattle.std.specs.List.{AllByRecursion}
 use Rattle.std.proofs.Common.{arith, refl, sym, ◌∙◌, ap, inl, inr}
 use Rattle.std.proofs.lemmas.Bool.{cases_Bool, true≢false, false_from_ne_true, eqb-true}
@@ -7,40 +7,26 @@ use Rattle.std.proofs.lemmas.List.Sums.{sum_by-cons}
 use Rattle.au_value.specs.declared.value.Value.{Value}
 use Rattle.au_value.specs.Ranges.{Span, guesses}
 use Rattle.au_annot.specs.Triples.{Counts, counts}
+use Rattle.au_algebra.specs.Counted.{CountedRow, occurring, count_of, StandsFor, ones}
 use Rattle.au_algebra.specs.Entries.{entry}
-use Rattle.au_algebra.specs.Lists.{distinct, same_row, copies}
+use Rattle.au_algebra.specs.Lists.{distinct, same_row}
 use Rattle.au_algebra.specs.Ordinary.{Rows}
 use Rattle.au_algebra.specs.Bounded.{same_ranges, normal}
-use Rattle.au_algebra.proofs.Choices.{sum_if}
-use Rattle.au_algebra.proofs.Copies.{copies-cons}
+use Rattle.au_algebra.proofs.Counted.{count_of-cons, count_of-if, ones_stand}
 use Rattle.au_algebra.proofs.Each.{all_of, all_from, all_filter, passing}
 use Rattle.au_algebra.proofs.Filters.{filter_none}
 use Rattle.au_algebra.proofs.KeptByMerging.{same_ranges_is, same_ranges_refl}
 use Rattle.au_algebra.proofs.NormalRows.{normal_rises, normal_tally}
 use Rattle.au_algebra.proofs.Rising.{rising_is}
 use Rattle.au_algebra.proofs.Tallies.{tally, summed}
-use Rattle.au_print.specs.GuessTexts.{CountedRow, occurring, count_of, counted, guess_rows, in_order, world_rows, StandsFor}
+use Rattle.au_print.specs.GuessTexts.{counted, guess_rows, in_order, world_rows}
 use Rattle.au_print.proofs.CertainRows.{ranges, as_bounded, guesses_of, same_ranges_of, filter_mapped, total_of, normal_of, counted_one}
-
--- one row more
-count_more : (v : List Value) (r : CountedRow) (rows : List CountedRow) → count_of (r ∷ rows) v ≡ cond (same_row v r.cells) r.annot 0 + count_of rows v
-count_more v r rows = sum_if (λ s. s.annot) (same_row v r.cells) r (filter (λ s. same_row v s.cells) rows)
 
 -- ---- rows whose count is 0 add nothing
 
-occurring_if : (b : Bool) (v : List Value) (r : CountedRow) (rows rest : List CountedRow) → (r.annot == 0) ≡ b → count_of rest v ≡ count_of rows v → count_of (cond (not b) (r ∷ rest) rest) v ≡ count_of (r ∷ rows) v
-occurring_if true v r rows rest e h =
-    let none : cond (same_row v r.cells) r.annot 0 ≡ 0 = zero_if (same_row v r.cells) r.annot (eqb-true r.annot 0 e) in
-    omega (arith, h, none, count_more v r rows)
-  where
-    zero_if : (b : Bool) (n : ℕ) → n ≡ 0 → cond b n 0 ≡ 0
-    zero_if true n z = z
-    zero_if false n z = refl
-occurring_if false v r rows rest e h = omega (arith, h, count_more v r rest, count_more v r rows)
-
 count_occurring : (v : List Value) (rows : List CountedRow) → count_of (occurring rows) v ≡ count_of rows v
 count_occurring v [] = refl
-count_occurring v (r ∷ rows) = occurring_if (r.annot == 0) v r rows (occurring rows) refl (count_occurring v rows)
+count_occurring v (r ∷ rows) = count_of-if (r.annot == 0) v r (occurring rows) (count_of rows v) refl (count_occurring v rows) ∙ sym (count_of-cons v r rows)
 
 positive : (n : ℕ) → not (n == 0) ≡ true → 0 < n
 positive zero h = absurd (true≢false (sym h))
@@ -111,27 +97,20 @@ module _ (xs ys : List CountedRow) (p : Positive xs) (q : Positive ys) (same : (
 
 -- ---- a world's rows, each with the count 1
 
-abbrev ones : Rows → List CountedRow
-ones world = map (λ v. entry v 1) world
-
 ones_positive : (world : Rows) → Positive (ones world)
 ones_positive [] = tt
 ones_positive (v ∷ world) = (omega arith, ones_positive world)
-
-ones_count : (v : List Value) (world : Rows) → count_of (ones world) v ≡ copies v world
-ones_count v [] = refl
-ones_count v (w ∷ world) = omega (arith, count_more v (entry w 1) (ones world), copies-cons v w world, ones_count v world)
 
 ones_cells : (world : Rows) → map (λ r. r.cells) (ones world) ≡ world
 ones_cells [] = refl
 ones_cells (v ∷ world) = λ i. v ∷ ones_cells world i
 
 world_counted : (world : Rows) → counted (ones world) ≡ world_rows world
-world_counted world = λ i. map (λ v. entry v (ones_count v world i)) (in_order (distinct same_row (ones_cells world i)))
+world_counted world = λ i. map (λ v. entry v (sym (ones_stand world v) i)) (in_order (distinct same_row (ones_cells world i)))
 
 -- the rows of a guess are the world's
 pub guess_world : (rows : List CountedRow) (world : Rows) → StandsFor rows world → guess_rows rows ≡ world_rows world
 guess_world rows world h =
     counted_same (occurring rows) (ones world) (occurring_positive rows) (ones_positive world)
-    (λ v. count_occurring v rows ∙ sym (h v) ∙ sym (ones_count v world))
+    (λ v. count_occurring v rows ∙ sym (h v) ∙ ones_stand world v)
     ∙ world_counted world

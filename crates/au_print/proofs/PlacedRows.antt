@@ -5,8 +5,8 @@ use Rattle.std.proofs.lemmas.Bool.{false_from_ne_true, eqb-true}
 use Rattle.std.proofs.lemmas.List.{take_more, take-append-drop, map-append, take-map}
 use Rattle.std.proofs.lemmas.List.Elements.{filter-append}
 use Rattle.std.proofs.lemmas.Option.{slice_get-map, slice_get-get_or}
+use Rattle.au_algebra.specs.Counted.{CountedRow, occurring}
 use Rattle.au_algebra.specs.Entries.{entry}
-use Rattle.au_print.specs.GuessTexts.{CountedRow, occurring}
 use Rattle.au_print.specs.Places.{values_at, row_at}
 
 -- the item at a place comes behind those before it

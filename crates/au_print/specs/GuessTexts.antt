@@ -1,28 +1,17 @@
 -- The text of an answer over the guess world: each row of values once, in order, behind the number of its copies.
 -- It is given by rows with counts, of which equal rows stand for one row, or by the rows of a world themselves.
-use Rattle.std.specs.Prelude.{◌≡◌, ℕ, Bool, not, ◌==◌, List, [], ◌∷◌, ◌++◌, map, filter, flat_map, sum_by, codes, decimal, if◌then◌else◌}
+use Rattle.std.specs.Prelude.{ℕ, Bool, List, [], ◌∷◌, ◌++◌, map, flat_map, codes, decimal, if◌then◌else◌}
 use Rattle.std.specs.List.{list_all}
 use Rattle.std.specs.Ordering.{is_le}
 use Rattle.std.specs.Cmp.Lexicographic.{slice_cmp}
 use Rattle.au_value.specs.declared.value.Value.{Value}
 use Rattle.au_value.specs.Order.{order}
 use Rattle.au_annot.specs.Counts.{fits}
-use Rattle.au_algebra.specs.Entries.{Entry, entry}
+use Rattle.au_algebra.specs.Counted.{CountedRow, occurring, count_of}
+use Rattle.au_algebra.specs.Entries.{entry}
 use Rattle.au_algebra.specs.Lists.{distinct, same_row, copies}
 use Rattle.au_algebra.specs.Ordinary.{Rows}
 use Rattle.au_print.specs.Texts.{value_text, record_text}
-
--- a row of values with a count
-abbrev pub CountedRow : Type 0
-CountedRow = Entry Value ℕ
-
--- the rows with a count that is not 0
-abbrev pub occurring : List CountedRow → List CountedRow
-occurring rows = filter (λ r. not (r.annot == 0)) rows
-
--- the sum of the counts of the rows with these values
-abbrev pub count_of : List CountedRow → List Value → ℕ
-count_of rows values = sum_by (λ r. r.annot) (filter (λ r. same_row values r.cells) rows)
 
 -- the row before the first that is not below it, by values from the first column on
 abbrev pub insert_values : List Value → Rows → Rows
@@ -62,7 +51,3 @@ guess_text names rows = counted_text names (guess_rows rows)
 
 abbrev pub world_text : List (List ℕ) → Rows → List ℕ
 world_text names world = counted_text names (world_rows world)
-
--- the counts of each row of values add up to its copies in the world
-abbrev pub StandsFor : List CountedRow → Rows → Type 0
-StandsFor rows world = (v : List Value) → copies v world ≡ count_of rows v

@@ -2,8 +2,8 @@
 -- what stands for a row where no value is copied.
 use Rattle.std.specs.Prelude.{ℕ, List, [], slice_get, unwrap_or, option_map}
 use Rattle.au_value.specs.declared.value.Value.{Value}
+use Rattle.au_algebra.specs.Counted.{CountedRow}
 use Rattle.au_algebra.specs.Entries.{entry}
-use Rattle.au_print.specs.GuessTexts.{CountedRow}
 
 -- the values of the row at a place, and none past the last
 abbrev pub values_at : List CountedRow → ℕ → List Value

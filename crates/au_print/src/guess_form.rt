@@ -2,10 +2,11 @@
 ghost use Rattle.std.specs.Prelude.{◌≡◌, ◌++◌, ◌∷◌, [], IfOk, OnOk, IsTrue, false, length, map, flat_map, codes, decimal};
 ghost use Rattle.std.specs.List.{AllByRecursion};
 ghost use Rattle.csv.specs.Records.{fields_of, partial_of};
+ghost use Rattle.au_algebra.specs.Counted.{StandsFor};
 ghost use Rattle.au_algebra.specs.Ordinary.{Rows};
 ghost use Rattle.au_print.specs.Records.{IsReady, written};
 ghost use Rattle.au_print.specs.Texts.{record_text, value_text};
-ghost use Rattle.au_print.specs.GuessTexts.{counted_fields, counts_fit, guess_rows as guess_rows_of, guess_text as text_of, world_text, StandsFor};
+ghost use Rattle.au_print.specs.GuessTexts.{counted_fields, counts_fit, guess_rows as guess_rows_of, guess_text as text_of, world_text};
 ghost use Rattle.au_print.specs.Places.{row_at};
 
 use crate::fields::{push_count, push_value};

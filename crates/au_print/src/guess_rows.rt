@@ -4,8 +4,9 @@ ghost use Rattle.std.specs.List.Sorted.{IsPermutation, IsSortedBy};
 ghost use Rattle.std.specs.Ordering.{is_eq, is_lt};
 ghost use Rattle.std.specs.Cmp.Lexicographic.{slice_cmp};
 ghost use Rattle.au_value.specs.Order.{order};
+ghost use Rattle.au_algebra.specs.Counted.{occurring};
 ghost use Rattle.au_algebra.specs.Entries.{entry};
-ghost use Rattle.au_print.specs.GuessTexts.{occurring, counted, guess_rows as guess_rows_of, counts_fit};
+ghost use Rattle.au_print.specs.GuessTexts.{counted, guess_rows as guess_rows_of, counts_fit};
 ghost use Rattle.au_print.specs.Places.{values_at as values_of, row_at};
 
 use crate::value_order::compare_values;

@@ -8,7 +8,8 @@ use Rattle.au_annot.specs.Triples.{Counts, counts}
 use Rattle.au_blocks.specs.Blocks.{Choices}
 use Rattle.au_blocks.specs.Tables.{BlockTable}
 use Rattle.au_blocks.specs.Worlds.{rows_in}
-use Rattle.au_algebra.specs.Entries.{Entry, entry}
+use Rattle.au_algebra.specs.Counted.{CountedRow, ones}
+use Rattle.au_algebra.specs.Entries.{entry}
 use Rattle.au_algebra.specs.Lists.{column, least, greatest}
 use Rattle.au_algebra.specs.Bounded.{RangeRow, Bounded}
 
@@ -41,5 +42,5 @@ abbrev pub guess_choices : BlockTable → List (Option ℕ)
 guess_choices t = map (λ b. b.guess) t.blocks
 
 -- the rows of the guess world, each with count 1
-abbrev pub guessed_table : BlockTable → List (Entry Value ℕ)
-guessed_table t = map (λ row. entry row 1) (rows_in t.blocks (guess_choices t))
+abbrev pub guessed_table : BlockTable → List CountedRow
+guessed_table t = ones (rows_in t.blocks (guess_choices t))

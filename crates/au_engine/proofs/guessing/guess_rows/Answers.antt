@@ -1,9 +1,9 @@
 -- The rows of the guess world are given, each once.
 use Rattle.std.proofs.Common.{ap, sym, subst, ◌∙◌, rules}
 use Rattle.std.specs.List.{AllZip, list_all}
+use Rattle.au_algebra.specs.Counted.{StandsFor}
 use Rattle.au_algebra.specs.Fits.{in_range}
 use Rattle.au_algebra.specs.Trees.{tree}
-use Rattle.au_kfull.specs.Embedding.{StandsFor}
 use Rattle.au_engine.specs.Answers.{blocks_of, guess_tables}
 use Rattle.au_engine.proofs.GuessTables.{all_stand, are_ones, can_guess, guess_widths}
 use Rattle.au_engine.proofs.guessing.guess_rows.Goals as goal

@@ -1,8 +1,9 @@
 -- The records are those of the rows of the guess.
 use Rattle.std.proofs.Common.{◌∷◌, ◌++◌, ◌∙◌, sym, ap, flat_map, codes}
 use Rattle.std.proofs.lemmas.List.Folds.{flat_map-map}
+use Rattle.au_algebra.specs.Counted.{CountedRow}
 use Rattle.au_print.specs.Texts.{record_text}
-use Rattle.au_print.specs.GuessTexts.{CountedRow, counted_fields, counted_text}
+use Rattle.au_print.specs.GuessTexts.{counted_fields, counted_text}
 use Rattle.au_print.specs.Places.{row_at}
 use Rattle.au_print.proofs.GuessWorlds.{guess_world}
 use Rattle.au_print.proofs.guess_form.guess_text.Goals as goal

@@ -1,6 +1,7 @@
 -- The rows in order are counted as they stood.
 use Rattle.std.proofs.Common.{◌≡◌, map, sym, ◌∙◌, ap, IsTrue, IfOk, subst}
-use Rattle.au_print.specs.GuessTexts.{occurring, counted, guess_rows, counts_fit}
+use Rattle.au_algebra.specs.Counted.{occurring}
+use Rattle.au_print.specs.GuessTexts.{counted, guess_rows, counts_fit}
 use Rattle.au_print.specs.Places.{row_at}
 use Rattle.au_print.proofs.CertainRows.{counted_shuffled}
 use Rattle.au_print.proofs.guess_rows.guess_rows.Goals as goal

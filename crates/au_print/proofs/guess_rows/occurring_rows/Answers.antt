@@ -1,8 +1,8 @@
 -- The row at a place is the one that is read.
 use Rattle.std.proofs.Common.{arith, ◌∙◌, ap, map, Vec, Global, ℕ}
 use Rattle.au_value.specs.declared.value.Value.{Value}
+use Rattle.au_algebra.specs.Counted.{CountedRow}
 use Rattle.au_algebra.specs.Entries.{entry}
-use Rattle.au_print.specs.GuessTexts.{CountedRow}
 use Rattle.au_print.specs.Places.{row_at}
 use Rattle.au_print.proofs.PlacedRows.{one_found, none_found}
 use Rattle.au_print.proofs.guess_rows.occurring_rows.Goals as goal

@@ -1,7 +1,7 @@
 -- So far the rows before this one that occur are found.
 use Rattle.std.proofs.Common.{◌≡◌, map, take}
+use Rattle.au_algebra.specs.Counted.{occurring}
 use Rattle.au_algebra.specs.Entries.{entry}
-use Rattle.au_print.specs.GuessTexts.{occurring}
 use Rattle.au_print.specs.Places.{row_at}
 use Rattle.au_print.proofs.guess_rows.occurring_rows.Given as goal
 

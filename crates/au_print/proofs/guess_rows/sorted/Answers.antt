@@ -8,7 +8,7 @@ use Rattle.std.proofs.lemmas.Fn.{always_returns_same}
 use Rattle.std.proofs.lemmas.List.Sorted.{ranks_by, IsPermutation-map}
 use Rattle.au_value.specs.Order.{order}
 use Rattle.au_value.proofs.OrderLaws.{order_total}
-use Rattle.au_print.specs.GuessTexts.{occurring}
+use Rattle.au_algebra.specs.Counted.{occurring}
 use Rattle.au_print.specs.Places.{values_at, row_at}
 use Rattle.au_print.proofs.guess_rows.sorted.Goals as goal
 

@@ -1,7 +1,8 @@
 -- The counted rows have the operator's kinds, and stand for the ordinary operator's.
 use Rattle.std.proofs.Common.{◌≡◌, sym, subst}
+use Rattle.au_algebra.specs.Counted.{StandsFor}
 use Rattle.au_algebra.specs.Ordinary as ordinary
-use Rattle.au_kfull.specs.Embedding.{IsTable, StandsFor}
+use Rattle.au_kfull.specs.Embedding.{IsTable}
 use Rattle.au_kfull.specs.NonPositive.{on_values, values_fit}
 use Rattle.au_kfull.proofs.GivesMore.{gives_ok}
 use Rattle.au_kfull.proofs.NonPositiveValues.{difference_stands, difference_kinds}
