@@ -15,7 +15,9 @@
 mod expr;
 mod layout;
 mod plan;
+mod rows;
 
 pub use expr::{Comparison2, PExpr};
 pub use layout::{Layout, Steps};
 pub use plan::{PAgg, PRow, Plan};
+pub use rows::copy_rows;

@@ -6,8 +6,8 @@ ghost use Rattle.au_rwexpr.specs.Copies.{with_part, with_parts};
 
 use crate::plans::{extend, filter, join, keep, union};
 use crate::terms::{add, and, case, compare, multiply, negate, not, or, subtract};
-use au_plain::{PAgg, PExpr, PRow, Plan};
-use au_value::{NoMemory, Value, copy};
+use au_plain::{PAgg, PExpr, Plan, copy_rows};
+use au_value::{NoMemory, copy};
 use std::alloc::Global;
 
 /// A copy of a plan, with copies of the rows and the values in it.
@@ -150,26 +150,6 @@ fn copy_aggs(alloc: Global, aggs: &[PAgg]) -> Result<Vec<PAgg>, NoMemory>
     let mut copied = Vec::with_capacity(alloc, aggs.len())?;
     for agg in aggs {
         copied.push(*agg)?;
-    }
-    Ok(copied)
-}
-
-fn copy_rows(alloc: Global, rows: &[PRow]) -> Result<Vec<PRow>, NoMemory>
-    ensures { IfOk result (λ v. map (λ row. row.items) v.items ≡ map (λ row. row.items) rows.now) }
-{
-    let mut copied = Vec::with_capacity(alloc, rows.len())?;
-    for row in rows {
-        copied.push(copy_row(alloc, row)?)?;
-    }
-    Ok(copied)
-}
-
-fn copy_row(alloc: Global, row: &[Value]) -> Result<PRow, NoMemory>
-    ensures { IfOk result (λ v. v.items ≡ row.now) }
-{
-    let mut copied = Vec::with_capacity(alloc, row.len())?;
-    for value in row {
-        copied.push(copy(value)?)?;
     }
     Ok(copied)
 }

@@ -6,7 +6,7 @@ use crate::bounds::zero_or_one;
 use au_algebra::Rel;
 use au_annot::Count;
 use au_blocks::Table;
-use au_value::{NoMemory, Value, copy};
+use au_value::{NoMemory, Value, copies};
 use std::alloc::Global;
 
 /// The chosen rows of the guess world in block order, each with count 1. A block whose marked choice is absence has no
@@ -22,15 +22,4 @@ pub fn guessed(alloc: Global, table: &Table) -> Result<Rel<Value, Count>, NoMemo
         }
     }
     Ok(rel)
-}
-
-// Copies of some values.
-fn copies(alloc: Global, values: &[Value]) -> Result<Vec<Value>, NoMemory>
-    ensures { IfOk result (λ v. v.items ≡ values.now) }
-{
-    let mut copied = Vec::new(alloc);
-    for value in values {
-        copied.push(copy(value)?)?;
-    }
-    Ok(copied)
 }

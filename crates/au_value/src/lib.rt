@@ -28,7 +28,7 @@ pub use kinds::Kind;
 pub use numeral::read_numeral;
 pub use range::Range;
 pub use theorems::{hull_holds_both, order_is_total};
-pub use value::{Value, compare, copy, kind, order};
+pub use value::{Value, compare, copies, copy, kind, order};
 pub use word::Word;
 
 #[cfg(test)]

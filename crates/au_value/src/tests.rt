@@ -1,6 +1,7 @@
 //! Tables of cases: numerals, sums, and ranges of each kind.
 use crate::{
-    Adder, Kind, NoMemory, Overflow, Range, Value, Word, compare, copy, kind, order, read_numeral,
+    Adder, Kind, NoMemory, Overflow, Range, Value, Word, compare, copies, copy, kind, order,
+    read_numeral,
 };
 use std::alloc::Global;
 use std::cmp::Ordering;
@@ -93,6 +94,18 @@ fn values_of_several_kinds_are_ordered_by_kind(rt: HostRuntime) -> Result<(), Fa
         compare(&Value::Int(9), &number).is_lt(),
         "numbers as numbers"
     );
+    Ok(())
+}
+
+#[test]
+fn copies_are_equal_to_their_values(rt: HostRuntime) -> Result<(), Fail> {
+    let mut values = Vec::new(rt.alloc());
+    values.push(Value::Int(GREATEST))?;
+    values.push(text(rt.alloc(), "Oslo")?)?;
+    let copied = copies(rt.alloc(), &values)?;
+    assert_eq!(rt; copied.len(), 2, "both");
+    assert!(rt; compare(&copied[0], &values[0]).is_eq(), "the number");
+    assert!(rt; compare(&copied[1], &values[1]).is_eq(), "the text");
     Ok(())
 }
 

@@ -5,6 +5,7 @@ ghost use Rattle.au_value.specs.Order.{kind_of, order as order_of};
 use crate::faults::NoMemory;
 use crate::kinds::Kind;
 use crate::word::Word;
+use std::alloc::Global;
 use std::cmp::Ordering;
 
 /// A value of a cell.
@@ -62,4 +63,15 @@ pub fn copy(value: &Value) -> Result<Value, NoMemory>
         Value::Text(s) => Ok(Value::Text(s.copy()?)),
         Value::Flag(b) => Ok(Value::Flag(*b)),
     }
+}
+
+/// Copies of some values.
+pub fn copies(alloc: Global, values: &[Value]) -> Result<Vec<Value>, NoMemory>
+    ensures { IfOk result (λ v. v.items ≡ values.now) }
+{
+    let mut copied = Vec::with_capacity(alloc, values.len())?;
+    for value in values {
+        copied.push(copy(value)?)?;
+    }
+    Ok(copied)
 }

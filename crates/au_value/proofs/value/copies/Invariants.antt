@@ -1,6 +1,6 @@
 -- The values so far are copied.
 use Rattle.std.proofs.Common.{◌≡◌, take}
-use Rattle.au_translate.proofs.guesses.copies.Given as goal
+use Rattle.au_value.proofs.value.copies.Given as goal
 
 abbrev pub invariant-loop-value : goal.invariant-loop-value
 invariant-loop-value l = l.copied.items ≡ take l.value-index l.values

@@ -1,6 +1,0 @@
--- The values so far are copied.
-use Rattle.std.proofs.Common.{◌≡◌, take}
-use Rattle.au_rwexpr.proofs.copies.copy_row.Given as goal
-
-abbrev pub invariant-loop-value : goal.invariant-loop-value
-invariant-loop-value l = l.copied.items ≡ take l.value-index l.row
