@@ -36,7 +36,7 @@ mod values;
 
 pub use block::Block;
 pub use cells::Cells;
-pub use column::Column;
+pub use column::{Column, copy_columns};
 pub use faults::TableFault;
 pub use read::read_table;
 pub use table::Table;

@@ -8,25 +8,11 @@ ghost use Rattle.au_engine.specs.Answers.{blocks_of, relations_of};
 
 use au_algebra::Rel;
 use au_annot::{Count, Triple};
-use au_blocks::{Column, Table};
+use au_blocks::{Table, copy_columns};
 use au_translate::{bounded, guessed};
 use au_typing::Schema;
 use au_value::{NoMemory, Range, Value, Word};
 use std::alloc::Global;
-
-// Copies of columns.
-fn copied(alloc: Global, columns: &[Column]) -> Result<Vec<Column>, NoMemory>
-    ensures { IfOk result (λ v. v.items ≡ columns.now) }
-{
-    let mut copies = Vec::new(alloc);
-    for column in columns {
-        copies.push(Column {
-            name: column.name.copy()?,
-            kind: column.kind,
-        })?;
-    }
-    Ok(copies)
-}
 
 // The name and the columns of a table.
 fn schema(alloc: Global, table: &(Word, Table)) -> Result<Schema, NoMemory>
@@ -34,7 +20,7 @@ fn schema(alloc: Global, table: &(Word, Table)) -> Result<Schema, NoMemory>
 {
     Ok(Schema {
         name: table.0.copy()?,
-        columns: copied(alloc, table.1.columns())?,
+        columns: copy_columns(alloc, table.1.columns())?,
     })
 }
 

@@ -15,7 +15,7 @@ use crate::schema::Schema;
 use crate::scope::same_word;
 use crate::select::{FromPart, Part, distinct_if, select};
 use au_algebra::Query;
-use au_blocks::Column;
+use au_blocks::{Column, copy_columns};
 use au_parse::{Source, Statement};
 use au_value::{Kind, NoMemory, Word};
 use std::alloc::Global;
@@ -26,20 +26,6 @@ pub struct Typed {
     pub query: Query,
     pub names: Vec<Word>,
     pub kinds: Vec<Kind>,
-}
-
-// A copy of the columns of a table.
-fn copied(alloc: Global, columns: &[Column]) -> Result<Vec<Column>, NoMemory>
-    ensures { IfOk result (λ v. v.items ≡ columns.now) }
-{
-    let mut copies = Vec::new(alloc);
-    for column in columns {
-        copies.push(Column {
-            name: column.name.copy()?,
-            kind: column.kind,
-        })?;
-    }
-    Ok(copies)
 }
 
 // The number of the table of a name.
@@ -58,7 +44,7 @@ fn table(alloc: Global, schemas: &[Schema], at: usize, word: &Word) -> Result<Pa
 {
     match table_of(schemas, word) {
         Some(place) => {
-            let columns = copied(alloc, schemas[place].columns.as_slice())?;
+            let columns = copy_columns(alloc, schemas[place].columns.as_slice())?;
             Ok(Part {
                 query: Query::Table(place),
                 columns,

@@ -1,6 +1,6 @@
 -- The columns so far.
 use Rattle.std.proofs.Common.{◌≡◌, take}
-use Rattle.au_typing.proofs.typed.copied.Given as goal
+use Rattle.au_blocks.proofs.column.copy_columns.Given as goal
 
 abbrev pub invariant-loop-column : goal.invariant-loop-column
 invariant-loop-column l = l.copies.items ≡ take l.column-index l.columns
