@@ -1,6 +1,7 @@
 -- What the plan of Combine gives, with the numbers that it makes and the Scans that it has.
 use Rattle.std.specs.Prelude.{◌≡◌, ◌≤◌, ℕ, ◌++◌}
-use Rattle.std.proofs.Common.{arith, sym, ap, subst}
+use Rattle.std.proofs.Common.{sym, ap, subst}
+use Rattle.std.proofs.Math.Nat.{le_of_eq}
 use Rattle.au_expr.proofs.Fits.{fit_parts}
 use Rattle.au_algebra.specs.Bounded as bounded
 use Rattle.au_algebra.specs.Fits.{triple_numbers}
@@ -13,9 +14,6 @@ use Rattle.au_combine.specs.Gives.{Combines}
 use Rattle.au_combine.proofs.BoxKinds.{combine_kinds}
 use Rattle.au_combine.proofs.CombineRows as on_rows
 use Rattle.au_combine.proofs.CombineNumbers.{combine_fits}
-
-equal_le : (m n : ℕ) → m ≡ n → m ≤ n
-equal_le m n h = omega (arith, h)
 
 module _ (c : ℕ) (of p : PlanTree) (is : p ≡ combine c of) where
   combine_as_is : Combines c of (combine c of)
@@ -33,4 +31,4 @@ module _ (c : ℕ) (of p : PlanTree) (is : p ≡ combine c of) where
   combine_gives = subst (λ q. Combines c of q) (sym is) combine_as_is
 
   pub combine_scans : scans p ≤ scans of
-  combine_scans = equal_le (scans p) (scans of) (ap scans is)
+  combine_scans = le_of_eq {n = scans p} {m = scans of} (ap scans is)

@@ -1,7 +1,7 @@
 -- The tables' rows in the guess world: what they stand for, and that they have the columns' kinds.
-use Rattle.std.specs.Prelude.{◌≡◌, ℕ, zero, suc, ◌+◌, Bool, true, cond, List, [], ◌∷◌, ◌++◌, length, map, filter, Option, Some, None, option_to_list, slice_get, sum_by, is_some}
+use Rattle.std.specs.Prelude.{◌≡◌, ℕ, zero, suc, true, List, [], ◌∷◌, ◌++◌, length, map, Option, Some, None, option_to_list, slice_get, is_some}
 use Rattle.std.specs.List.{AllByRecursion, AllZip, list_all}
-use Rattle.std.proofs.Common.{arith, refl, sym, ◌∙◌, ap, subst}
+use Rattle.std.proofs.Common.{refl, sym, ◌∙◌, ap, subst}
 use Rattle.std.proofs.lemmas.Bool.{and_parts}
 use Rattle.std.proofs.lemmas.List.{length-map}
 use Rattle.au_value.specs.declared.kinds.Kind.{Kind}
@@ -10,8 +10,6 @@ use Rattle.au_value.specs.Order.{kind_of, kind_eq}
 use Rattle.au_expr.specs.Ordinary.{IsKind}
 use Rattle.au_expr.proofs.Along.{kind_eq_is}
 use Rattle.au_algebra.specs.Counted.{CountedRow, StandsFor, ones}
-use Rattle.au_algebra.specs.Entries.{Entry, entry}
-use Rattle.au_algebra.specs.Lists.{same_row, copies}
 use Rattle.au_algebra.specs.Ordinary.{Rows}
 use Rattle.au_algebra.specs.Trees.{Tree}
 use Rattle.au_algebra.specs.Typing.{kinds_of}

@@ -1,6 +1,7 @@
 -- What the plans of the operators give, with the numbers that they make and the Scans that they have.
 use Rattle.std.specs.Prelude.{◌≡◌, ◌≤◌, ℕ, ◌+◌, ◌*◌, List, ◌++◌, length, flat_map}
-use Rattle.std.proofs.Common.{arith, sym, ◌∙◌, ap, subst}
+use Rattle.std.proofs.Common.{sym, ◌∙◌, ap, subst}
+use Rattle.std.proofs.Math.Nat.{le_of_eq}
 use Rattle.au_expr.specs.Terms.{Term}
 use Rattle.au_expr.specs.Numbers.{expr_numbers}
 use Rattle.au_expr.proofs.Fits.{fit_both, fit_parts}
@@ -24,9 +25,6 @@ use Rattle.au_rwcore.proofs.SelectNumbers.{select_fits}
 use Rattle.au_rwcore.proofs.ProjectNumbers.{project_fits}
 use Rattle.au_rwcore.proofs.ProductNumbers.{product_fits}
 
-equal_le : (m n : ℕ) → m ≡ n → m ≤ n
-equal_le m n h = omega (arith, h)
-
 module _ (c : ℕ) (e : Term) (of p : PlanTree) (is : p ≡ select c e of) where
   select_as_is : Selects c e of (select c e of)
   select_as_is kinds tables ks rows ns long typed g =
@@ -43,7 +41,7 @@ module _ (c : ℕ) (e : Term) (of p : PlanTree) (is : p ≡ select c e of) where
   select_gives = subst (λ q. Selects c e of q) (sym is) select_as_is
 
   pub select_scans : scans p ≤ scans of
-  select_scans = equal_le (scans p) (scans of) (ap scans is ∙ scans-extend_all (flatten (3 * c + 3) e) of)
+  select_scans = le_of_eq {n = scans p} {m = scans of} (ap scans is ∙ scans-extend_all (flatten (3 * c + 3) e) of)
 
 module _ (c : ℕ) (items : List Term) (of p : PlanTree) (is : p ≡ project c items of) where
   project_as_is : Projects c items of (project c items of)
@@ -61,7 +59,7 @@ module _ (c : ℕ) (items : List Term) (of p : PlanTree) (is : p ≡ project c i
   project_gives = subst (λ q. Projects c items of q) (sym is) project_as_is
 
   pub project_scans : scans p ≤ scans of
-  project_scans = equal_le (scans p) (scans of) (ap scans is ∙ scans-extend_all (flatten_items (3 * c + 3) items) of)
+  project_scans = le_of_eq {n = scans p} {m = scans of} (ap scans is ∙ scans-extend_all (flatten_items (3 * c + 3) items) of)
 
 module _ (c d : ℕ) (left right p : PlanTree) (is : p ≡ product c d left right) where
   product_as_is : Multiplies c d left right (product c d left right)
@@ -82,7 +80,7 @@ module _ (c d : ℕ) (left right p : PlanTree) (is : p ≡ product c d left righ
   product_gives = subst (λ q. Multiplies c d left right q) (sym is) product_as_is
 
   pub product_scans : scans p ≤ scans left + scans right
-  product_scans = equal_le (scans p) (scans left + scans right) (ap scans is)
+  product_scans = le_of_eq {n = scans p} {m = scans left + scans right} (ap scans is)
 
 module _ (left right p : PlanTree) (is : p ≡ union left right) where
   union_as_is : Unites left right (union left right)
@@ -97,4 +95,4 @@ module _ (left right p : PlanTree) (is : p ≡ union left right) where
   union_gives = subst (λ q. Unites left right q) (sym is) union_as_is
 
   pub union_scans : scans p ≤ scans left + scans right
-  union_scans = equal_le (scans p) (scans left + scans right) (ap scans is)
+  union_scans = le_of_eq {n = scans p} {m = scans left + scans right} (ap scans is)

@@ -1,6 +1,7 @@
 -- What the plan of Group gives, with the numbers that it makes and the Scans that it has.
 use Rattle.std.specs.Prelude.{◌≡◌, ◌≤◌, ℕ, zero, suc, ◌+◌, ◌*◌, List, [], ◌∷◌, ◌++◌, length, map, take, flat_map, nat_le, Some, option_and_then, ℤ}
 use Rattle.std.proofs.Common.{arith, sym, ◌∙◌, ap, subst}
+use Rattle.std.proofs.Math.Nat.{le_of_eq}
 use Rattle.std.proofs.lemmas.Bool.{leb-true}
 use Rattle.std.proofs.lemmas.List.{length-take-le}
 use Rattle.au_value.specs.declared.kinds.Kind.{Kind}
@@ -109,9 +110,6 @@ twice_scanned c k aggs p =
     ∙ scans-extend_all columns (Join (meets b 0 k) boxes p)
     ∙ (let e : scans boxes + scans p ≡ 2 * scans p = omega (arith, scans-extend_all (group_columns c k) p) in e)
 
-equal_le : (m n : ℕ) → m ≡ n → m ≤ n
-equal_le m n h = omega (arith, h)
-
 module _ (c m : ℕ) (aggs : List Agg) (of p : PlanTree) (is : p ≡ group c m aggs of) where
   group_as_is : Groups c m aggs of (group c m aggs of)
   group_as_is kinds tables ks js rows ns fits long typed g =
@@ -125,4 +123,4 @@ module _ (c m : ℕ) (aggs : List Agg) (of p : PlanTree) (is : p ≡ group c m a
   group_gives_all = subst (λ q. Groups c m aggs of q) (sym is) group_as_is
 
   pub group_scans : scans p ≤ 2 * scans of
-  group_scans = equal_le (scans p) (2 * scans of) (ap scans is ∙ twice_scanned c m aggs of)
+  group_scans = le_of_eq {n = scans p} {m = 2 * scans of} (ap scans is ∙ twice_scanned c m aggs of)

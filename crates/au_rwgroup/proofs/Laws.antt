@@ -2,6 +2,7 @@
 use Rattle.std.specs.Prelude.{◌≡◌, ◌≤◌, ℕ, ◌*◌, List, [], ◌∷◌, ◌++◌, flat_map, map}
 use Rattle.std.specs.List.{list_all}
 use Rattle.std.proofs.Common.{arith, sym, ◌∙◌, ap, subst, zero-add}
+use Rattle.std.proofs.Math.Nat.{le_of_eq}
 use Rattle.au_expr.proofs.Fits.{fit_parts}
 use Rattle.au_algebra.specs.declared.query.Agg.{Agg}
 use Rattle.au_algebra.specs.Bounded as bounded
@@ -26,9 +27,6 @@ use Rattle.au_rwgroup.proofs.TotalKinds.{total_plan_kinds}
 use Rattle.au_rwgroup.proofs.TotalNumbers.{total_fits}
 use Rattle.au_rwgroup.proofs.TotalTyped.{if_some, sums_typed, typed_total_gives}
 
-equal_le : (m n : ℕ) → m ≡ n → m ≤ n
-equal_le m n h = omega (arith, h)
-
 -- the first grouping adds no Scan
 pub first_scans : (c k : ℕ) (kept : List PAgg) (of : PlanTree) → scans (first_grouping c k kept of) ≡ scans of
 first_scans c k kept of = scans-extend_all (group_columns c k) of
@@ -50,7 +48,7 @@ module _ (c : ℕ) (of p : PlanTree) (is : p ≡ distinct c of) where
   distinct_gives = subst (λ q. Distincts c of q) (sym is) distinct_as_is
 
   pub distinct_scans : scans p ≤ scans of
-  distinct_scans = equal_le (scans p) (scans of) (ap scans is ∙ first_scans c c [] of)
+  distinct_scans = le_of_eq {n = scans p} {m = scans of} (ap scans is ∙ first_scans c c [] of)
 
 -- the plan of the sums adds no Scan
 pub sums_scans : (c : ℕ) (aggs : List Agg) (of : PlanTree) → scans (sums c aggs of) ≡ scans of
@@ -58,7 +56,7 @@ sums_scans c aggs of = zero-add (scans (extend_all (total_columns (3 * c) aggs) 
 
 total_within : (c : ℕ) (aggs : List Agg) (of : PlanTree) → scans (total c aggs of) ≤ scans of
 total_within c [] of = omega arith
-total_within c (a ∷ aggs) of = equal_le (scans (sums c (a ∷ aggs) of)) (scans of) (sums_scans c (a ∷ aggs) of)
+total_within c (a ∷ aggs) of = le_of_eq {n = scans (sums c (a ∷ aggs) of)} {m = scans of} (sums_scans c (a ∷ aggs) of)
 
 module _ (c : ℕ) (aggs : List Agg) (of p : PlanTree) (is : p ≡ total c aggs of) where
   total_as_is : Totals c aggs of (total c aggs of)
