@@ -7,6 +7,5 @@ pub mod Grouping
 pub mod JoinGroups
 pub mod JoinRows
 pub mod Laws
-pub mod OneTable
 pub mod RowsApart
 pub mod Steps

@@ -17,8 +17,6 @@
 mod combining;
 mod groups;
 mod places;
-#[cfg(test)]
-mod tests;
 
 pub use combining::{combine, triple_sums};
 pub use groups::{boxes, group};

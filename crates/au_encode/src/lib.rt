@@ -14,8 +14,6 @@
 
 mod decoding;
 mod encoding;
-#[cfg(test)]
-mod tests;
 
 pub use decoding::decode;
 pub use encoding::encode;

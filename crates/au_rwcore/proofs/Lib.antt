@@ -1,7 +1,6 @@
 pub mod CoreKinds
 pub mod ItemSteps
 pub mod Laws
-pub mod OneTable
 pub mod ProductNumbers
 pub mod ProductRows
 pub mod ProjectNumbers

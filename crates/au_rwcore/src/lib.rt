@@ -18,8 +18,6 @@
 mod pairing;
 mod projection;
 mod selection;
-#[cfg(test)]
-mod tests;
 mod uniting;
 
 pub use pairing::product;

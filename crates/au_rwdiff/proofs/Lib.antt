@@ -7,4 +7,3 @@ pub mod JoinedRows
 pub mod Laws
 mod Minus
 mod Taken
-pub mod TwoTables

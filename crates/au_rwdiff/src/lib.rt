@@ -16,7 +16,5 @@
 
 mod columns;
 mod subtraction;
-#[cfg(test)]
-mod tests;
 
 pub use subtraction::difference;

@@ -16,7 +16,6 @@ pub mod Laws
 pub mod MemberColumns
 pub mod MemberNumbers
 pub mod Narrowed
-pub mod OneTable
 pub mod PlanParts
 pub mod SecondRows
 pub mod Signed
@@ -25,4 +24,3 @@ pub mod TotalKinds
 pub mod TotalNumbers
 pub mod TotalRows
 pub mod TotalTyped
-pub mod TwoColumns

@@ -17,8 +17,6 @@ mod count_terms;
 mod distinct_rows;
 mod group_aggregates;
 mod group_places;
-#[cfg(test)]
-mod group_tests;
 mod grouping;
 mod guessed_keys;
 mod joined_row;
@@ -26,8 +24,6 @@ mod literal_rows;
 mod member_columns;
 mod pair_tests;
 mod result_columns;
-#[cfg(test)]
-mod tests;
 mod totals;
 
 pub use distinct_rows::distinct;

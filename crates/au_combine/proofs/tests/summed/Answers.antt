@@ -1,8 +1,0 @@
--- The plan gives the combined triples of the table.
-use Rattle.au_plain.specs.Plans.{plan_tree}
-use Rattle.au_combine.proofs.OneTable.{sum_given}
-use Rattle.au_combine.proofs.tests.summed.Goals as goal
-
-pub run-requires-clause-gives : goal.run-requires-clause-gives
-run-requires-clause-gives c =
-    sum_given c.args.of.now c.requires (plan_tree c.in_ok-triples.triples) (plan_tree c.in_ok-plan.plan) c.in_ok-triples.ensures.gives c.in_ok-plan.ensures.gives

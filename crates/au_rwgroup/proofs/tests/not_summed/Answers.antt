@@ -1,8 +1,0 @@
--- The plan gives the sums over the table.
-use Rattle.std.proofs.Common.{[], refl}
-use Rattle.au_plain.specs.Plans.{plan_tree}
-use Rattle.au_rwgroup.proofs.OneTable.{total_given}
-use Rattle.au_rwgroup.proofs.tests.not_summed.Goals as goal
-
-pub run-requires-clause-gives : goal.run-requires-clause-gives
-run-requires-clause-gives c = total_given c.args.of.now c.requires ([]) ([]) (plan_tree c.in_ok-plan.plan) refl c.in_ok-plan.ensures.gives
