@@ -63,3 +63,5 @@ pub mod NormalRows
 pub mod Runs
 pub mod TripleFits
 pub mod MergedRuns
+pub mod ByProduct
+pub mod AnyProduct

@@ -9,4 +9,5 @@ pub mod Ordinary
 pub mod Typing
 pub mod Trees
 pub mod Positive
+pub mod Products
 pub mod Ends

@@ -19,14 +19,12 @@ mod normal_form;
 mod query;
 mod range_order;
 mod rel;
-#[cfg(test)]
-mod tests;
 mod theorems;
 
 pub use normal_form::normal;
 pub use query::{Agg, Query};
 pub use rel::Rel;
 pub use theorems::{
-    answer_is_bounded, answer_is_relation, bounds_up_to_order, forms_keep_both, guess_is_exact,
-    positive_guesses,
+    answer_is_bounded, answer_is_relation, any_product, bounds_up_to_order, forms_keep_both,
+    guess_is_exact, positive_guesses,
 };

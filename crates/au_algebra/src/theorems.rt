@@ -1,4 +1,5 @@
 //! The laws of bounded answers. Each is the contract of a function that does nothing.
+ghost use Rattle.au_algebra.specs.Products.{AnyProduct};
 ghost use Rattle.au_algebra.specs.Laws.{AnswerIsBounded, AnswerIsRelation, BoundsUpToOrder, FormsKeepBoth, GuessIsExact, PositiveGuesses};
 
 /// Where each table bounds a list of rows, the bounded relation of a typed tree bounds its ordinary answer.
@@ -29,4 +30,10 @@ pub fn bounds_up_to_order()
 /// Taking guesses commutes with the four positive operators, rows of guess 0 left out.
 pub fn positive_guesses()
     ensures { PositiveGuesses }
+{}
+
+/// A product that keeps what Product keeps may stand in its place: the relation of a typed tree then bounds and guesses
+/// its ordinary answer.
+pub fn any_product()
+    ensures { AnyProduct }
 {}

@@ -29,8 +29,6 @@ mod role;
 mod row_faults;
 mod schema;
 mod table;
-#[cfg(test)]
-mod tests;
 mod times;
 mod values;
 

@@ -9,6 +9,7 @@ use Rattle.au_io.specs.Counts.{Rose}
 use Rattle.au_io.specs.Files.{AppendsFront, File}
 use Rattle.au_parse.specs.Tree.{QueryTree}
 use Rattle.au_engine.specs.Answers.{Named, answer_fits}
+use Rattle.au_engine.specs.declared.faults.QueryFault.TheVariants as query
 use Rattle.au_words.specs.Words.{Asked, Request}
 use Rattle.au_words.specs.Words as words
 use Rattle.au_words.specs.declared.fault.UsageFault.{UsageFault}
@@ -17,7 +18,8 @@ use Rattle.au_cli.specs.declared.outcome.Outcome.TheVariants as outcome
 use Rattle.au_cli.specs.Demo.{Demonstrates}
 use Rattle.au_cli.specs.Requests.{Given, IsAnswer, IsRefusal, Prints, PrintsFront, Refusal, given_of, numbers_fit, refused_request, unless_refused}
 use Rattle.au_cli.specs.Requests.Refusal.{exactly}
-use Rattle.au_cli.specs.Causes.{AskedCause, DemoCause, Ends, Gives, IsAskedText, IsRead, IsRefusedBefore, PrintsAsked, PrintsAskedFront, RequestCause, StageCause, TextPut, is_text_fault, is_text_limit}
+use Rattle.au_cli.specs.Causes.{AskedCause, AskedNotPositive, DemoCause, Ends, Gives, IsAskedText, IsRead, IsRefusedBefore, PrintsAsked, PrintsAskedFront, RequestCause, StageCause, TextPut, is_text_fault, is_text_limit}
+use Rattle.au_cli.proofs.TextRefusals.{refused_not_positive}
 use Rattle.au_cli.specs.Run.{CanAnswer, Yields, first_refusal, refused_before}
 
 -- ---- putting
@@ -284,6 +286,17 @@ pub read_fault_rose : (asked : Result Asked UsageFault) (told : Option (List Fil
     → Ends asked told f fn a an p pn old new o → o ≡ outcome.ReadFault i → Rose f fn
 read_fault_rose asked told f fn a an p pn old new (outcome.ReadFault j) i h e = fault_rose asked told f fn a an j h.0
 read_fault_rose asked told f fn a an p pn old new _ i h e = cc
+
+placed : (asked : Result Asked UsageFault) (told : Option (List File)) (f fn a an : ℕ) (at : ℕ) → AskedCause asked told f fn a an (outcome.Query (query.NotPositive at)) → AskedNotPositive asked at
+placed (Err x) told f fn a an at h = elim h [ inl e ↦ cc | inr e ↦ cc ]
+placed (Ok (words.query r)) told f fn a an at h = refused_not_positive r at h
+placed (Ok (words.demo start blocks)) told f fn a an at h = elim h [ ]
+
+pub not_positive_cause : (asked : Result Asked UsageFault) (told : Option (List File)) (f fn a an p pn : ℕ) (old new : Option (List ℕ)) (o : Outcome) (at : ℕ)
+    → Ends asked told f fn a an p pn old new o → o ≡ outcome.Query (query.NotPositive at) → AskedNotPositive asked at
+not_positive_cause asked told f fn a an p pn old new (outcome.Query fault) at h e =
+    let same : fault ≡ query.NotPositive at = cc in placed asked told f fn a an at (subst (λ x. AskedCause asked told f fn a an (outcome.Query x)) same h.0)
+not_positive_cause asked told f fn a an p pn old new _ at h e = cc
 
 -- ---- the sink
 

@@ -1,6 +1,6 @@
 -- Why an outcome comes: the cause that each has. `told` are the files that a shelf tells, and the counts are those of
 -- its refusals and of its absent files before and after.
-use Rattle.std.specs.Prelude.{ℕ, ◌≡◌, ◌≢◌, ◌<◌, ◌⊎◌, Bool, true, false, List, [], length, Option, Some, None, IfSome, Result, Ok, Err, ⊤}
+use Rattle.std.specs.Prelude.{ℕ, ◌≡◌, ◌≢◌, ◌<◌, ◌≤◌, ◌⊎◌, Bool, true, false, List, [], length, Option, Some, None, IfSome, Result, Ok, Err, ⊤}
 use Rattle.std.specs.Io.KnownBytes.{Appends}
 use Rattle.au_blocks.specs.declared.faults.TableFault.TheVariants as table
 use Rattle.au_blocks.specs.Read.{table_of}
@@ -11,17 +11,19 @@ use Rattle.au_engine.specs.declared.faults.LimitFault.{LimitFault}
 use Rattle.au_engine.specs.declared.faults.LimitFault.TheVariants as limit
 use Rattle.au_engine.specs.declared.faults.QueryFault.{QueryFault}
 use Rattle.au_engine.specs.declared.faults.QueryFault.TheVariants as query
-use Rattle.au_engine.specs.Reading.{statement_of}
+use Rattle.au_engine.specs.Reading.{refused_text, statement_of}
 use Rattle.au_engine.specs.Answers.{Named, answer_fits, answer_rows}
 use Rattle.au_print.specs.DemoTexts.{demo_text}
+use Rattle.au_ua.specs.NotPositive.{not_positive}
 use Rattle.au_words.specs.Words.{Asked, Request}
 use Rattle.au_words.specs.Words as words
 use Rattle.au_words.specs.declared.fault.UsageFault.{UsageFault}
+use Rattle.au_words.specs.declared.words.Command.TheVariants.{Ua}
 use Rattle.au_cli.specs.declared.outcome.Outcome.{Outcome}
 use Rattle.au_cli.specs.declared.outcome.Outcome.TheVariants as outcome
 use Rattle.au_cli.specs.Demo.{Demonstrates}
 use Rattle.au_cli.specs.Files.{Text, file_table, tables_of}
-use Rattle.au_cli.specs.Requests.{IsAnswer, IsRefusal, Prints, PrintsFront, Refusal, given_of, numbers_fit, refused_request}
+use Rattle.au_cli.specs.Requests.{IsAnswer, IsRefusal, Prints, PrintsFront, Refusal, given_of, greatest_files, numbers_fit, refused_request}
 
 -- ---- files
 
@@ -97,7 +99,17 @@ is_text_fault (query.BadChar at) = true
 is_text_fault (query.OpenText at) = true
 is_text_fault (query.BadNumber at) = true
 is_text_fault (query.Syntax at) = true
+is_text_fault (query.NotPositive at) = true
 is_text_fault _ = false
+
+-- The statement of `ua` is not positive at this place, and no earlier refusal stands.
+pub record IsNotPositive (r : Request) (at : ℕ) : Type 0 where
+  pub command : r.command ≡ Ua
+  pub few : length r.tables ≤ greatest_files
+  pub text : refused_text r.query ≡ None
+  pub statement : QueryTree
+  pub is : statement_of r.query ≡ Some statement
+  pub place : not_positive statement ≡ Some at
 
 -- whether a limit is of the words and the query's text, not of the files
 abbrev pub is_text_limit : LimitFault → Bool
@@ -144,6 +156,11 @@ abbrev pub AskedCause : Result Asked UsageFault → Option (List File) → ℕ �
 AskedCause (Err fault) told faults faults_now absences absences_now o = (o ≡ outcome.Usage fault) ⊎ (o ≡ outcome.NoMemory)
 AskedCause (Ok (words.query r)) told faults faults_now absences absences_now o = RequestCause r told faults faults_now absences absences_now o
 AskedCause (Ok (words.demo start blocks)) told faults faults_now absences absences_now o = DemoCause start blocks o
+
+-- the words ask for `ua`, and its statement is not positive at this place
+abbrev pub AskedNotPositive : Result Asked UsageFault → ℕ → Type 0
+AskedNotPositive (Ok (words.query r)) at = IsNotPositive r at
+AskedNotPositive _ at = ⊥
 
 -- what is printed whole, and a front of it
 abbrev pub PrintsAsked : Result Asked UsageFault → Option (List File) → Option (List ℕ) → Option (List ℕ) → Type 0

@@ -29,6 +29,7 @@ query_text (query.BadChar n) = codes "unexpected character at byte " ++ decimal 
 query_text (query.OpenText n) = codes "quote without an end at byte " ++ decimal n
 query_text (query.BadNumber n) = codes "bad number at byte " ++ decimal n
 query_text (query.Syntax n) = codes "syntax error at byte " ++ decimal n
+query_text (query.NotPositive n) = codes "not a positive query at byte " ++ decimal n
 query_text (query.UnknownTable n) = codes "unknown table at byte " ++ decimal n
 query_text (query.UnknownColumn n) = codes "unknown column at byte " ++ decimal n
 query_text (query.Ambiguous n) = codes "ambiguous column at byte " ++ decimal n

@@ -1,5 +1,6 @@
 -- What a request is given by told files, what it is refused by, and what is printed for it.
 use Rattle.std.specs.Prelude.{ℕ, ◌≡◌, ◌&&◌, Bool, true, false, List, [], ◌∷◌, length, Option, Some, None, option_map, Result, Ok, Err, if◌then◌else◌, nat_lt, ⊤}
+use Rattle.std.specs.Option.{option_or}
 use Rattle.std.specs.Io.KnownBytes.{Appends}
 use Rattle.au_io.specs.Files.{AppendsFront, File}
 use Rattle.au_lex.specs.Tokens.{tokens_of}
@@ -9,6 +10,8 @@ use Rattle.au_algebra.specs.Bounded.{Bounded}
 use Rattle.au_print.specs.Texts.{csv_text}
 use Rattle.au_print.specs.Tables.{table_text}
 use Rattle.au_print.specs.GuessTexts.{counts_fit, world_rows, world_text}
+use Rattle.au_ua.specs.NotPositive.{not_positive}
+use Rattle.au_ua.specs.UaTexts.{ua_text}
 use Rattle.au_engine.specs.declared.faults.EngineFault.{EngineFault}
 use Rattle.au_engine.specs.declared.faults.EngineFault.TheVariants as engine
 use Rattle.au_engine.specs.declared.faults.LimitFault.TheVariants as limit
@@ -16,9 +19,10 @@ use Rattle.au_engine.specs.declared.faults.QueryFault.TheVariants as query
 use Rattle.au_engine.specs.Reading as reading
 use Rattle.au_engine.specs.Reading.{PlaceIn, refused_text, statement_of}
 use Rattle.au_engine.specs.Answers.{IsDefect, Named, RowsHold, answer_fits, answer_names, answer_rows, guess_answer, guess_answer_fits, statement_defects}
+use Rattle.au_engine.specs.Certainty.{UaHolds, ua_answer_fits, ua_rows}
 use Rattle.au_words.specs.Words.{Request}
 use Rattle.au_words.specs.declared.words.Command.{Command}
-use Rattle.au_words.specs.declared.words.Command.TheVariants.{Answer, Guess}
+use Rattle.au_words.specs.declared.words.Command.TheVariants.{Answer, Guess, Ua}
 use Rattle.au_cli.specs.declared.outcome.Outcome.{Outcome}
 use Rattle.au_cli.specs.declared.outcome.Outcome.TheVariants as outcome
 use Rattle.au_cli.specs.Files.{Text, tables_of}
@@ -53,11 +57,23 @@ text_refusal text reading.Refusal.no_statement = Refusal.no_statement text
 abbrev pub greatest_files : ℕ
 greatest_files = 8
 
--- the first refusal before any file: by the number of table words, or of the query's text
+-- where a command refuses a statement: `ua` answers positive ones alone
+abbrev pub refused_place : Command → QueryTree → Option ℕ
+refused_place Ua s = not_positive s
+refused_place _ s = None
+
+abbrev pub place_refusal : ℕ → Refusal
+place_refusal at = Refusal.exactly (outcome.Query (query.NotPositive at))
+
+abbrev pub refused_statement : Command → Option QueryTree → Option Refusal
+refused_statement command None = None
+refused_statement command (Some s) = option_map place_refusal (refused_place command s)
+
+-- the first refusal before any file: by the number of table words, of the query's text, or of its statement by the command
 abbrev pub refused_request : Request → Option Refusal
 refused_request r =
     if nat_lt greatest_files (length r.tables) then Some (Refusal.exactly (outcome.Limit (limit.Files (length r.tables))))
-    else option_map (text_refusal r.query) (refused_text r.query)
+    else option_or (option_map (text_refusal r.query) (refused_text r.query)) (refused_statement r.command (statement_of r.query))
 
 -- ---- what is given
 
@@ -91,30 +107,37 @@ abbrev pub rows_text : Bool → List (List ℕ) → Bounded → List ℕ
 rows_text false names rows = csv_text names rows
 rows_text true names rows = table_text names rows
 
--- the text that is printed: the bounded answer's, or that of the ordinary answer in the guess world
+-- the text that is printed: the bounded answer's, or that of the ordinary answer in the guess world, or that of its rows
+-- with how often each is certain
 abbrev pub text_by : Command → Request → List Named → QueryTree → List ℕ
 text_by Guess r ts s = world_text (answer_names ts s) (guess_answer ts s)
+text_by Ua r ts s = ua_text (answer_names ts s) (ua_rows ts s)
 text_by _ r ts s = rows_text r.table (answer_names ts s) (answer_rows r.combine ts s)
 
 abbrev pub answer_text : Request → List Named → QueryTree → List ℕ
 answer_text r ts s = text_by r.command r ts s
 
--- whether each number of the answer lies in 128 bits, the printed counts of a guess among them
+-- whether each number of the answer lies in 128 bits, the printed counts among them: with `ua`, each number of the ordinary
+-- answer in the guess world
 abbrev pub fit_by : Command → Request → List Named → QueryTree → Bool
 fit_by Guess r ts s = guess_answer_fits ts s && counts_fit (world_rows (guess_answer ts s))
+fit_by Ua r ts s = ua_answer_fits ts s
 fit_by _ r ts s = answer_fits r.combine ts s
 
 abbrev pub numbers_fit : Request → List Named → QueryTree → Bool
 numbers_fit r ts s = fit_by r.command r ts s
 
--- the printed rows hold in every possible world, and their guesses are the answer in the guess world
+-- The printed rows hold in every possible world, and their guesses are the answer in the guess world. With `ua` there are
+-- in every world as many copies of each row as are certain, and in the guess world as many as are guessed.
 abbrev pub HoldsBy : Command → Request → List Named → QueryTree → Type 0
 HoldsBy Guess r ts s = ⊤
+HoldsBy Ua r ts s = UaHolds ts s
 HoldsBy _ r ts s = RowsHold ts s (answer_rows r.combine ts s)
 
--- only the plan of `answer` may pass over a number that leaves 128 bits
+-- the plan of `answer` may pass over a number that leaves 128 bits, and `ua` makes numbers of its own
 abbrev pub FitsBy : Command → Bool → Type 0
 FitsBy Answer fit = ⊤
+FitsBy Ua fit = ⊤
 FitsBy _ fit = fit ≡ true
 
 -- a text is the answer's, and the answer holds

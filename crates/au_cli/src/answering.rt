@@ -1,18 +1,22 @@
 //! The text of the answer of a statement over tables.
-ghost use Rattle.std.specs.Prelude.{◌≡◌, ◌&&◌, length, OnOk, IfOk, IfErr, [], true};
+ghost use Rattle.std.specs.Prelude.{◌≡◌, ◌&&◌, length, None, OnOk, IfOk, IfErr, [], true};
 ghost use Rattle.std.specs.List.{AllByRecursion};
 ghost use Rattle.au_parse.specs.Views.{statement_tree};
 ghost use Rattle.au_parse.specs.Whole.{WholeQuery};
 ghost use Rattle.au_print.specs.GuessTexts.{counts_fit, world_rows, world_text};
+ghost use Rattle.au_ua.specs.NotPositive.{not_positive};
+ghost use Rattle.au_ua.specs.UaTexts.{ua_text as ua_text_of};
 ghost use Rattle.au_engine.specs.Answers.{AnswerCause, RowsHold, answer_fits, answer_names, answer_rows, guess_answer as guess_answer_of, guess_answer_fits, statement_defects};
-ghost use Rattle.au_cli.specs.Requests.{HoldsBy, FitsBy, fit_by, rows_text, text_by};
+ghost use Rattle.au_engine.specs.Certainty.{UaHolds, ua_answer_fits, ua_rows};
+ghost use Rattle.au_cli.specs.Requests.{HoldsBy, FitsBy, fit_by, refused_place, rows_text, text_by};
 ghost use Rattle.au_words.specs.CommandLine.{seen_request};
 
 use au_blocks::Table;
-use au_engine::{EngineFault, Options, answer, answer_directly, guess_answer};
+use au_engine::{EngineFault, Options, answer, answer_directly, guess_answer, ua_answer};
 use au_expr::EvalFault;
 use au_parse::Statement;
 use au_print::{Answer, csv_text, guess_text, table_text};
+use au_ua::ua_text;
 use au_value::{NoMemory, Word};
 use au_words::{Command, Request};
 use std::alloc::Global;
@@ -24,7 +28,8 @@ pub(crate) fn answer_text(
     statement: &Statement,
     tables: &[(Word, Table)],
 ) -> Result<Vec<u8>, EngineFault>
-    requires { WholeQuery (statement_tree statement.now) }
+    requires whole { WholeQuery (statement_tree statement.now) }
+    requires taken { refused_place request.now.command (statement_tree statement.now) ≡ None }
     ensures typed { OnOk result (statement_defects tables.now (statement_tree statement.now) ≡ []) }
     ensures text { IfOk result (λ t. t.items ≡ text_by request.now.command (seen_request request.now) tables.now (statement_tree statement.now)) }
     ensures holds { OnOk result (HoldsBy request.now.command (seen_request request.now) tables.now (statement_tree statement.now)) }
@@ -38,6 +43,7 @@ pub(crate) fn answer_text(
         Command::Answer => planned_text(alloc, statement, tables, options, request.table),
         Command::Direct => direct_text(alloc, statement, tables, options, request.table),
         Command::Guess => guess_world_text(alloc, statement, tables),
+        Command::Ua => certain_text(alloc, statement, tables),
     }
 }
 
@@ -117,6 +123,30 @@ fn guess_world_text(
         Err(fault) => return Err(fault),
     };
     match guess_text(alloc, guess.names.as_slice(), &guess.rows) {
+        Ok(text) => Ok(text),
+        Err(EvalFault::Overflow) => Err(EngineFault::Overflow),
+        Err(EvalFault::NoMemory) => Err(EngineFault::NoMemory),
+    }
+}
+
+// The text of the rows of the guess world with how often each is certain.
+fn certain_text(
+    alloc: Global,
+    statement: &Statement,
+    tables: &[(Word, Table)],
+) -> Result<Vec<u8>, EngineFault>
+    requires whole { WholeQuery (statement_tree statement.now) }
+    requires positive { not_positive (statement_tree statement.now) ≡ None }
+    ensures typed { OnOk result (statement_defects tables.now (statement_tree statement.now) ≡ []) }
+    ensures text { IfOk result (λ t. t.items ≡ ua_text_of (answer_names tables.now (statement_tree statement.now)) (ua_rows tables.now (statement_tree statement.now))) }
+    ensures holds { OnOk result (UaHolds tables.now (statement_tree statement.now)) }
+    ensures refused { IfErr result (AnswerCause (statement_defects tables.now (statement_tree statement.now)) (ua_answer_fits tables.now (statement_tree statement.now))) }
+{
+    let answer = match ua_answer(alloc, statement, tables) {
+        Ok(answer) => answer,
+        Err(fault) => return Err(fault),
+    };
+    match ua_text(alloc, answer.names.as_slice(), &answer.rows) {
         Ok(text) => Ok(text),
         Err(EvalFault::Overflow) => Err(EngineFault::Overflow),
         Err(EvalFault::NoMemory) => Err(EngineFault::NoMemory),

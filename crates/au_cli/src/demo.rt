@@ -9,9 +9,6 @@ ghost use Rattle.au_engine.specs.Answers.{RowsHold, answer_fits, answer_rows, st
 ghost use Rattle.au_engine.specs.Reading.{statement_of};
 ghost use Rattle.au_cli.specs.Demo.{Demonstrates, demo_name, demo_query};
 
-#[cfg(test)]
-mod tests;
-
 use au_blocks::{Table, TableFault, read_table};
 use au_engine::{EngineFault, Options, answer, read_query};
 use au_expr::EvalFault;

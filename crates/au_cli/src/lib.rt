@@ -23,8 +23,3 @@ pub use au_words::UsageFault;
 pub use line::fault_line;
 pub use outcome::Outcome;
 pub use top::run;
-
-#[cfg(test)]
-mod run_tests;
-#[cfg(test)]
-mod tests;

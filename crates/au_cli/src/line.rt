@@ -26,6 +26,7 @@ impl fmt::Display for QueryText {
             QueryFault::OpenText(at) => write!(f, "quote without an end at byte {at}"),
             QueryFault::BadNumber(at) => write!(f, "bad number at byte {at}"),
             QueryFault::Syntax(at) => write!(f, "syntax error at byte {at}"),
+            QueryFault::NotPositive(at) => write!(f, "not a positive query at byte {at}"),
             QueryFault::UnknownTable(at) => write!(f, "unknown table at byte {at}"),
             QueryFault::UnknownColumn(at) => write!(f, "unknown column at byte {at}"),
             QueryFault::Ambiguous(at) => write!(f, "ambiguous column at byte {at}"),

@@ -5,15 +5,16 @@ ghost use Rattle.au_parse.specs.Whole.{WholeQuery};
 ghost use Rattle.au_engine.specs.Reading.{TextCause, refused_text, statement_of};
 ghost use Rattle.au_words.specs.CommandLine.{seen_request};
 ghost use Rattle.au_cli.specs.Causes.{Gives, IsRead, IsRefusedBefore, RequestCause, StatementCause};
-ghost use Rattle.au_cli.specs.Requests.{IsAnswer, ended as ended_of, refused_request};
+ghost use Rattle.au_cli.specs.Requests.{IsAnswer, ended as ended_of, refused_place as refused_place_of, refused_request};
 
 use crate::answering::answer_text;
 use crate::files::read_tables;
 use crate::outcome::Outcome;
-use au_engine::{EngineFault, LimitFault, read_query};
+use au_engine::{EngineFault, LimitFault, QueryFault, read_query};
 use au_io::Shelf;
 use au_parse::Statement;
-use au_words::Request;
+use au_ua::not_positive;
+use au_words::{Command, Request};
 use std::alloc::Global;
 
 // The greatest number of table words.
@@ -36,19 +37,34 @@ pub(crate) fn request_text<S: Shelf>(
     }
 }
 
-// The statement of a request.
+// The statement of a request, if its command answers it.
 fn read_statement(alloc: Global, request: &Request<'_>) -> Result<Statement, Outcome>
     ensures allowed { IfOk result (λ s. refused_request (seen_request request.now) ≡ None) }
     ensures tree { IfOk result (λ s. statement_of request.now.query.now ≡ Some (statement_tree s)) }
     ensures whole { IfOk result (λ s. WholeQuery (statement_tree s)) }
+    ensures taken { IfOk result (λ s. refused_place_of request.now.command (statement_tree s) ≡ None) }
     ensures refused { IfErr result (StatementCause (seen_request request.now)) }
 {
     if request.tables.len() > MAX_FILES {
         return Err(Outcome::Limit(LimitFault::Files(request.tables.len())));
     }
-    match read_query(alloc, request.query) {
-        Ok(statement) => Ok(statement),
-        Err(fault) => Err(ended(fault)),
+    let statement = match read_query(alloc, request.query) {
+        Ok(statement) => statement,
+        Err(fault) => return Err(ended(fault)),
+    };
+    match refused_place(request.command, &statement) {
+        Some(at) => Err(Outcome::Query(QueryFault::NotPositive(at))),
+        None => Ok(statement),
+    }
+}
+
+// The place at which a command refuses a statement, if there is one.
+fn refused_place(command: Command, statement: &Statement) -> Option<usize>
+    ensures { result ≡ refused_place_of command (statement_tree statement.now) }
+{
+    match command {
+        Command::Ua => not_positive(statement),
+        Command::Answer | Command::Direct | Command::Guess => None,
     }
 }
 
@@ -62,6 +78,7 @@ fn statement_text<S: Shelf>(
     requires whole { WholeQuery (statement_tree statement.now) }
     requires allowed { refused_request (seen_request request.now) ≡ None }
     requires tree { statement_of request.now.query.now ≡ Some (statement_tree statement.now) }
+    requires taken { refused_place_of request.now.command (statement_tree statement.now) ≡ None }
     ensures text { IfOk result (λ t. IsRead (seen_request request.now) × Gives (S.files shelf.old) (seen_request request.now) (IsAnswer (seen_request request.now) t.items)) }
     ensures refused { IfErr result (RequestCause (seen_request request.now) (S.files shelf.old) (S.faults shelf.old) (S.faults shelf.new) (S.absences shelf.old) (S.absences shelf.new)) }
     ensures files { S.files shelf.new ≡ S.files shelf.old }

@@ -6,7 +6,8 @@ ghost use Rattle.au_io.specs.Files.{AppendsFront, File};
 ghost use Rattle.au_words.specs.declared.fault.UsageFault.{UsageFault};
 ghost use Rattle.au_words.specs.Words.{asked_of, first_usage_fault};
 ghost use Rattle.au_cli.specs.Lines.{fault_text};
-ghost use Rattle.au_cli.specs.Causes.{AskedCause, DemoCause, Ends, IsAskedText, LinePut, PrintsAsked, PrintsAskedFront, TextPut, DemoText};
+ghost use Rattle.au_engine.specs.declared.faults.QueryFault.TheVariants.{NotPositive};
+ghost use Rattle.au_cli.specs.Causes.{AskedCause, AskedNotPositive, DemoCause, Ends, IsAskedText, LinePut, PrintsAsked, PrintsAskedFront, TextPut, DemoText};
 ghost use Rattle.au_cli.specs.Requests.{IsRefusal, Refusal};
 ghost use Rattle.au_cli.specs.Run.{CanAnswer, Yields, first_refusal, refused_before};
 ghost use Rattle.au_cli.specs.Demo.{Demonstrates};
@@ -34,6 +35,9 @@ pub fn run<S: Shelf, O: Sink, E: Sink>(
     ensures usage_cause { (f : UsageFault) → result ≡ Outcome.Usage f → first_usage_fault words.now ≡ Some f }
     ensures usage { (f : UsageFault) → first_usage_fault words.now ≡ Some f → Yields result (Outcome.Usage f) }
     ensures query { (r : Refusal) → refused_before (asked_of words.now) ≡ Some r → IsRefusal r result ⊎ (result ≡ Outcome.NoMemory) }
+
+    // Only `ua` refuses a statement that is not positive, and only as the first refusal.
+    ensures not_positive { (at : ℕ) → result ≡ Outcome.Query (NotPositive at) → AskedNotPositive (asked_of words.now) at }
 
     // Each refusal has its cause.
     ensures cause { result ≢ Outcome.Done → result ≢ Outcome.WriteFault → AskedCause (asked_of words.now) (S.files shelf.old) (S.faults shelf.old) (S.faults shelf.new) (S.absences shelf.old) (S.absences shelf.new) result }

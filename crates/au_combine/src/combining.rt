@@ -7,7 +7,7 @@ ghost use Rattle.au_combine.specs.Boxes.{combine as combined};
 ghost use Rattle.au_combine.specs.Gives.{Combines};
 
 use crate::groups::boxes;
-use au_plain::{Layout, PAgg, Plan};
+use au_plain::{Layout, PAgg, Plan, beside};
 use au_rwexpr::RangeColumns;
 use au_value::NoMemory;
 use std::alloc::Global;
@@ -29,8 +29,15 @@ pub fn combine(alloc: Global, of: Plan, layout: &Layout) -> Result<Plan, NoMemor
 fn combine_plan(alloc: Global, of: Plan, layout: &Layout) -> Result<Plan, NoMemory>
     ensures { IfOk result (λ p. plan_tree p ≡ combined layout.now.columns (plan_tree of)) }
 {
-    let sums = triple_sums(alloc, RangeColumns::of(layout.columns)?)?;
+    let (sums, of) = beside(row_sums(alloc, layout.columns), of)?;
     boxes(alloc, of, layout.columns, sums)
+}
+
+// The sums of the triple behind so many ranges.
+fn row_sums(alloc: Global, columns: usize) -> Result<Vec<PAgg>, NoMemory>
+    ensures { IfOk result (λ v. v.items ≡ Sum (3 * columns) ∷ Sum (3 * columns + 1) ∷ Sum (3 * columns + 2) ∷ []) }
+{
+    triple_sums(alloc, RangeColumns::of(columns)?)
 }
 
 /// The sums of three columns, as of the parts of a triple.

@@ -1,13 +1,12 @@
 //! Groupings as plans.
-ghost use Rattle.std.specs.Prelude.{◌≡◌, ◌+◌, ◌*◌, ◌<◌, ◌^◌, ◌++◌, IfOk, length};
+ghost use Rattle.std.specs.Prelude.{◌≡◌, ◌+◌, ◌*◌, ◌++◌, IfOk};
 ghost use Rattle.au_plain.specs.Plans.{plan_tree};
 ghost use Rattle.au_plain.specs.Plans as tree;
 ghost use Rattle.au_rwexpr.specs.Cells.{run};
 ghost use Rattle.au_combine.specs.Boxes.{box_aggs, boxes as boxed, sg_places, weave};
 
 use crate::places::{push_ends, push_guesses, push_run, push_woven};
-use au_plain::{PAgg, Plan};
-use au_rwexpr::keep;
+use au_plain::{PAgg, Plan, beside, both, keep};
 use au_value::NoMemory;
 use std::alloc::Global;
 
@@ -25,24 +24,43 @@ pub fn group(alloc: Global, keys: Vec<usize>, aggs: Vec<PAgg>, plan: Plan) -> Re
 pub fn boxes(alloc: Global, of: Plan, columns: usize, further: Vec<PAgg>) -> Result<Plan, NoMemory>
     ensures { IfOk result (λ p. plan_tree p ≡ boxed columns further.items (plan_tree of)) }
 {
-    let Some(ends) = columns.checked_mul(3) else {
+    let places = box_places(alloc, columns, further.len());
+    let (places, groups) = both(places, box_groups(alloc, of, columns, further))?;
+    keep(alloc, places, groups)
+}
+
+// The rows by the guesses of their ranges, with the ends of these and then the further aggregates.
+fn box_groups(alloc: Global, of: Plan, columns: usize, further: Vec<PAgg>) -> Result<Plan, NoMemory>
+    ensures { IfOk result (λ p. plan_tree p ≡ tree.Group (sg_places 0 columns) (box_aggs 0 columns ++ further.items) (plan_tree of)) }
+{
+    let keys = box_keys(alloc, columns);
+    let parts = both(keys, box_aggregates(alloc, columns, further));
+    let ((keys, aggs), of) = beside(parts, of)?;
+    group(alloc, keys, aggs, of)
+}
+
+// The places of the guesses.
+fn box_keys(alloc: Global, columns: usize) -> Result<Vec<usize>, NoMemory>
+    ensures { IfOk result (λ v. v.items ≡ sg_places 0 columns) }
+{
+    let Some(_ends) = columns.checked_mul(3) else {
         return Err(NoMemory);
     };
-    let Some(_width) = ends.checked_add(further.len()) else {
-        return Err(NoMemory);
-    };
-    let places = box_places(alloc, columns, further.len())?;
     let mut keys = Vec::new(alloc);
     push_guesses(&mut keys, 0, columns)?;
-    let aggs = box_aggregates(alloc, columns, further)?;
-    keep(alloc, places, group(alloc, keys, aggs, of)?)
+    Ok(keys)
 }
 
 // The places of the ranges in a row of guesses, ends and further columns, and then of these.
 fn box_places(alloc: Global, columns: usize, further: usize) -> Result<Vec<usize>, NoMemory>
-    requires { 3 * columns + further < 2 ^ 64 }
     ensures { IfOk result (λ v. v.items ≡ weave 0 columns columns ++ run (columns + 2 * columns) further) }
 {
+    let Some(ends) = columns.checked_mul(3) else {
+        return Err(NoMemory);
+    };
+    let Some(_width) = ends.checked_add(further) else {
+        return Err(NoMemory);
+    };
     let mut places = Vec::new(alloc);
     push_woven(&mut places, 0, columns, columns)?;
     push_run(&mut places, columns + 2 * columns, further)?;
@@ -51,9 +69,11 @@ fn box_places(alloc: Global, columns: usize, further: usize) -> Result<Vec<usize
 
 // The ends of the ranges, and then the further aggregates.
 fn box_aggregates(alloc: Global, columns: usize, further: Vec<PAgg>) -> Result<Vec<PAgg>, NoMemory>
-    requires { 3 * columns < 2 ^ 64 }
     ensures { IfOk result (λ v. v.items ≡ box_aggs 0 columns ++ further.items) }
 {
+    let Some(_ends) = columns.checked_mul(3) else {
+        return Err(NoMemory);
+    };
     let mut aggs = Vec::new(alloc);
     push_ends(&mut aggs, 0, columns)?;
     for agg in further {

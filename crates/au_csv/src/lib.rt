@@ -16,8 +16,6 @@
 mod faults;
 mod read;
 mod rec;
-#[cfg(test)]
-mod tests;
 
 pub use faults::CsvFault;
 pub use read::records;

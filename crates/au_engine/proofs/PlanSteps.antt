@@ -1,11 +1,11 @@
--- The plan of each operator on top of the plans of its parts is a plan of the tree.
-use Rattle.std.specs.Prelude.{◌≡◌, ℕ, ◌+◌, ◌*◌, List, [], ◌∷◌, ◌++◌, length, map, take, flat_map, Option, Some, None, option_map, slice_get, unwrap_or, ◌==◌, option_and_then, nat_le, ℤ, Result, Ok, Err, IfOk, suc, ◌≤◌}
-use Rattle.std.specs.List.{AllZip}
-use Rattle.std.proofs.Common.{arith, refl, sym, ◌∙◌, ap, subst, eq-eqb, leb-true}
+-- The plan of each operator on top of the plans of its parts gives the tree's relation.
+use Rattle.std.specs.Prelude.{◌≡◌, ℕ, ◌+◌, IsTrue, List, [], ◌∷◌, ◌++◌, length, map, take, flat_map, Option, Some, None, is_some, option_map, slice_get, unwrap_or, nat_le, ℤ, suc, ◌≤◌}
+use Rattle.std.proofs.Common.{arith, refl, sym, ◌∙◌, ap, subst, leb-true}
+use Rattle.std.proofs.lemmas.Bool.{true≢false}
 use Rattle.std.proofs.lemmas.List.{length-append, length-map, length-take}
 use Rattle.std.proofs.lemmas.Option.{slice_get-map}
 use Rattle.au_value.specs.declared.kinds.Kind.{Kind}
-use Rattle.au_value.specs.declared.kinds.Kind.TheVariants.{Int, Flag}
+use Rattle.au_value.specs.declared.kinds.Kind.TheVariants.{Flag}
 use Rattle.au_expr.specs.Figures.{Fit}
 use Rattle.au_expr.specs.Kinds.{kind_in}
 use Rattle.au_expr.specs.Terms.{Term}
@@ -13,25 +13,24 @@ use Rattle.au_expr.proofs.Along.{is_kind_is}
 use Rattle.au_expr.proofs.Fits.{fit_both, fit_parts}
 use Rattle.au_algebra.specs.declared.query.Agg.{Agg}
 use Rattle.au_algebra.specs.Bounded.{Bounded, bounded, combine}
-use Rattle.au_algebra.specs.Fits.{difference_sums, numbers, triple_numbers}
+use Rattle.au_algebra.specs.Fits.{difference_sums, group_numbers, numbers, triple_numbers}
 use Rattle.au_algebra.specs.Laws.{IsRelation}
 use Rattle.au_algebra.specs.Ordinary.{Rows}
 use Rattle.au_algebra.specs.Trees.{Tree, Table, Select, Project, Product, Union, Difference, Distinct, Group, Total}
-use Rattle.au_algebra.specs.Typing.{agg_kind, all_kinds, group_kinds, kinds_if, kinds_of}
+use Rattle.au_algebra.specs.Typing.{IsTyped, agg_kind, all_kinds, group_kinds, kinds_of}
 use Rattle.au_algebra.proofs.Items.{and_then_is, chosen_is, some_is}
 use Rattle.au_algebra.proofs.PositiveRelation.{same_kinds_is}
-use Rattle.au_algebra.proofs.TreeRelation.{table_kinds}
-use Rattle.au_plain.specs.PlanKinds.{FitTables}
-use Rattle.au_plain.specs.Plans.{PlanTree, Scan}
-use Rattle.au_encode.specs.Encode.{encode, encoded_kinds}
+use Rattle.au_blocks.specs.Tables.{BlockTable, column_kinds}
+use Rattle.au_translate.specs.Translate.{bounded_table}
+use Rattle.au_plain.specs.Plans.{PlanTree}
 use Rattle.au_encode.specs.Gives.{Gives}
-use Rattle.au_rwexpr.proofs.Coded.{own}
-use Rattle.au_rwexpr.proofs.Picks.{coded_long}
 use Rattle.au_rwcore.specs.Gives.{Multiplies, Projects, Selects, Unites}
-use Rattle.au_combine.specs.Gives.{Combines}
 use Rattle.au_rwdiff.specs.Gives.{Subtracts}
 use Rattle.au_rwgroup.specs.Gives.{Distincts, Groups, Totals}
-use Rattle.au_engine.specs.Plans.{IsPlanOf, widths}
+use Rattle.au_plan.proofs.Implementing.{before}
+use Rattle.au_engine.specs.Stages.{Adds, AddsTable, AddsTree, CanRun, LeavesRange, LeavesRangeCombined, Materializes, MaterializesCombined}
+use Rattle.au_engine.proofs.StageRuns.{adds_relation}
+use Rattle.au_engine.proofs.StageSteps.{one_adds, two_adds}
 
 -- ---- how many kinds there are
 
@@ -53,7 +52,15 @@ group_length keys aggs ks js h =
     let within : keys ≤ length ks = leb-true keys (length ks) s.0 in
     whole ∙ length-append (take keys ks) m.0 ∙ omega (arith, more, length-take keys ks, within)
 
--- ---- over one list of tables
+-- a typed tree has kinds
+some_kinds : (o : Option (List Kind)) → IsTrue (is_some o) → (ks : List Kind) × (o ≡ Some ks)
+some_kinds None h = absurd (true≢false (sym h))
+some_kinds (Some ks) h = (ks, refl)
+
+pub typed_kinds : (kinds : List (List Kind)) (q : Tree) → IsTyped kinds q → (ks : List Kind) × (kinds_of kinds q ≡ Some ks)
+typed_kinds kinds q typed = some_kinds (kinds_of kinds q) typed
+
+-- ---- numbers
 
 -- a plan gives what it gives also where more numbers are to fit
 more_numbers : (tk : List (List Kind)) (tables : List Rows) (p : PlanTree) (ks : List Kind) (rows : Bounded) (ms ns : List ℤ) → (Fit ns → Fit ms) → Gives tk tables p ks rows ms → Gives tk tables p ks rows ns
@@ -68,137 +75,156 @@ difference_fit ms ns cs ss ds f =
     let d = fit_parts ss ds c.1 in
     fit_both (ms ++ cs) (ns ++ (cs ++ ss)) (fit_both ms cs a.0 c.0) (fit_both ns (cs ++ ss) b.0 (fit_both cs ss c.0 d.0))
 
--- the encoded rows of a table
-scanned : (o : Option Bounded) → unwrap_or (option_map encode o) [] ≡ encode (unwrap_or o [])
-scanned None = refl
-scanned (Some rows) = refl
-
-wide_enough : (ks : List Kind) → kinds_if (length (encoded_kinds ks) == 3 * length ks + 3) (encoded_kinds ks) ≡ Some (encoded_kinds ks)
-wide_enough ks = let e = eq-eqb _ _ (coded_long own own own own own own (length ks) ks Int refl) in rw e
-
--- what two facts of a value give together
-pub from_two : {X E : Type 0} (r : Result X E) (P Q R : X → Type 0) → ((x : X) → P x → Q x → R x) → IfOk r P → IfOk r Q → IfOk r R
-from_two (Ok x) P Q R f p q = f x p q
-from_two (Err e) P Q R f p q = tt
-
 -- ---- the plan of each operator
 
-module _ (columns : List ℕ) where
-  pub scan_plan : (i c : ℕ) (p : PlanTree) → slice_get columns i ≡ Some c → p ≡ Scan i (3 * c + 3) → IsPlanOf columns (Table i) p c
-  scan_plan i c p there is kinds ts ks counted ok fits typed =
-      let tk = map encoded_kinds kinds in
-      let tables = map encode ts in
-      let known : slice_get (widths kinds) i ≡ Some (length ks) = slice_get-map (λ js. length js) kinds i ∙ ap (option_map (λ js. length js)) typed in
-      let wide : length ks ≡ c = some_is (length ks) c (sym known ∙ ap (λ cs. slice_get cs i) counted ∙ there) in
-      let found : slice_get tk i ≡ Some (encoded_kinds ks) = slice_get-map encoded_kinds kinds i ∙ ap (option_map encoded_kinds) typed in
-      let same : p ≡ Scan i (3 * length ks + 3) = is ∙ ap (λ n. Scan i (3 * n + 3)) (sym wide) in
-      let gives : Gives tk tables (Scan i (3 * length ks + 3)) ks (bounded (Table i) ts) (numbers (Table i) ts) = record {
-        typed = ap (option_and_then (λ js. kinds_if (length js == 3 * length ks + 3) js)) found ∙ wide_enough ks;
-        relation = table_kinds kinds ts ok i ks typed;
-        encoded = ap (λ o. unwrap_or o []) (slice_get-map encode ts i) ∙ scanned (slice_get ts i);
-        fit = λ f. refl;
-      } in
-      (wide, subst (λ (plan : PlanTree). Gives tk tables plan ks (bounded (Table i) ts) (numbers (Table i) ts)) (sym same) gives)
+module _ (ts : List BlockTable) where
+  abbrev here : List Bounded
+  here = map bounded_table ts
 
-  module _ (q : Tree) (of made : PlanTree) (c d : ℕ) (part : IsPlanOf columns q of c) where
-    pub select_plan : (e : Term) → d ≡ c → Selects c e of made → IsPlanOf columns (Select e q) made d
-    select_plan e wide step kinds ts ks counted ok fits typed =
-        let tk = map encoded_kinds kinds in
-        let tables = map encode ts in
+  abbrev kinds : List (List Kind)
+  kinds = map column_kinds ts
+
+  -- a table
+  pub table_adds : (i : ℕ) (t : BlockTable) (old new : List Rows) (p : PlanTree) (c : ℕ) → slice_get ts i ≡ Some t → AddsTable t old new p c → AddsTree ts (Table i) old new p c
+  table_adds i t old new p c there table ks typed =
+      let kind : column_kinds t ≡ ks = some_is (column_kinds t) ks (sym (slice_get-map column_kinds ts i ∙ ap (option_map column_kinds) there) ∙ typed) in
+      let rows : bounded_table t ≡ bounded (Table i) here = sym (ap (λ o. unwrap_or o []) (slice_get-map bounded_table ts i ∙ ap (option_map bounded_table) there)) in
+      subst (λ js. Adds old new p c js (bounded (Table i) here) (numbers (Table i) here)) kind
+      (subst (λ r. Adds old new p c (column_kinds t) r (numbers (Table i) here)) rows (table (numbers (Table i) here)))
+
+  -- a plan that gives a tree's relation over all its tables can be run
+  pub tree_runs : (q : Tree) (held : List Rows) (p : PlanTree) (c : ℕ) → IsTyped kinds q → AddsTree ts q [] held p c → CanRun held p c
+  tree_runs q held p c typed part = let k = typed_kinds kinds q typed in (k.0, (bounded q here, (numbers q here, part k.0 k.1)))
+
+  -- the same behind other tables
+  pub moved_adds :
+      (q : Tree) (held : List Rows) (p : PlanTree) (c : ℕ) (old new : List Rows) (r : PlanTree) (d : ℕ) → AddsTree ts q [] held p c → Materializes held p c old new r d →
+      AddsTree ts q old new r d
+  moved_adds q held p c old new r d part moves ks e = moves ks (bounded q here) (numbers q here) (part ks e)
+
+  -- what is grouped, and the left side of a difference, is typed
+  pub grouped_typed : (keys : ℕ) (aggs : List Agg) (q : Tree) → IsTyped kinds (Group keys aggs q) → IsTyped kinds q
+  grouped_typed keys aggs q h = before _ (kinds_of kinds q) h
+
+  pub left_typed : (a b : Tree) → IsTyped kinds (Difference a b) → IsTyped kinds a
+  left_typed a b h = before _ (kinds_of kinds a) h
+
+  -- where a number that its own plan gives leaves the range, one of the tree does
+  pub grouped_leaves :
+      (keys : ℕ) (aggs : List Agg) (q : Tree) (held : List Rows) (p : PlanTree) (c : ℕ) → IsTyped kinds q → AddsTree ts q [] held p c → LeavesRange held p c →
+      ¬ (Fit (numbers (Group keys aggs q) here))
+  grouped_leaves keys aggs q held p c typed part leaves f =
+      let k = typed_kinds kinds q typed in
+      leaves k.0 (bounded q here) (numbers q here) (part k.0 k.1)
+      (fit_parts (numbers q here) (group_numbers (take keys) aggs (bounded q here) ++ triple_numbers (bounded (Group keys aggs q) here)) f).0
+
+  pub left_leaves :
+      (a b : Tree) (held : List Rows) (p : PlanTree) (c : ℕ) → IsTyped kinds a → AddsTree ts a [] held p c → LeavesRangeCombined held p c →
+      ¬ (Fit (numbers (Difference a b) here))
+  left_leaves a b held p c typed part leaves f =
+      let k = typed_kinds kinds a typed in
+      let ms = numbers a here in
+      let ns = numbers b here in
+      let cs = triple_numbers (combine (bounded a here)) in
+      let ss = flat_map (difference_sums (bounded b here)) (combine (bounded a here)) in
+      leaves k.0 (bounded a here) ms (part k.0 k.1)
+      (fit_parts (ms ++ cs) (ns ++ (cs ++ ss)) (difference_fit ms ns cs ss (triple_numbers (bounded (Difference a b) here)) f)).0
+
+  module _ (q : Tree) (old new : List Rows) (of made : PlanTree) (c d : ℕ) (part : AddsTree ts q old new of c) where
+    pub select_adds : (e : Term) → d ≡ c → Selects c e of made → AddsTree ts (Select e q) old new made d
+    select_adds e wide step ks typed =
         let p = and_then_is _ (kinds_of kinds q) ks typed in
         let s = chosen_is _ (Some p.0) ks p.2 in
-        let g = part kinds ts p.0 counted ok fits p.1 in
-        let made_gives = step tk tables p.0 (bounded q ts) (numbers q ts) g.0 (is_kind_is Flag (kind_in p.0 e) s.0) g.1 in
-        subst (λ (js : List Kind). (length js ≡ d) × Gives tk tables made js (bounded (Select e q) ts) (numbers (Select e q) ts)) (some_is p.0 ks s.1)
-        (g.0 ∙ sym wide, made_gives)
+        let g = part p.0 p.1 in
+        subst (λ (js : List Kind). Adds old new made d js (bounded (Select e q) here) (numbers (Select e q) here)) (some_is p.0 ks s.1)
+        (one_adds old new of made c d p.0 p.0 (bounded q here) (bounded (Select e q) here) (numbers q here) (numbers (Select e q) here) (g.columns ∙ sym wide)
+        (λ tk tables fits h. step tk tables p.0 (bounded q here) (numbers q here) g.columns (is_kind_is Flag (kind_in p.0 e) s.0) h) g)
 
-    pub project_plan : (items : List Term) → d ≡ length items → Projects c items of made → IsPlanOf columns (Project items q) made d
-    project_plan items wide step kinds ts ks counted ok fits typed =
+    pub project_adds : (items : List Term) → d ≡ length items → Projects c items of made → AddsTree ts (Project items q) old new made d
+    project_adds items wide step ks typed =
         let p = and_then_is _ (kinds_of kinds q) ks typed in
-        let g = part kinds ts p.0 counted ok fits p.1 in (
-          all_length (map (kind_in p.0) items) ks p.2 ∙ length-map items (kind_in p.0) ∙ sym wide,
-          step (map encoded_kinds kinds) (map encode ts) p.0 ks (bounded q ts) (numbers q ts) g.0 p.2 g.1,
-        )
+        let g = part p.0 p.1 in
+        one_adds old new of made c d p.0 ks (bounded q here) (bounded (Project items q) here) (numbers q here) (numbers (Project items q) here)
+        (all_length (map (kind_in p.0) items) ks p.2 ∙ length-map items (kind_in p.0) ∙ sym wide)
+        (λ tk tables fits h. step tk tables p.0 ks (bounded q here) (numbers q here) g.columns p.2 h) g
 
-    pub distinct_plan : d ≡ c → Distincts c of made → IsPlanOf columns (Distinct q) made d
-    distinct_plan wide step kinds ts ks counted ok fits typed =
-        let g = part kinds ts ks counted ok fits typed in
-        (g.0 ∙ sym wide, step (map encoded_kinds kinds) (map encode ts) ks (bounded q ts) (numbers q ts) fits g.0 g.1)
+    pub distinct_adds : d ≡ c → Distincts c of made → AddsTree ts (Distinct q) old new made d
+    distinct_adds wide step ks typed =
+        let g = part ks typed in
+        one_adds old new of made c d ks ks (bounded q here) (bounded (Distinct q) here) (numbers q here) (numbers (Distinct q) here) (g.columns ∙ sym wide)
+        (λ tk tables fits h. step tk tables ks (bounded q here) (numbers q here) fits g.columns h) g
 
-    pub group_plan : (keys : ℕ) (aggs : List Agg) → d ≡ keys + length aggs → Groups c keys aggs of made → IsPlanOf columns (Group keys aggs q) made d
-    group_plan keys aggs wide step kinds ts ks counted ok fits typed =
+    pub group_adds : (keys : ℕ) (aggs : List Agg) → d ≡ keys + length aggs → Groups c keys aggs of made → AddsTree ts (Group keys aggs q) old new made d
+    group_adds keys aggs wide step ks typed =
         let p = and_then_is _ (kinds_of kinds q) ks typed in
-        let g = part kinds ts p.0 counted ok fits p.1 in (
-          group_length keys aggs p.0 ks p.2 ∙ sym wide,
-          step (map encoded_kinds kinds) (map encode ts) p.0 ks (bounded q ts) (numbers q ts) fits g.0 p.2 g.1,
-        )
+        let g = part p.0 p.1 in
+        one_adds old new of made c d p.0 ks (bounded q here) (bounded (Group keys aggs q) here) (numbers q here) (numbers (Group keys aggs q) here)
+        (group_length keys aggs p.0 ks p.2 ∙ sym wide)
+        (λ tk tables fits h. step tk tables p.0 ks (bounded q here) (numbers q here) fits g.columns p.2 h) g
 
-    pub total_plan : (aggs : List Agg) → d ≡ length aggs → Totals c aggs of made → IsPlanOf columns (Total aggs q) made d
-    total_plan aggs wide step kinds ts ks counted ok fits typed =
+    pub total_adds : (aggs : List Agg) → d ≡ length aggs → Totals c aggs of made → AddsTree ts (Total aggs q) old new made d
+    total_adds aggs wide step ks typed =
         let p = and_then_is _ (kinds_of kinds q) ks typed in
-        let g = part kinds ts p.0 counted ok fits p.1 in
-        let s = chosen_is _ (all_kinds (map (agg_kind p.0) aggs)) ks p.2 in (
-          all_length (map (agg_kind p.0) aggs) ks s.1 ∙ length-map aggs (agg_kind p.0) ∙ sym wide,
-          step (map encoded_kinds kinds) (map encode ts) p.0 ks (bounded q ts) (numbers q ts) fits g.0 p.2 g.1,
-        )
+        let g = part p.0 p.1 in
+        let s = chosen_is _ (all_kinds (map (agg_kind p.0) aggs)) ks p.2 in
+        one_adds old new of made c d p.0 ks (bounded q here) (bounded (Total aggs q) here) (numbers q here) (numbers (Total aggs q) here)
+        (all_length (map (agg_kind p.0) aggs) ks s.1 ∙ length-map aggs (agg_kind p.0) ∙ sym wide)
+        (λ tk tables fits h. step tk tables p.0 ks (bounded q here) (numbers q here) fits g.columns p.2 h) g
 
-  module _ (a b : Tree) (left right made : PlanTree) (m n d : ℕ) (of_left : IsPlanOf columns a left m) (of_right : IsPlanOf columns b right n) where
-    pub product_plan : d ≡ m + n → Multiplies m n left right made → IsPlanOf columns (Product a b) made d
-    product_plan wide step kinds ts ks counted ok fits typed =
-        let tk = map encoded_kinds kinds in
-        let tables = map encode ts in
+  module _ (a b : Tree) (old mid new : List Rows) (left right made : PlanTree) (m n d : ℕ) (of_right : AddsTree ts b mid new right n) where
+    pub product_adds : AddsTree ts a old mid left m → d ≡ m + n → Multiplies m n left right made → AddsTree ts (Product a b) old new made d
+    product_adds of_left wide step ks typed =
         let p = and_then_is _ (kinds_of kinds a) ks typed in
         let s = and_then_is _ (kinds_of kinds b) ks p.2 in
-        let g = of_left kinds ts p.0 counted ok fits p.1 in
-        let h = of_right kinds ts s.0 counted ok fits s.1 in
-        let made_gives = step tk tables p.0 s.0 (bounded a ts) (bounded b ts) (numbers a ts) (numbers b ts) g.0 h.0 g.1 h.1 in
-        let long : length (p.0 ++ s.0) ≡ d = length-append p.0 s.0 ∙ omega (arith, g.0, h.0, wide) in
-        subst (λ (js : List Kind). (length js ≡ d) × Gives tk tables made js (bounded (Product a b) ts) (numbers (Product a b) ts)) (some_is (p.0 ++ s.0) ks s.2)
-        (long, made_gives)
+        let g = of_left p.0 p.1 in
+        let h = of_right s.0 s.1 in
+        let long : length (p.0 ++ s.0) ≡ d = length-append p.0 s.0 ∙ omega (arith, g.columns, h.columns, wide) in
+        subst (λ (js : List Kind). Adds old new made d js (bounded (Product a b) here) (numbers (Product a b) here)) (some_is (p.0 ++ s.0) ks s.2)
+        (two_adds left right made p.0 s.0 (p.0 ++ s.0) (bounded a here) (bounded b here) (bounded (Product a b) here) (numbers a here) (numbers b here) (numbers (Product a b) here)
+        (λ tk tables fits l r. step tk tables p.0 s.0 (bounded a here) (bounded b here) (numbers a here) (numbers b here) g.columns h.columns l r)
+        old mid new m d n long g h)
 
-    -- the kinds of two sides of the same kinds
-    module _ (kinds : List (List Kind)) (ts : List Bounded) (ks : List Kind) (counted : widths kinds ≡ columns) (ok : AllZip IsRelation kinds ts) (fits : FitTables (map encode ts)) (typed : kinds_of kinds (Union a b) ≡ Some ks) where
-      abbrev Sides : Type 0
-      Sides =
-          (length ks ≡ m)
-          × Gives (map encoded_kinds kinds) (map encode ts) left ks (bounded a ts) (numbers a ts)
-          × Gives (map encoded_kinds kinds) (map encode ts) right ks (bounded b ts) (numbers b ts)
+    -- both sides of the same kinds
+    module _ (ks : List Kind) (typed : kinds_of kinds (Union a b) ≡ Some ks) where
+      left_kinds : kinds_of kinds a ≡ Some ks
+      left_kinds =
+          let p = and_then_is _ (kinds_of kinds a) ks typed in
+          let s = and_then_is _ (kinds_of kinds b) ks p.2 in
+          p.1 ∙ (chosen_is _ (Some p.0) ks s.2).1
 
-      sides : Sides
-      sides =
-          let tk = map encoded_kinds kinds in
-          let tables = map encode ts in
+      right_kinds : kinds_of kinds b ≡ Some ks
+      right_kinds =
           let p = and_then_is _ (kinds_of kinds a) ks typed in
           let s = and_then_is _ (kinds_of kinds b) ks p.2 in
           let u = chosen_is _ (Some p.0) ks s.2 in
-          let first : p.0 ≡ ks = some_is p.0 ks u.1 in
-          let second : s.0 ≡ ks = sym (same_kinds_is p.0 s.0 u.0) ∙ first in
-          let g = of_left kinds ts p.0 counted ok fits p.1 in
-          let h = of_right kinds ts s.0 counted ok fits s.1 in (
-            ap length (sym first) ∙ g.0,
-            subst (λ (js : List Kind). Gives tk tables left js (bounded a ts) (numbers a ts)) first g.1,
-            subst (λ (js : List Kind). Gives tk tables right js (bounded b ts) (numbers b ts)) second h.1,
-          )
+          s.1 ∙ ap Some (sym (same_kinds_is p.0 s.0 u.0)) ∙ u.1
 
-    pub union_plan : d ≡ m → Unites left right made → IsPlanOf columns (Union a b) made d
-    union_plan wide step kinds ts ks counted ok fits typed =
-        let g = sides kinds ts ks counted ok fits typed in
-        (g.0 ∙ sym wide, step (map encoded_kinds kinds) (map encode ts) ks (bounded a ts) (bounded b ts) (numbers a ts) (numbers b ts) g.1 g.2)
+    pub union_adds : AddsTree ts a old mid left m → d ≡ m → Unites left right made → AddsTree ts (Union a b) old new made d
+    union_adds of_left wide step ks typed =
+        let g = of_left ks (left_kinds ks typed) in
+        let h = of_right ks (right_kinds ks typed) in
+        two_adds left right made ks ks ks (bounded a here) (bounded b here) (bounded (Union a b) here) (numbers a here) (numbers b here) (numbers (Union a b) here)
+        (λ tk tables fits l r. step tk tables ks (bounded a here) (bounded b here) (numbers a here) (numbers b here) l r)
+        old mid new m d n (g.columns ∙ sym wide) g h
 
-    pub difference_plan : (mid : PlanTree) → d ≡ m → Combines m left mid → Subtracts m mid right made → IsPlanOf columns (Difference a b) made d
-    difference_plan mid wide joined step kinds ts ks counted ok fits typed =
-        let tk = map encoded_kinds kinds in
-        let tables = map encode ts in
-        let xs = bounded a ts in
-        let ys = bounded b ts in
-        let ms = numbers a ts in
-        let ns = numbers b ts in
+    -- where the left side's own plan stands over tables of its own, and its combined rows were moved
+    pub difference_adds :
+        (held : List Rows) (of : PlanTree) (c : ℕ) → AddsTree ts a [] held of c → MaterializesCombined held of c old mid left m →
+        d ≡ m → Subtracts m left right made → AddsTree ts (Difference a b) old new made d
+    difference_adds held of c of_left moves wide step ks typed =
+        let xs = bounded a here in
+        let ys = bounded b here in
+        let ms = numbers a here in
+        let ns = numbers b here in
         let cs = triple_numbers (combine xs) in
         let ss = flat_map (difference_sums ys) (combine xs) in
-        let g = sides kinds ts ks counted ok fits typed in
-        let once = joined tk tables ks xs ms g.0 g.1 in
-        let made_gives = step tk tables ks xs ys (ms ++ cs) ns fits g.0 g.1.relation once g.2 in (
-          g.0 ∙ sym wide,
-          more_numbers tk tables made ks (bounded (Difference a b) ts) ((ms ++ cs) ++ (ns ++ (cs ++ ss))) (numbers (Difference a b) ts)
-              (difference_fit ms ns cs ss (triple_numbers (bounded (Difference a b) ts))) made_gives,
-        )
+        let first = of_left ks (left_kinds ks typed) in
+        let g = moves ks xs ms first in
+        let h = of_right ks (right_kinds ks typed) in
+        let relation : IsRelation ks xs = adds_relation held of c ks xs ms first in
+        two_adds left right made ks ks ks (combine xs) ys (bounded (Difference a b) here) (ms ++ cs) ns (numbers (Difference a b) here)
+        (λ tk tables fits l r.
+        more_numbers tk tables made ks (bounded (Difference a b) here) ((ms ++ cs) ++ (ns ++ (cs ++ ss))) (numbers (Difference a b) here)
+        (difference_fit ms ns cs ss (triple_numbers (bounded (Difference a b) here)))
+        (step tk tables ks xs ys (ms ++ cs) ns fits g.columns relation l r))
+        old mid new m d n (g.columns ∙ sym wide) g h

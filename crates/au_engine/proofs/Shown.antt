@@ -1,6 +1,6 @@
 -- The numbers of an answer are those of its tree and of its rows as they are shown, and the rows of a tree whose numbers
 -- fit have triples that fit.
-use Rattle.std.proofs.Common.{◌≡◌, ℕ, suc, length, Bool, true, false, ◌&&◌, not, List, [], ◌∷◌, ◌++◌, map, filter, flat_map, take, refl, sym, ◌∙◌, ap, cond, Some, subst}
+use Rattle.std.proofs.Common.{◌≡◌, ℕ, suc, length, Bool, true, false, ◌&&◌, not, List, [], ◌∷◌, ◌++◌, map, filter, flat_map, take, refl, sym, ◌∙◌, ap, cond, Some, subst, if◌then◌else◌}
 use Rattle.std.specs.Prelude.{ℤ, pos, is_some}
 use Rattle.std.specs.List.{list_all, AllByRecursion, AllZip}
 use Rattle.std.proofs.lemmas.List.{length-map}
@@ -150,6 +150,10 @@ second_false false b e = refl
 
 pub showing_overflows : (combined : Bool) (q : Tree) (ts : List Bounded) → shown_fits combined (bounded q ts) ≡ false → fits combined q ts ≡ false
 showing_overflows combined q ts h = fits_is combined q ts ∙ second_false (fit (numbers q ts)) (shown_fits combined (bounded q ts)) h
+
+pub normal_overflows : (combined : Bool) (q : Tree) (ts : List Bounded) → triples_fit (bounded_answer combined q ts) ≡ false → fits combined q ts ≡ false
+normal_overflows combined q ts h =
+    showing_overflows combined q ts (second_false (triples_fit (if combined then combine (bounded q ts) else bounded q ts)) (triples_fit (bounded_answer combined q ts)) h)
 
 -- ---- what the evaluation is given
 

@@ -1,5 +1,6 @@
 -- The bounded relations of block tables have rows of the columns' kinds.
-use Rattle.std.proofs.Common.{◌≡◌, List, [], ◌∷◌, map, refl, ap, subst, sym}
+use Rattle.std.proofs.Common.{◌≡◌, ◌∙◌, ℕ, ◌<◌, Some, List, [], ◌∷◌, map, length, get_or, slice_get, option_map, refl, ap, subst, sym}
+use Rattle.std.proofs.lemmas.Option.{slice_get-map, slice_get_read}
 use Rattle.std.specs.List.{AllByRecursion, AllZip}
 use Rattle.au_blocks.specs.Tables.{BlockTable, IsBlockTable, column_kinds}
 use Rattle.au_algebra.specs.Bounded.{Bounded}
@@ -20,3 +21,7 @@ are_relations ts rows e h = subst (AllZip IsRelation (map column_kinds ts)) (sym
 pub same_kinds : (ts : List Named) → table_kinds (relations_of ts) ≡ map column_kinds (blocks_of ts)
 same_kinds [] = refl
 same_kinds (t ∷ ts) = ap (λ ks. column_kinds t.1 ∷ ks) (same_kinds ts)
+
+-- the table at a place
+pub table_at : (ts : List Named) (i : ℕ) (t : Named) → i < length ts → t ≡ get_or ts i t → slice_get (blocks_of ts) i ≡ Some t.1
+table_at ts i t within is = slice_get-map (λ b. b.1) ts i ∙ ap (option_map (λ b. b.1)) (slice_get_read ts (length ts) i t refl within is)

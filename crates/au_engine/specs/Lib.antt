@@ -1,3 +1,4 @@
 pub mod Reading
 pub mod Answers
-pub mod Plans
+pub mod Certainty
+pub mod Stages

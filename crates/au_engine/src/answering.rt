@@ -127,7 +127,6 @@ fn typed_answer(
     ensures names { IfOk result (λ a. a.names.items ≡ typed.names.items) }
     ensures kinds { IfOk result (λ a. a.kinds.items ≡ typed.kinds.items) }
     ensures rows { IfOk result (λ a. a.rows ≡ tree_answer options.combine tables.now (tree typed.query)) }
-    ensures tables { OnOk result (AllByRecursion IsBlockTable (blocks_of tables.now)) }
     ensures fits { road ≡ Road.Direct → OnOk result (tree_fits options.combine tables.now (tree typed.query) ≡ true) }
     ensures refused { IfErr result (RowsCause (tree_fits options.combine tables.now (tree typed.query))) }
 {
@@ -142,7 +141,7 @@ fn typed_answer(
     }
 }
 
-// The rows of the answer: the bounded relation of the tree, as it is shown.
+// The rows of the answer, by either road.
 fn answer_rows(
     alloc: Global,
     query: &Query,
@@ -152,36 +151,55 @@ fn answer_rows(
 ) -> Result<Rel<Range, Triple>, EvalFault>
     requires { (ks : List Kind) × (kinds_of (map column_kinds (blocks_of tables.now)) (tree query.now) ≡ Some ks) }
     ensures rows { IfOk result (λ r. r ≡ tree_answer options.combine tables.now (tree query.now)) }
-    ensures tables { OnOk result (AllByRecursion IsBlockTable (blocks_of tables.now)) }
     ensures fits { road ≡ Road.Direct → OnOk result (tree_fits options.combine tables.now (tree query.now) ≡ true) }
     ensures overflow { result ≡ Err EvalFault.Overflow → tree_fits options.combine tables.now (tree query.now) ≡ false }
 {
-    let rows = match evaluated(alloc, query, tables, road) {
+    match road {
+        Road::Plans => planned_rows(alloc, query, tables, options.combine),
+        Road::Direct => direct_rows(alloc, query, tables, options.combine),
+    }
+}
+
+// The rows of the answer by the plans of the tree, in which rows are also combined where that is asked for.
+fn planned_rows(
+    alloc: Global,
+    query: &Query,
+    tables: &[(Word, Table)],
+    combined: bool,
+) -> Result<Rel<Range, Triple>, EvalFault>
+    requires { (ks : List Kind) × (kinds_of (map column_kinds (blocks_of tables.now)) (tree query.now) ≡ Some ks) }
+    ensures rows { IfOk result (λ r. r ≡ tree_answer combined tables.now (tree query.now)) }
+    ensures overflow { result ≡ Err EvalFault.Overflow → tree_fits combined tables.now (tree query.now) ≡ false }
+{
+    let rows = match evaluated_by_plan(alloc, query, tables, combined) {
         Ok(rows) => rows,
         Err(fault) => return Err(fault),
     };
-    match shown(alloc, rows, options.combine) {
+    match normal(alloc, rows) {
         Ok(answer) => Ok(answer),
         Err(fault) => Err(fault),
     }
 }
 
-// The bounded relation of the tree, by either road.
-fn evaluated(
+// The rows of the answer by the generic evaluator: the bounded relation of the tree, as it is shown.
+fn direct_rows(
     alloc: Global,
     query: &Query,
     tables: &[(Word, Table)],
-    road: Road,
+    combined: bool,
 ) -> Result<Rel<Range, Triple>, EvalFault>
     requires { (ks : List Kind) × (kinds_of (map column_kinds (blocks_of tables.now)) (tree query.now) ≡ Some ks) }
-    ensures rows { IfOk result (λ r. r ≡ bounded (tree query.now) (map bounded_table (blocks_of tables.now))) }
-    ensures tables { OnOk result (AllByRecursion IsBlockTable (blocks_of tables.now)) }
-    ensures fits { road ≡ Road.Direct → OnOk result (list_all in_range (numbers (tree query.now) (map bounded_table (blocks_of tables.now))) ≡ true) }
-    ensures overflow { result ≡ Err EvalFault.Overflow → list_all in_range (numbers (tree query.now) (map bounded_table (blocks_of tables.now))) ≡ false }
+    ensures rows { IfOk result (λ r. r ≡ tree_answer combined tables.now (tree query.now)) }
+    ensures fits { OnOk result (tree_fits combined tables.now (tree query.now) ≡ true) }
+    ensures overflow { result ≡ Err EvalFault.Overflow → tree_fits combined tables.now (tree query.now) ≡ false }
 {
-    match road {
-        Road::Plans => evaluated_by_plan(alloc, query, tables),
-        Road::Direct => evaluated_directly(alloc, query, tables),
+    let rows = match evaluated_directly(alloc, query, tables) {
+        Ok(rows) => rows,
+        Err(fault) => return Err(fault),
+    };
+    match shown(alloc, rows, combined) {
+        Ok(answer) => Ok(answer),
+        Err(fault) => Err(fault),
     }
 }
 

@@ -43,6 +43,9 @@ pub enum QueryFault {
     /// The tokens are no statement.
     Syntax(usize),
 
+    /// A statement that should be positive has UNION without ALL, EXCEPT, DISTINCT, GROUP BY, HAVING or an aggregate.
+    NotPositive(usize),
+
     /// No table has the name.
     UnknownTable(usize),
 

@@ -1,9 +1,9 @@
 //! Each operator of a tree as a step of its plan.
 //!
 //! Each step gives `NoMemory` also where a row cannot have so many columns.
-ghost use Rattle.std.specs.Prelude.{◌≡◌, ◌+◌, ◌*◌, IfOk, Some, length, map, slice_get};
+ghost use Rattle.std.specs.Prelude.{◌≡◌, ◌+◌, IfOk, length, map};
 ghost use Rattle.au_expr.specs.Terms.{term};
-ghost use Rattle.au_plain.specs.Plans.{PlanTree, Scan, plan_tree};
+ghost use Rattle.au_plain.specs.Plans.{plan_tree};
 ghost use Rattle.au_rwcore.specs.Gives.{Multiplies, Projects, Selects, Unites};
 ghost use Rattle.au_combine.specs.Gives.{Combines};
 ghost use Rattle.au_rwdiff.specs.Gives.{Subtracts};
@@ -15,7 +15,6 @@ use au_expr::Expr;
 use au_plain::{Layout, Plan};
 use au_rwcore::{product, project, select, union};
 use au_rwdiff::difference;
-use au_rwexpr::width_of;
 use au_rwgroup::{distinct, group, total};
 use au_value::NoMemory;
 use std::alloc::Global;
@@ -25,22 +24,6 @@ use std::alloc::Global;
 pub(crate) struct Planned {
     pub(crate) plan: Plan,
     pub(crate) layout: Layout,
-}
-
-/// The encoded rows of a table, where the tables have so many columns each. `NoMemory` comes also where there is no such
-/// table.
-pub(crate) fn scan(table: usize, columns: &[usize]) -> Result<Planned, NoMemory>
-    ensures columns { IfOk result (λ p. slice_get columns.now table ≡ Some p.layout.columns) }
-    ensures plan { IfOk result (λ p. plan_tree p.plan ≡ Scan table (3 * p.layout.columns + 3)) }
-{
-    let Some(count) = columns.get(table) else {
-        return Err(NoMemory);
-    };
-    let layout = Layout { columns: *count };
-    Ok(Planned {
-        plan: Plan::Scan(table, width_of(&layout)?),
-        layout,
-    })
 }
 
 /// The rows for which a condition is possible.
@@ -92,18 +75,28 @@ pub(crate) fn union_of(alloc: Global, left: Planned, right: Planned) -> Result<P
     })
 }
 
-/// The combined left rows, each less the right rows.
+/// One row for the rows of one list of guesses.
+pub(crate) fn combined_of(alloc: Global, of: Planned) -> Result<Planned, NoMemory>
+    ensures columns { IfOk result (λ p. p.layout.columns ≡ of.layout.columns) }
+    ensures plan { IfOk result (λ p. Combines of.layout.columns (plan_tree of.plan) (plan_tree p.plan)) }
+{
+    Ok(Planned {
+        plan: combine(alloc, of.plan, &of.layout)?,
+        layout: of.layout,
+    })
+}
+
+/// The left rows, which are combined, each less the right rows.
 pub(crate) fn difference_of(
     alloc: Global,
     left: Planned,
     right: Planned,
 ) -> Result<Planned, NoMemory>
     ensures columns { IfOk result (λ p. p.layout.columns ≡ left.layout.columns) }
-    ensures plan { IfOk result (λ p. (m : PlanTree) × Combines left.layout.columns (plan_tree left.plan) m × Subtracts left.layout.columns m (plan_tree right.plan) (plan_tree p.plan)) }
+    ensures plan { IfOk result (λ p. Subtracts left.layout.columns (plan_tree left.plan) (plan_tree right.plan) (plan_tree p.plan)) }
 {
-    let combined = combine(alloc, left.plan, &left.layout)?;
     Ok(Planned {
-        plan: difference(alloc, combined, right.plan, &left.layout)?,
+        plan: difference(alloc, left.plan, right.plan, &left.layout)?,
         layout: left.layout,
     })
 }

@@ -1,34 +1,51 @@
-//! Plans run over lists of plain rows.
+//! Physical plans run over lists of plain rows, batch by batch.
 //!
-//! [`run_list`] gives the rows of a plan in the order of its meaning, with the overflow of its numbers as the only refusal
-//! beside wanting memory. Each operator has a module of its own; groups are found by their hashed key values.
+//! A [`Run`] gives the rows of a plan in the order of its meaning: [`Run::next_batch`] up to 256 at once, and [`Run::all`]
+//! all that are left. The overflow of its numbers is the only refusal beside wanting memory. Operators that work row by
+//! row are worked one after the other on each row, which moves; a join keeps its right rows, and a grouping a state for
+//! each key.
 //!
 //! ```text
-//! let tables = [rows];
-//! let scan = Box::new(alloc, Plan::Scan(0, 2))?;
-//! let plan = Plan::Filter(PExpr::Column(1), scan);
-//! let kept = run_list(alloc, &plan, &tables)?;
+//! let scan = Box::new(alloc, Physical::Scan(0, 2))?;
+//! let plan = Physical::Filter(PExpr::Column(1), scan);
+//! let run = Run::start(alloc, plan, tables)?;
+//! let kept = run.all()?;
 //! // the rows whose second column is true
 //! ```
 //!
 //! It belongs to docs/ARCHITECTURE.md.
 #![tactic(auto)]
 
-mod aggregate;
+mod advance;
+mod batches;
+mod boxed;
+mod chains;
+mod collect;
 mod combine;
 mod evaluation;
-mod extend;
 mod extreme;
-mod filter;
-mod group;
-mod grouping;
+mod fold;
+mod group_node;
+mod groups;
+mod hashing;
+mod inputs;
+mod intervals;
 mod join;
+mod joining;
 mod keep;
 mod key;
-mod list;
+mod matching;
+mod narrow;
+mod node;
+mod open;
+mod operators;
+mod picked;
+mod pull;
+mod right;
 mod rows;
-mod run;
-mod union;
+mod scans;
+mod source;
+mod state;
 mod view;
 
-pub use list::run_list;
+pub use batches::{Batch, Run};

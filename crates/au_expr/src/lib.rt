@@ -21,8 +21,6 @@ mod fault;
 mod number;
 mod plain;
 mod ranges;
-#[cfg(test)]
-mod tests;
 mod theorems;
 mod truth;
 mod view;

@@ -14,7 +14,5 @@
 
 mod draws;
 mod table;
-#[cfg(test)]
-mod tests;
 
 pub use table::table_text;

@@ -19,8 +19,6 @@ mod real_shelf;
 mod real_sink;
 mod shelf;
 mod sink;
-#[cfg(test)]
-mod tests;
 
 pub use mem_shelf::MemShelf;
 pub use mem_sink::MemSink;

@@ -1,8 +1,10 @@
--- The annotations of truths: 1 for true and 0 for false, and a triple of these for whether a condition holds certainly,
--- in the guess and possibly. Valid truths have valid triples, and products of valid triples are valid.
+-- The annotations of truths: 1 for true and 0 for false, twice in a pair, and a triple of these for whether a condition
+-- holds certainly, in the guess and possibly. Valid truths have valid annotations, and products of these are valid.
 use Rattle.std.specs.Prelude.{◌≡◌, ℕ, ◌≤◌, Bool, true, false, refl}
 use Rattle.std.proofs.Common.{zero-le, le_refl, mul-le-mul, sym}
 use Rattle.std.proofs.lemmas.Bool.{true≢false}
+use Rattle.au_annot.specs.Pairs as pairs
+use Rattle.au_annot.specs.Pairs.{PairCounts, pair_of, IsPair}
 use Rattle.au_annot.specs.Triples.{Counts, counts, times, IsTriple}
 use Rattle.au_expr.specs.Truths.{IsAnyBool, IsThreeWay}
 use Rattle.au_expr.specs.declared.truth.ThreeWay.{ThreeWay}
@@ -11,6 +13,10 @@ use Rattle.au_expr.specs.declared.truth.ThreeWay.{ThreeWay}
 abbrev pub count_of : Bool → ℕ
 count_of true = 1
 count_of false = 0
+
+-- the same in every world and in the guess world
+abbrev pub twice_of : Bool → PairCounts
+twice_of t = pair_of (count_of t) (count_of t)
 
 -- the same of each of the three
 abbrev pub triple_of : ThreeWay → Counts
@@ -21,6 +27,12 @@ counts_valid t ok = tt
 
 pub counts_times : (m n : ℕ) → Unit {0} → Unit {0} → Unit {0}
 counts_times m n p q = tt
+
+pub pairs_valid : (t : Bool) → IsAnyBool t → IsPair (twice_of t)
+pairs_valid t ok = record { certain_guess = le_refl (count_of t) }
+
+pub pairs_times : (s t : PairCounts) → IsPair s → IsPair t → IsPair (pairs.times s t)
+pairs_times s t p q = record { certain_guess = mul-le-mul p.certain_guess q.certain_guess }
 
 rising : (p q : Bool) → (p ≡ true → q ≡ true) → count_of p ≤ count_of q
 rising true true h = le_refl 1

@@ -1,9 +1,10 @@
 //! Queries of the four positive operators, over any domain of cells and any annotation.
 //!
 //! [`positive`] gives the rows of a tree of Table, Select, Project, Product and Union (Green, Karvounarakis, Tannen, PODS
-//! 2007). [`Weigh`] gives the annotation of a condition's truth: counts weigh conditions on values, triples conditions on
-//! ranges. [`Carry`] is a map between two such settings, and [`hom`] the law that it commutes with the evaluation;
-//! [`Guessing`] takes the guesses of ranges and triples. The meaning of each operator is in docs/SEMANTICS.md.
+//! 2007). [`Weigh`] gives the annotation of a condition's truth: counts and pairs weigh conditions on values, triples
+//! conditions on ranges. [`Carry`] is a map between two such settings, and [`hom`] the law that it commutes with the
+//! evaluation; [`Guessing`] takes the guesses of ranges and triples. The meaning of each operator is in
+//! docs/SEMANTICS.md.
 //!
 //! ```text
 //! let join = Query::Product(Box::new(alloc, Query::Table(0))?, Box::new(alloc, Query::Table(1))?);
@@ -22,8 +23,6 @@ mod project;
 mod row;
 mod rows;
 mod select;
-#[cfg(test)]
-mod tests;
 mod theorems;
 mod union;
 mod weigh;

@@ -1,8 +1,8 @@
 //! The annotations of conditions.
 ghost use Rattle.std.specs.Prelude.{◌≡◌};
-ghost use Rattle.au_keval.specs.Weights.{count_of, triple_of, counts_valid, counts_times, triples_valid, triples_times};
+ghost use Rattle.au_keval.specs.Weights.{count_of, twice_of, triple_of, counts_valid, counts_times, pairs_valid, pairs_times, triples_valid, triples_times};
 
-use au_annot::{Annot, Count, Triple};
+use au_annot::{Annot, Count, Pair, Triple};
 use au_expr::{Domain, PlainDomain, RangeDomain, ThreeWay};
 
 /// Annotations that weigh the conditions of a domain: a row's annotation is multiplied by its condition's.
@@ -33,6 +33,19 @@ impl Weigh<PlainDomain> for Count {
     ghost weight_valid = { counts_valid };
 
     ghost times_valid = { counts_times };
+}
+
+/// 1 in every world and in the guess world where the condition holds, else 0 in both.
+impl Weigh<PlainDomain> for Pair {
+    ghost weight = { twice_of };
+
+    fn weight(truth: &bool) -> Pair {
+        if *truth { Pair::one() } else { Pair::zero() }
+    }
+
+    ghost weight_valid = { pairs_valid };
+
+    ghost times_valid = { pairs_times };
 }
 
 /// 1 or 0 for whether the condition holds certainly, in the guess and possibly.

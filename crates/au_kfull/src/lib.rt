@@ -31,8 +31,6 @@ mod meeting;
 mod output;
 mod positives;
 mod sums;
-#[cfg(test)]
-mod tests;
 mod totals;
 mod tuple;
 mod values;

@@ -2,6 +2,7 @@
 ghost use Rattle.std.specs.Prelude.{◌≡◌, ◌+◌, ◌<◌, ◌≤◌, ◌==◌, ◌^◌, ◌⊎◌, ◌∷◌, [], true, false, length, Some, None, take, Ok, Err, IfOk, IfErr, IfSome, drop, slice_index, option_map};
 ghost use Rattle.std.specs.List.{list_all};
 ghost use Rattle.std.specs.Char.{is_ascii_digit};
+ghost use Rattle.std.specs.Option.{option_or};
 ghost use Rattle.std.specs.Str.{IsUtf8, str_eq_ignore_ascii_case};
 ghost use Rattle.au_lex.specs.Fronts.{quoted_front, behind_unit, number_within, symbol_front};
 ghost use Rattle.au_lex.specs.Lexemes.{begins_name, begins_run, entry_of, keywords, symbol_named};
@@ -29,9 +30,9 @@ fn is_word(text: &[u8], word: &[u8]) -> bool
     word.eq_ignore_ascii_case(text)
 }
 
-// The reserved word that a text is.
-fn keyword(text: &[u8]) -> Option<Keyword>
-    ensures { result ≡ entry_of keywords text.now }
+// The reserved word that a text is, of the first seven.
+fn select_word(text: &[u8]) -> Option<Keyword>
+    ensures { entry_of keywords text.now ≡ option_or result (entry_of (drop 7 keywords) text.now) }
 {
     if is_word(text, b"SELECT") {
         Some(Keyword::Select)
@@ -47,7 +48,16 @@ fn keyword(text: &[u8]) -> Option<Keyword>
         Some(Keyword::Group)
     } else if is_word(text, b"BY") {
         Some(Keyword::By)
-    } else if is_word(text, b"HAVING") {
+    } else {
+        None
+    }
+}
+
+// The reserved word that a text is, of the next seven.
+fn joining_word(text: &[u8]) -> Option<Keyword>
+    ensures { entry_of (drop 7 keywords) text.now ≡ option_or result (entry_of (drop 14 keywords) text.now) }
+{
+    if is_word(text, b"HAVING") {
         Some(Keyword::Having)
     } else if is_word(text, b"UNION") {
         Some(Keyword::Union)
@@ -61,7 +71,16 @@ fn keyword(text: &[u8]) -> Option<Keyword>
         Some(Keyword::Or)
     } else if is_word(text, b"NOT") {
         Some(Keyword::Not)
-    } else if is_word(text, b"CASE") {
+    } else {
+        None
+    }
+}
+
+// The reserved word that a text is, of the last seven.
+fn case_word(text: &[u8]) -> Option<Keyword>
+    ensures { result ≡ entry_of (drop 14 keywords) text.now }
+{
+    if is_word(text, b"CASE") {
         Some(Keyword::Case)
     } else if is_word(text, b"WHEN") {
         Some(Keyword::When)
@@ -77,6 +96,19 @@ fn keyword(text: &[u8]) -> Option<Keyword>
         Some(Keyword::False)
     } else {
         None
+    }
+}
+
+// The reserved word that a text is.
+fn keyword(text: &[u8]) -> Option<Keyword>
+    ensures { result ≡ entry_of keywords text.now }
+{
+    match select_word(text) {
+        Some(key) => Some(key),
+        None => match joining_word(text) {
+            Some(key) => Some(key),
+            None => case_word(text),
+        },
     }
 }
 

@@ -120,6 +120,3 @@ pub enum ParseFault {
     /// Memory was wanting.
     NoMemory,
 }
-
-#[cfg(test)]
-mod tests;

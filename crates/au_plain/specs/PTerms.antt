@@ -32,6 +32,13 @@ mutual
     nil : PTerms
     cons : PTerm → PTerms → PTerms
 
+-- the least and the greatest of two
+abbrev pub least_of_two : PTerm → PTerm → PTerm
+least_of_two a b = Least (cons a (cons b nil))
+
+abbrev pub greatest_of_two : PTerm → PTerm → PTerm
+greatest_of_two a b = Greatest (cons a (cons b nil))
+
 -- the term of an expression
 abbrev mutual
   pub pterm : PExpr → PTerm

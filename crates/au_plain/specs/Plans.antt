@@ -1,6 +1,6 @@
 -- Plans without where they lie in memory,
 -- and the tree of a plan.
-use Rattle.std.specs.Prelude.{ℕ, List, map}
+use Rattle.std.specs.Prelude.{ℕ, List, [], ◌∷◌, map}
 use Rattle.au_value.specs.declared.value.Value.{Value}
 use Rattle.au_plain.specs.declared.plan.PAgg.{PAgg}
 use Rattle.au_plain.specs.declared.plan.Plan.{Plan}
@@ -27,3 +27,8 @@ plan_tree (code.Filter' e p q) = Filter (pterm e) (plan_tree q)
 plan_tree (code.Join' e p a q b) = Join (pterm e) (plan_tree a) (plan_tree b)
 plan_tree (code.Union' p a q b) = Union (plan_tree a) (plan_tree b)
 plan_tree (code.Group' keys aggs p q) = Group keys.items aggs.items (plan_tree q)
+
+-- the plan with columns added, one after the other
+abbrev pub extend_all : List PTerm → PlanTree → PlanTree
+extend_all [] p = p
+extend_all (e ∷ es) p = extend_all es (Extend e p)

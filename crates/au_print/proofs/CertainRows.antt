@@ -87,7 +87,8 @@ module _ {A B : Type 0} (g : A → B) (p : B → Bool) (q : A → Bool) (same : 
   filter_mapped (x ∷ xs) =
       (λ i. cond (same x i) (g x ∷ filter_mapped xs i) (filter_mapped xs i)) ∙ sym (map_if g (q x) x (filter q xs))
 
-distinct_ranges : (rows : Rows) → distinct same_ranges (map ranges rows) ≡ map ranges (distinct same_row rows)
+-- the distinct ranges of single values
+pub distinct_ranges : (rows : Rows) → distinct same_ranges (map ranges rows) ≡ map ranges (distinct same_row rows)
 distinct_ranges [] = refl
 distinct_ranges (v ∷ rows) =
     ap (λ ks. ranges v ∷ ks)

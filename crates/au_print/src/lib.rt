@@ -24,12 +24,10 @@ mod page;
 mod table_form;
 mod value_order;
 mod widths;
+pub mod writing;
 
 pub use answer::Answer;
 pub use csv_form::csv_text;
 pub use demo_form::demo_text;
 pub use guess_form::guess_text;
 pub use table_form::table_text;
-
-#[cfg(test)]
-mod tests;

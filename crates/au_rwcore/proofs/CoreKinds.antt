@@ -10,10 +10,10 @@ use Rattle.au_expr.specs.Kinds.{kind_in, is_kind}
 use Rattle.au_algebra.specs.Typing.{items_kinds, all_kinds, kinds_if, same_kinds}
 use Rattle.au_algebra.proofs.Items.{and_then_is, some_is}
 use Rattle.au_plain.specs.PTerms.{Case, Literal, Multiply}
-use Rattle.au_plain.specs.Plans.{PlanTree, Join, Filter}
+use Rattle.au_plain.specs.Plans.{PlanTree, Join, Filter, extend_all}
 use Rattle.au_plain.specs.PlanKinds.{plan_kinds, plain_kind}
 use Rattle.au_encode.specs.Encode.{encoded_kinds}
-use Rattle.au_rwexpr.specs.Flatten.{before, flatten, extend_all, lo, sg, hi, three, flatten_items, item_places}
+use Rattle.au_rwexpr.specs.Flatten.{before, flatten, lo, sg, hi, three, flatten_items, item_places}
 use Rattle.au_rwexpr.specs.Cells.{cell_places, three_places}
 use Rattle.au_rwexpr.specs.Counts.{zero_term}
 use Rattle.au_rwcore.specs.Core.{select, project, product, union}

@@ -19,13 +19,13 @@ use Rattle.au_algebra.specs.Bounded.{RangeRow, Bounded}
 use Rattle.au_algebra.specs.Fits.{triple_numbers}
 use Rattle.au_algebra.specs.Laws.{IsRangeRow, IsRelation}
 use Rattle.au_plain.specs.PTerms.{Case}
-use Rattle.au_plain.specs.Plans.{PlanTree, Filter}
+use Rattle.au_plain.specs.Plans.{PlanTree, Filter, extend_all}
 use Rattle.au_plain.specs.Meaning.{plain_rows, passes}
 use Rattle.au_plain.specs.PlanNumbers.{plan_numbers, term_numbers}
 use Rattle.au_encode.specs.Encode.{encode_row}
 use Rattle.au_rwexpr.specs.Adding.{grow_numbers}
 use Rattle.au_rwexpr.specs.Counts.{zero_term}
-use Rattle.au_rwexpr.specs.Flatten.{before, flatten, extend_all, lo, sg, hi}
+use Rattle.au_rwexpr.specs.Flatten.{before, flatten, lo, sg, hi}
 use Rattle.au_rwcore.specs.Core.{select}
 use Rattle.au_rwexpr.proofs.Careful.{careful, Fits, all_careful, careful_grow, chosen_fits, column_fits}
 use Rattle.au_rwexpr.proofs.Coded.{cl, cg}

@@ -19,11 +19,11 @@ use Rattle.au_algebra.specs.Bounded as bounded
 use Rattle.au_algebra.specs.Bounded.{RangeRow, Bounded, present, weight, truth}
 use Rattle.au_algebra.specs.Laws.{IsRangeRow, IsRelation}
 use Rattle.au_plain.specs.PTerms.{PTerm, plain_value}
-use Rattle.au_plain.specs.Plans.{PlanTree, Filter}
+use Rattle.au_plain.specs.Plans.{PlanTree, Filter, extend_all}
 use Rattle.au_plain.specs.Meaning.{plain_rows, kept, passes}
 use Rattle.au_encode.specs.Encode.{encode_row, encode_cells}
 use Rattle.au_encode.proofs.Decoded.{cells_length}
-use Rattle.au_rwexpr.specs.Flatten.{before, flatten, extend_all, hi}
+use Rattle.au_rwexpr.specs.Flatten.{before, flatten, hi}
 use Rattle.au_rwexpr.specs.Adding.{grow}
 use Rattle.au_rwexpr.specs.Cells.{cell_places}
 use Rattle.au_rwcore.specs.Core.{select, weighed}

@@ -3,11 +3,11 @@ use Rattle.std.specs.Prelude.{ℕ, ◌+◌, ◌*◌, true, List, [], ◌∷◌, 
 use Rattle.au_value.specs.declared.value.Value.TheVariants.{Flag}
 use Rattle.au_expr.specs.Terms.{Term}
 use Rattle.au_plain.specs.PTerms.{PTerm, Literal, Multiply, Case}
-use Rattle.au_plain.specs.Plans.{PlanTree, Keep, Filter, Join}
+use Rattle.au_plain.specs.Plans.{PlanTree, Keep, Filter, Join, extend_all}
 use Rattle.au_plain.specs.Plans as plan
 use Rattle.au_rwexpr.specs.Cells.{three_places, cell_places}
 use Rattle.au_rwexpr.specs.Counts.{zero_term}
-use Rattle.au_rwexpr.specs.Flatten.{lo, sg, hi, three, before, flatten, flatten_items, item_places, extend_all}
+use Rattle.au_rwexpr.specs.Flatten.{lo, sg, hi, three, before, flatten, flatten_items, item_places}
 
 -- least where the test at `i` certainly holds, and guess where it holds in the guess world, of the triple at `t`; else 0
 abbrev pub weighed : ℕ → ℕ → List PTerm

@@ -4,13 +4,14 @@ ghost use Rattle.au_expr.specs.Terms.{term};
 ghost use Rattle.au_plain.specs.PTerms.{pterm};
 ghost use Rattle.au_plain.specs.Plans.{plan_tree};
 ghost use Rattle.au_plain.specs.PlanNumbers.{scans};
+ghost use Rattle.au_rwexpr.specs.Cells.{three_places};
 ghost use Rattle.au_rwexpr.specs.Flatten.{flatten_items, item_places};
 ghost use Rattle.au_rwcore.specs.Core.{project as projected};
 ghost use Rattle.au_rwcore.specs.Gives.{Projects};
 
 use au_expr::Expr;
-use au_plain::{Layout, PExpr, Plan};
-use au_rwexpr::{RangeColumns, extend_all, keep, push_columns, push_three, width_of};
+use au_plain::{Layout, PExpr, Plan, beside, extend_all, keep};
+use au_rwexpr::{RangeColumns, push_columns, push_three, width_of};
 use au_value::NoMemory;
 use std::alloc::Global;
 
@@ -31,13 +32,27 @@ pub fn project(alloc: Global, of: Plan, items: &[Expr], layout: &Layout) -> Resu
 fn project_plan(alloc: Global, of: Plan, items: &[Expr], layout: &Layout) -> Result<Plan, NoMemory>
     ensures { IfOk result (λ p. plan_tree p ≡ projected layout.now.columns (map term items.now) (plan_tree of)) }
 {
+    let ((columns, places), of) = beside(item_steps(alloc, items, layout), of)?;
+    let (wide, places) = beside(extend_all(alloc, columns, of), places)?;
+    keep(alloc, places, wide)
+}
+
+// The columns of the items, and the places of their own three and of the triple.
+fn item_steps(
+    alloc: Global,
+    items: &[Expr],
+    layout: &Layout,
+) -> Result<(Vec<PExpr>, Vec<usize>), NoMemory>
+    ensures columns { IfOk result (λ r. map pterm r.0.items ≡ flatten_items (3 * layout.now.columns + 3) (map term items.now)) }
+    ensures places { IfOk result (λ r. r.1.items ≡ item_places (3 * layout.now.columns + 3) (map term items.now) ++ three_places (3 * layout.now.columns)) }
+{
     let width = width_of(layout)?;
     let triple = RangeColumns::at(width - 3)?;
     let mut columns = Vec::new(alloc);
     let mut places = Vec::new(alloc);
     push_items(alloc, items, width, &mut columns, &mut places)?;
     push_three(&mut places, triple)?;
-    keep(alloc, places, extend_all(alloc, columns, of)?)
+    Ok((columns, places))
 }
 
 // Adds the columns of each item to those of a row of so many, and the places of its own three.

@@ -1,21 +1,18 @@
 //! Select as a plan.
-ghost use Rattle.std.specs.Prelude.{◌≡◌, ◌≤◌, ◌+◌, ◌*◌, ◌++◌, ◌∷◌, [], IfOk};
+ghost use Rattle.std.specs.Prelude.{◌≡◌, ◌≤◌, ◌+◌, ◌*◌, ◌++◌, ◌∷◌, [], IfOk, map};
 ghost use Rattle.au_expr.specs.Terms.{term};
 ghost use Rattle.au_plain.specs.PTerms.{pterm};
-ghost use Rattle.au_plain.specs.Plans.{plan_tree};
+ghost use Rattle.au_plain.specs.Plans.{plan_tree, extend_all as extended};
 ghost use Rattle.au_plain.specs.PlanNumbers.{scans};
 ghost use Rattle.au_rwexpr.specs.Cells.{cell_places};
 ghost use Rattle.au_rwexpr.specs.Counts.{zero_term};
-ghost use Rattle.au_rwexpr.specs.Flatten.{extend_all as extended};
+ghost use Rattle.au_rwexpr.specs.Flatten.{before, flatten};
 ghost use Rattle.au_rwcore.specs.Core.{select as selected, weighed};
 ghost use Rattle.au_rwcore.specs.Gives.{Selects};
 
 use au_expr::Expr;
-use au_plain::{Layout, PExpr, Plan};
-use au_rwexpr::{
-    RangeColumns, behind, case, extend, extend_all, filter, keep, push_cells, push_columns,
-    width_of,
-};
+use au_plain::{Layout, PExpr, Plan, beside, both, case, extend, extend_all, filter, keep};
+use au_rwexpr::{RangeColumns, behind, push_cells, push_columns, width_of};
 use au_value::{NoMemory, Value};
 use std::alloc::Global;
 
@@ -36,13 +33,41 @@ pub fn select(alloc: Global, of: Plan, condition: &Expr, layout: &Layout) -> Res
 fn select_plan(alloc: Global, of: Plan, condition: &Expr, layout: &Layout) -> Result<Plan, NoMemory>
     ensures { IfOk result (λ p. plan_tree p ≡ selected layout.now.columns (term condition.now) (plan_tree of)) }
 {
+    let (steps, of) = beside(condition_steps(alloc, condition, layout), of)?;
+    let wide = extend_all(alloc, steps.columns, of)?;
+    let possible = filter(alloc, steps.test.hi(), wide)?;
+    let weighed = weigh(alloc, steps.test, steps.triple, possible);
+    let places = select_places(alloc, layout.columns, steps.test, steps.triple);
+    let (places, weighed) = both(places, weighed)?;
+    keep(alloc, places, weighed)
+}
+
+// The columns of a condition, the place of its own three, and that of the triple.
+#[derive(Drop)]
+struct ConditionSteps {
+    columns: Vec<PExpr>,
+    test: RangeColumns,
+    triple: RangeColumns,
+}
+
+fn condition_steps(
+    alloc: Global,
+    condition: &Expr,
+    layout: &Layout,
+) -> Result<ConditionSteps, NoMemory>
+    ensures columns { IfOk result (λ s. map pterm s.columns.items ≡ flatten (3 * layout.now.columns + 3) (term condition.now)) }
+    ensures test { IfOk result (λ s. s.test.first ≡ 3 * layout.now.columns + 3 + before (term condition.now)) }
+    ensures triple { IfOk result (λ s. s.triple.first ≡ 3 * layout.now.columns) }
+{
     let width = width_of(layout)?;
+    let triple = RangeColumns::at(width - 3)?;
     let mut columns = Vec::new(alloc);
     let test = push_columns(alloc, condition, width, &mut columns)?;
-    let triple = RangeColumns::at(width - 3)?;
-    let possible = filter(alloc, test.hi(), extend_all(alloc, columns, of)?)?;
-    let places = select_places(alloc, layout.columns, behind(test)?, triple)?;
-    keep(alloc, places, weigh(alloc, test, triple, possible)?)
+    Ok(ConditionSteps {
+        columns,
+        test,
+        triple,
+    })
 }
 
 // The plan with least and guess behind its columns, each where the test holds and else 0.
@@ -54,9 +79,10 @@ fn weigh(
 ) -> Result<Plan, NoMemory>
     ensures { IfOk result (λ p. plan_tree p ≡ extended (weighed test.first triple.first) (plan_tree of)) }
 {
-    let least = case(alloc, test.lo(), triple.lo(), zero())?;
-    let guess = case(alloc, test.sg(), triple.sg(), zero())?;
-    extend(alloc, guess, extend(alloc, least, of)?)
+    let (least, of) = beside(case(alloc, test.lo(), triple.lo(), zero()), of)?;
+    let of = extend(alloc, least, of)?;
+    let (guess, of) = beside(case(alloc, test.sg(), triple.sg(), zero()), of)?;
+    extend(alloc, guess, of)
 }
 
 fn zero() -> PExpr
@@ -69,12 +95,13 @@ fn zero() -> PExpr
 fn select_places(
     alloc: Global,
     columns: usize,
-    new: RangeColumns,
+    test: RangeColumns,
     triple: RangeColumns,
 ) -> Result<Vec<usize>, NoMemory>
     requires { triple.first ≡ 3 * columns }
-    ensures { IfOk result (λ places. places.items ≡ cell_places 0 columns ++ (new.first ∷ (new.first + 1) ∷ (triple.first + 2) ∷ [])) }
+    ensures { IfOk result (λ places. places.items ≡ cell_places 0 columns ++ ((test.first + 3) ∷ (test.first + 3 + 1) ∷ (triple.first + 2) ∷ [])) }
 {
+    let new = behind(test)?;
     let mut places = Vec::new(alloc);
     push_cells(&mut places, 0, columns)?;
     places.push(new.first)?;

@@ -5,8 +5,7 @@ ghost use Rattle.au_plain.specs.PlanNumbers.{scans};
 ghost use Rattle.au_rwcore.specs.Core.{union as united};
 ghost use Rattle.au_rwcore.specs.Gives.{Unites};
 
-use au_plain::Plan;
-use au_rwexpr::union as both;
+use au_plain::{Plan, union as both};
 use au_value::NoMemory;
 use std::alloc::Global;
 

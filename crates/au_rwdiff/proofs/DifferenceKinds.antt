@@ -9,12 +9,12 @@ use Rattle.au_algebra.specs.Typing.{all_kinds, kinds_if, same_kinds}
 use Rattle.au_plain.specs.declared.plan.PAgg.{PAgg}
 use Rattle.au_plain.specs.declared.plan.PAgg.TheVariants.{Sum}
 use Rattle.au_plain.specs.PTerms.{Subtract}
-use Rattle.au_plain.specs.Plans.{PlanTree, Filter, Join, Union}
+use Rattle.au_plain.specs.Plans.{PlanTree, Filter, Join, Union, extend_all}
 use Rattle.au_plain.specs.PlanKinds.{plan_kinds, plain_kind, plain_agg_kind, kept_kinds}
 use Rattle.au_encode.specs.Encode.{encoded_kinds, triple_kinds}
 use Rattle.au_rwexpr.specs.Cells.{cell_places, run, three_places}
 use Rattle.au_rwexpr.specs.Counts.{zero_term, positive}
-use Rattle.au_rwexpr.specs.Flatten.{lo, sg, hi, extend_all}
+use Rattle.au_rwexpr.specs.Flatten.{lo, sg, hi}
 use Rattle.au_rwexpr.specs.Meets.{meets, same_guesses, surely_equal}
 use Rattle.au_rwexpr.proofs.Coded.{own}
 use Rattle.au_rwexpr.proofs.Columns.{adds, means_now}

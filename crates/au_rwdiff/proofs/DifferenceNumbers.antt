@@ -17,8 +17,8 @@ use Rattle.au_algebra.specs.Laws.{IsRangeRow, IsRelation}
 use Rattle.au_algebra.specs.Ordinary.{Rows}
 use Rattle.au_algebra.proofs.Each.{all_append, all_filter}
 use Rattle.au_plain.specs.declared.expr.Comparison2.TheVariants.{Less}
-use Rattle.au_plain.specs.PTerms.{PTerm, Column, Subtract, value_at}
-use Rattle.au_plain.specs.Plans.{PlanTree, Join, Union}
+use Rattle.au_plain.specs.PTerms.{PTerm, Column, Subtract, value_at, greatest_of_two}
+use Rattle.au_plain.specs.Plans.{PlanTree, Join, Union, extend_all}
 use Rattle.au_plain.specs.Meaning.{plain_rows}
 use Rattle.au_plain.specs.PlanNumbers.{plan_numbers, term_numbers, magnitudes, group_numbers}
 use Rattle.au_encode.specs.Encode.{encode, encode_row, encode_counts}
@@ -26,7 +26,7 @@ use Rattle.au_encode.proofs.HeldCells.{FitRow, AllFitRows}
 use Rattle.au_rwexpr.specs.Adding.{grow_numbers}
 use Rattle.au_rwexpr.specs.Cells.{run}
 use Rattle.au_rwexpr.specs.Counts.{zero_term, positive}
-use Rattle.au_rwexpr.specs.Flatten.{lo, sg, hi, greatest_of_two, extend_all}
+use Rattle.au_rwexpr.specs.Flatten.{lo, sg, hi}
 use Rattle.au_rwexpr.specs.Meets.{meets, same_guesses, surely_equal}
 use Rattle.au_rwexpr.proofs.Allowed.{fits_now, all_of, all_both, lower_fits}
 use Rattle.au_rwexpr.proofs.Careful.{careful, Fits, all_careful, careful_grow, case_fits, column_fits, subtract_fits, greatest_fits, compare_fits}

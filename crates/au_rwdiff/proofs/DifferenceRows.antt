@@ -17,13 +17,13 @@ use Rattle.au_algebra.specs.Laws.{IsRangeRow, IsRelation}
 use Rattle.au_algebra.proofs.Each.{all_append, all_filter}
 use Rattle.au_plain.specs.declared.plan.PAgg.{PAgg}
 use Rattle.au_plain.specs.declared.plan.PAgg.TheVariants.{Sum}
-use Rattle.au_plain.specs.Plans.{PlanTree, Join}
+use Rattle.au_plain.specs.Plans.{PlanTree, Join, extend_all}
 use Rattle.au_plain.specs.Meaning.{plain_rows, kept, passes, plain_aggregate, plain_group}
 use Rattle.au_encode.specs.Encode.{encode_row, encode_counts}
 use Rattle.au_rwexpr.specs.Adding.{grow}
 use Rattle.au_rwexpr.specs.Cells.{cell_places, run, three_places}
 use Rattle.au_rwexpr.specs.Counts.{positive}
-use Rattle.au_rwexpr.specs.Flatten.{hi, extend_all}
+use Rattle.au_rwexpr.specs.Flatten.{hi}
 use Rattle.au_rwexpr.specs.Meets.{meets}
 use Rattle.au_rwexpr.proofs.Coded.{rl, rs, rh, cl, cg, cm}
 use Rattle.au_rwexpr.proofs.Columns.{AllMean, adds}

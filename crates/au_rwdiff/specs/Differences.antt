@@ -2,11 +2,11 @@
 -- beside three zeros, so that no left row is lost.
 use Rattle.std.specs.Prelude.{ℕ, ◌+◌, ◌*◌, List, [], ◌∷◌, ◌++◌}
 use Rattle.au_plain.specs.declared.plan.PAgg.TheVariants.{Sum}
-use Rattle.au_plain.specs.PTerms.{PTerm, Subtract, Case}
-use Rattle.au_plain.specs.Plans.{PlanTree, Keep, Filter, Join, Union, Group}
+use Rattle.au_plain.specs.PTerms.{PTerm, Subtract, Case, greatest_of_two}
+use Rattle.au_plain.specs.Plans.{PlanTree, Keep, Filter, Join, Union, Group, extend_all}
 use Rattle.au_rwexpr.specs.Cells.{cell_places, three_places, run}
 use Rattle.au_rwexpr.specs.Counts.{zero_term, positive}
-use Rattle.au_rwexpr.specs.Flatten.{lo, sg, hi, three, greatest_of_two, extend_all}
+use Rattle.au_rwexpr.specs.Flatten.{lo, sg, hi, three}
 use Rattle.au_rwexpr.specs.Meets.{meets, same_guesses, surely_equal}
 
 -- nothing, three times

@@ -1,15 +1,12 @@
 //! The columns of Difference: what is taken from a row, and what is left.
 ghost use Rattle.std.specs.Prelude.{◌≡◌, IfOk, map, ◌∷◌, []};
-ghost use Rattle.au_plain.specs.PTerms.{pterm};
+ghost use Rattle.au_plain.specs.PTerms.{pterm, greatest_of_two as greatest};
 ghost use Rattle.au_rwexpr.specs.Counts.{positive as is_positive, zero_term};
-ghost use Rattle.au_rwexpr.specs.Flatten.{greatest_of_two as greatest};
 ghost use Rattle.au_plain.specs.PTerms as term;
 ghost use Rattle.au_rwdiff.specs.Differences as columns;
 
-use au_plain::{Comparison2, PExpr};
-use au_rwexpr::{
-    RangeColumns, case, compare, greatest_of_two, same_guesses, subtract, surely_equal,
-};
+use au_plain::{Comparison2, PExpr, case, compare, greatest_of_two, subtract};
+use au_rwexpr::{RangeColumns, same_guesses, surely_equal};
 use au_value::{NoMemory, Value};
 use std::alloc::Global;
 

@@ -9,11 +9,8 @@ ghost use Rattle.au_rwdiff.specs.Gives.{Subtracts};
 
 use crate::columns::{left_columns, no_columns, positive, taken_columns};
 use au_combine::{group, push_run, triple_sums};
-use au_plain::{Layout, Plan};
-use au_rwexpr::{
-    RangeColumns, behind, copy_plan, extend_all, filter, join, keep, meets, push_cells, push_three,
-    union, width_of,
-};
+use au_plain::{Layout, Plan, copy_plan, extend_all, filter, join, keep, union};
+use au_rwexpr::{RangeColumns, behind, meets, push_cells, push_three, width_of};
 use au_value::NoMemory;
 use std::alloc::Global;
 

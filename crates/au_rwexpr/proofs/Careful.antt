@@ -12,10 +12,9 @@ use Rattle.au_expr.specs.Numbers.{number_if_any}
 use Rattle.au_expr.proofs.Fits.{fit_both, fit_lesser, fit_greater}
 use Rattle.au_algebra.proofs.Items.{and_then_is, some_is, chosen_is}
 use Rattle.au_plain.specs.declared.expr.Comparison2.{Comparison2}
-use Rattle.au_plain.specs.PTerms.{PTerm, plain_value, Column, Add, Subtract, Multiply, Negate, Compare, And, Or, Not, Case}
+use Rattle.au_plain.specs.PTerms.{PTerm, plain_value, Column, Add, Subtract, Multiply, Negate, Compare, And, Or, Not, Case, least_of_two, greatest_of_two}
 use Rattle.au_plain.specs.Meaning.{extended}
 use Rattle.au_plain.specs.PlanNumbers.{term_numbers}
-use Rattle.au_rwexpr.specs.Flatten.{least_of_two, greatest_of_two}
 use Rattle.au_rwexpr.specs.Adding.{grow, grow_numbers}
 use Rattle.au_rwexpr.proofs.Columns.{Means, AllMean, add_columns}
 use Rattle.au_rwexpr.proofs.OnValues.{reading, Has}

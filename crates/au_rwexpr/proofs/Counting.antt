@@ -2,9 +2,8 @@
 use Rattle.std.specs.Prelude.{◌≡◌, List, [], ◌∷◌}
 use Rattle.std.proofs.Common.{refl}
 use Rattle.au_plain.specs.PTerms.{PTerm}
-use Rattle.au_plain.specs.Plans.{PlanTree, Extend}
+use Rattle.au_plain.specs.Plans.{PlanTree, Extend, extend_all}
 use Rattle.au_plain.specs.PlanNumbers.{scans}
-use Rattle.au_rwexpr.specs.Flatten.{extend_all}
 
 -- added columns add no Scan
 pub scans-extend_all : (es : List PTerm) (p : PlanTree) → scans (extend_all es p) ≡ scans p

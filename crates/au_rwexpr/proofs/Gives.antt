@@ -12,11 +12,10 @@ use Rattle.au_algebra.specs.Ordinary.{Rows}
 use Rattle.au_algebra.specs.Bounded.{Bounded}
 use Rattle.au_algebra.proofs.Items.{and_then_is, some_is}
 use Rattle.au_plain.specs.PTerms.{PTerm}
-use Rattle.au_plain.specs.Plans.{PlanTree, Extend, Keep, Filter}
+use Rattle.au_plain.specs.Plans.{PlanTree, Extend, Keep, Filter, extend_all}
 use Rattle.au_plain.specs.Meaning.{plain_rows, extended}
 use Rattle.au_plain.specs.PlanKinds.{plan_kinds, plain_kind, kept_kinds}
 use Rattle.au_encode.specs.Encode.{encode, encoded_kinds}
-use Rattle.au_rwexpr.specs.Flatten.{extend_all}
 use Rattle.au_rwexpr.specs.Adding.{grow}
 use Rattle.au_rwexpr.proofs.Columns.{add_columns}
 use Rattle.au_rwexpr.proofs.OnValues.{reading}

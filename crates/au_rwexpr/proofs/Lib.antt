@@ -20,4 +20,3 @@ pub mod Places
 pub mod PlanNumbersOf
 pub mod Present
 pub mod Structure
-pub mod TermLists

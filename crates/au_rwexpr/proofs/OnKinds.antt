@@ -10,7 +10,7 @@ use Rattle.au_expr.specs.Terms as term
 use Rattle.au_expr.specs.Kinds.{kind_in, kind_if, is_kind, agreed, only_if}
 use Rattle.au_plain.specs.declared.expr.Comparison2.{Comparison2}
 use Rattle.au_plain.specs.declared.expr.Comparison2.TheVariants.{Equal, Less, AtMost}
-use Rattle.au_plain.specs.PTerms.{PTerm, Column, Add, Subtract, Multiply, Negate, Compare, And, Or, Not, Case}
+use Rattle.au_plain.specs.PTerms.{PTerm, Column, Add, Subtract, Multiply, Negate, Compare, And, Or, Not, Case, greatest_of_two, least_of_two}
 use Rattle.au_plain.specs.PlanKinds.{plain_kind}
 use Rattle.au_rwexpr.specs.Flatten as step
 use Rattle.au_rwexpr.specs.Counts.{zero_term, positive}
@@ -64,10 +64,10 @@ module _ (row : List Kind) where
     pub test_kind : (test : Comparison2) (k : Kind) → Of e k → Of f k → Of (Compare test e f) Flag
     test_kind test k p q = λ more. (λ i. kind_if (is_some (agreed (p more i) (q more i))) Flag) ∙ ap (λ o. kind_if (is_some o) Flag) (agreed_same k)
 
-    pub least_kind : (k : Kind) → Of e k → Of f k → Of (step.least_of_two e f) k
+    pub least_kind : (k : Kind) → Of e k → Of f k → Of (least_of_two e f) k
     least_kind k p q = λ more. (λ i. agreed (p more i) (q more i)) ∙ agreed_same k
 
-    pub greatest_kind : (k : Kind) → Of e k → Of f k → Of (step.greatest_of_two e f) k
+    pub greatest_kind : (k : Kind) → Of e k → Of f k → Of (greatest_of_two e f) k
     greatest_kind k p q = λ more. (λ i. agreed (p more i) (q more i)) ∙ agreed_same k
 
     pub case_kind : (k : Kind) (c : PTerm) → Of c Flag → Of e k → Of f k → Of (Case c e f) k
@@ -141,10 +141,10 @@ module _ (row : List Kind) (i j : ℕ) (k : Kind) (x : KindsAt row i k) (y : Kin
       let cl = column_kind row m Flag z.lo in
       let cg = column_kind row (m + 1) Flag z.sg in
       let ch = column_kind row (m + 2) Flag z.hi in (
-        by_case_kind cl ch (step.lo i) (step.least_of_two (step.lo i) (step.lo j)) (step.lo j) al (least_kind row (step.lo i) (step.lo j) k al bl) bl,
+        by_case_kind cl ch (step.lo i) (least_of_two (step.lo i) (step.lo j)) (step.lo j) al (least_kind row (step.lo i) (step.lo j) k al bl) bl,
         (
           by_case_kind cl ch (step.sg i) (Case (step.sg m) (step.sg i) (step.sg j)) (step.sg j) ag (case_kind row (step.sg i) (step.sg j) k (step.sg m) cg ag bg) bg,
-          (by_case_kind cl ch (step.hi i) (step.greatest_of_two (step.hi i) (step.hi j)) (step.hi j) ah (greatest_kind row (step.hi i) (step.hi j) k ah bh) bh, tt),
+          (by_case_kind cl ch (step.hi i) (greatest_of_two (step.hi i) (step.hi j)) (step.hi j) ah (greatest_kind row (step.hi i) (step.hi j) k ah bh) bh, tt),
         ),
       )
     where
@@ -181,10 +181,10 @@ module _ (row : List Kind) (i j : ℕ) (x : KindsAt row i Int) (y : KindsAt row 
       let q = multiply_kind row (step.lo i) (step.hi j) (al row i j Int x y) (bh row i j Int x y) in
       let r = multiply_kind row (step.hi i) (step.lo j) (ah row i j Int x y) (bl row i j Int x y) in
       let s = multiply_kind row (step.hi i) (step.hi j) (ah row i j Int x y) (bh row i j Int x y) in (
-        least_kind row (step.least_of_two ll lh) (step.least_of_two hl hh) Int (least_kind row ll lh Int p q) (least_kind row hl hh Int r s),
+        least_kind row (least_of_two ll lh) (least_of_two hl hh) Int (least_kind row ll lh Int p q) (least_kind row hl hh Int r s),
         (
           multiply_kind row (step.sg i) (step.sg j) (ag row i j Int x y) (bg row i j Int x y),
-          (greatest_kind row (step.greatest_of_two ll lh) (step.greatest_of_two hl hh) Int (greatest_kind row ll lh Int p q) (greatest_kind row hl hh Int r s), tt),
+          (greatest_kind row (greatest_of_two ll lh) (greatest_of_two hl hh) Int (greatest_kind row ll lh Int p q) (greatest_kind row hl hh Int r s), tt),
         ),
       )
 

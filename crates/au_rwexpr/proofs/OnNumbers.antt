@@ -19,7 +19,7 @@ use Rattle.au_expr.proofs.Fits.{fit_parts, fit_lesser, fit_greater}
 use Rattle.au_algebra.proofs.Items.{some_is}
 use Rattle.au_plain.specs.declared.expr.Comparison2.{Comparison2}
 use Rattle.au_plain.specs.declared.expr.Comparison2.TheVariants as how
-use Rattle.au_plain.specs.PTerms.{PTerm, Multiply, Compare, And, Case}
+use Rattle.au_plain.specs.PTerms.{PTerm, Multiply, Compare, And, Case, greatest_of_two, least_of_two}
 use Rattle.au_rwexpr.specs.Flatten as step
 use Rattle.au_rwexpr.proofs.Columns.{Means}
 use Rattle.au_rwexpr.proofs.Structure.{Steps, Below, Any}
@@ -137,9 +137,9 @@ module _ (row : List Value) (i j : ℕ) (a b : Span) (x : EndsAt row i a) (y : E
       let lower = least_fits row hl hh vhl vhh hhl hhh fhl fhh s.0 s.1 in
       let high = greatest_fits row ll lh vll vlh hll hlh fll flh q.0 r.0 in
       let higher = greatest_fits row hl hh vhl vhh hhl hhh fhl fhh s.0 s.1 in
-      (three_of (least_fits row (step.least_of_two ll lh) (step.least_of_two hl hh) (lesser vll vlh) (lesser vhl vhh)
+      (three_of (least_fits row (least_of_two ll lh) (least_of_two hl hh) (lesser vll vlh) (lesser vhl vhh)
       (λ more k. lesser (hll more k) (hlh more k)) (λ more k. lesser (hhl more k) (hhh more k)) low lower
-      (fit_lesser vll vlh q.0 r.0) (fit_lesser vhl vhh s.0 s.1)) (multiply_fits row (step.sg i) (step.sg j) a.sg b.sg ag bg fag fbg p.1) (greatest_fits row (step.greatest_of_two ll lh) (step.greatest_of_two hl hh) (greater vll vlh) (greater vhl vhh)
+      (fit_lesser vll vlh q.0 r.0) (fit_lesser vhl vhh s.0 s.1)) (multiply_fits row (step.sg i) (step.sg j) a.sg b.sg ag bg fag fbg p.1) (greatest_fits row (greatest_of_two ll lh) (greatest_of_two hl hh) (greater vll vlh) (greater vhl vhh)
       (λ more k. greater (hll more k) (hlh more k)) (λ more k. greater (hhl more k) (hhh more k)) high higher
       (fit_greater vll vlh q.0 r.0) (fit_greater vhl vhh s.0 s.1)))
 
@@ -185,9 +185,9 @@ module _ (row : List Value) (i j : ℕ) (a b : Span) (x : EndsAt row i a) (y : E
       let q = parts_of b g in
       let cl = lo_fits row m c z h in
       let cg = sg_fits row m c z h in
-      let ch = hi_fits row m c z h in (three_of (by_case_fits cl ch (step.lo i) (step.least_of_two (step.lo i) (step.lo j)) (step.lo j) fal
+      let ch = hi_fits row m c z h in (three_of (by_case_fits cl ch (step.lo i) (least_of_two (step.lo i) (step.lo j)) (step.lo j) fal
       (least_fits row (step.lo i) (step.lo j) a.lo b.lo al bl fal fbl p.0 q.0) fbl) (by_case_fits cl ch (step.sg i) (Case (step.sg m) (step.sg i) (step.sg j)) (step.sg j) fag
-      (case_fits row (step.sg i) (step.sg j) fag fbg (step.sg m) cg) fbg) (by_case_fits cl ch (step.hi i) (step.greatest_of_two (step.hi i) (step.hi j)) (step.hi j) fah
+      (case_fits row (step.sg i) (step.sg j) fag fbg (step.sg m) cg) fbg) (by_case_fits cl ch (step.hi i) (greatest_of_two (step.hi i) (step.hi j)) (step.hi j) fah
       (greatest_fits row (step.hi i) (step.hi j) a.hi b.hi ah bh fah fbh p.2 q.2) fbh))
     where
       by_case_fits : Fits row (step.lo m) → Fits row (step.hi m) → (u both v : PTerm) → Fits row u → Fits row both → Fits row v → Fits row (step.by_case m u both v)

@@ -6,10 +6,9 @@ use Rattle.au_expr.specs.Figures.{Fit}
 use Rattle.au_expr.proofs.Fits.{fit_both, fit_parts}
 use Rattle.au_algebra.specs.Ordinary.{Rows}
 use Rattle.au_plain.specs.PTerms.{PTerm}
-use Rattle.au_plain.specs.Plans.{PlanTree, Extend, Filter}
+use Rattle.au_plain.specs.Plans.{PlanTree, Extend, Filter, extend_all}
 use Rattle.au_plain.specs.Meaning.{plain_rows, extended}
 use Rattle.au_plain.specs.PlanNumbers.{term_numbers, plan_numbers}
-use Rattle.au_rwexpr.specs.Flatten.{extend_all}
 use Rattle.au_rwexpr.specs.Adding.{grow_numbers}
 
 module _ {A : Type 0} (f : A → List ℤ) where

@@ -5,8 +5,7 @@ use Rattle.au_value.specs.declared.comparison.Comparison.TheVariants as how
 use Rattle.au_expr.specs.Terms.{Term}
 use Rattle.au_expr.specs.Terms as term
 use Rattle.au_plain.specs.declared.expr.Comparison2.TheVariants.{Equal, Less, AtMost}
-use Rattle.au_plain.specs.PTerms.{PTerm, nil, cons, Column, Literal, Add, Subtract, Multiply, Negate, Compare, And, Or, Not, Case, Least, Greatest}
-use Rattle.au_plain.specs.Plans.{PlanTree, Extend}
+use Rattle.au_plain.specs.PTerms.{PTerm, Column, Literal, Add, Subtract, Multiply, Negate, Compare, And, Or, Not, Case, greatest_of_two, least_of_two}
 use Rattle.au_rwexpr.specs.Cells.{three_places}
 
 -- lo, sg and hi of the node whose columns begin at a place
@@ -21,12 +20,6 @@ hi i = Column (i + 2)
 
 abbrev pub three : PTerm → PTerm → PTerm → List PTerm
 three a b c = a ∷ b ∷ c ∷ []
-
-abbrev pub least_of_two : PTerm → PTerm → PTerm
-least_of_two a b = Least (cons a (cons b nil))
-
-abbrev pub greatest_of_two : PTerm → PTerm → PTerm
-greatest_of_two a b = Greatest (cons a (cons b nil))
 
 -- the own columns of each kind of node, from the places of its parts
 abbrev pub column_step : ℕ → List PTerm
@@ -124,8 +117,3 @@ flatten_items n (e ∷ es) = flatten n e ++ flatten_items (n + (before e + 3)) e
 abbrev pub item_places : ℕ → List Term → List ℕ
 item_places n [] = []
 item_places n (e ∷ es) = three_places (n + before e) ++ item_places (n + (before e + 3)) es
-
--- the plan with columns added, one after the other
-abbrev pub extend_all : List PTerm → PlanTree → PlanTree
-extend_all [] p = p
-extend_all (e ∷ es) p = extend_all es (Extend e p)

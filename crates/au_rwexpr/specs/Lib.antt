@@ -1,6 +1,5 @@
 pub mod Adding
 pub mod Cells
-pub mod Copies
 pub mod Counts
 pub mod Flatten
 pub mod Meets

@@ -9,7 +9,7 @@ ghost use Rattle.au_rwexpr.specs.Nodes.{Adds, nodes, terms_of};
 use crate::nodes::{Node, case_node, column_node, literal_node, operator_node};
 use crate::range_columns::{RangeColumns, width_of};
 use au_expr::Expr;
-use au_plain::{Layout, PExpr, Steps};
+use au_plain::{Layout, PExpr, Steps, beside};
 use au_value::NoMemory;
 use std::alloc::Global;
 
@@ -87,9 +87,9 @@ fn push_node(node: Node, width: usize, columns: &mut Vec<PExpr>) -> Result<Range
     ensures columns { IfOk result (λ _. map pterm columns.new.items ≡ map pterm columns.old.items ++ terms_of node) }
     ensures place { IfOk result (λ r. r.first ≡ width + length columns.old.items) }
 {
-    let at = next_columns(width, columns.as_slice())?;
-    columns.push(node.lo)?;
-    columns.push(node.sg)?;
-    columns.push(node.hi)?;
+    let (at, node) = beside(next_columns(width, columns.as_slice()), node)?;
+    let (_, (sg, hi)) = beside(columns.push(node.lo), (node.sg, node.hi))?;
+    let (_, hi) = beside(columns.push(sg), hi)?;
+    columns.push(hi)?;
     Ok(at)
 }

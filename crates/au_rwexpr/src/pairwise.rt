@@ -8,8 +8,7 @@ ghost use Rattle.au_rwexpr.specs.Meets as tests;
 use crate::nodes::{certainly_equal, overlap};
 use crate::range_columns::RangeColumns;
 use crate::row_places::behind;
-use crate::terms::{and, compare};
-use au_plain::{Comparison2, PExpr};
+use au_plain::{Comparison2, PExpr, and, compare};
 use au_value::{NoMemory, Value};
 use std::alloc::Global;
 

@@ -9,10 +9,10 @@ use Rattle.au_algebra.specs.Typing.{all_kinds}
 use Rattle.au_plain.specs.declared.expr.Comparison2.TheVariants.{Equal, Less}
 use Rattle.au_plain.specs.PTerms.{PTerm, Column, Add, Compare, And}
 use Rattle.au_plain.specs.declared.plan.PAgg.{PAgg}
-use Rattle.au_plain.specs.Plans.{PlanTree, Extend, Keep}
+use Rattle.au_plain.specs.Plans.{PlanTree, Extend, Keep, extend_all}
 use Rattle.au_plain.specs.PlanKinds.{plan_kinds, plain_kind, plain_agg_kind}
 use Rattle.au_encode.specs.Encode.{encoded_kinds, triple_kinds}
-use Rattle.au_rwexpr.specs.Flatten.{lo, sg, hi, extend_all}
+use Rattle.au_rwexpr.specs.Flatten.{lo, sg, hi}
 use Rattle.au_rwexpr.specs.Counts.{zero_term, one_term, positive}
 use Rattle.au_rwexpr.specs.Cells.{cell_places, run}
 use Rattle.au_combine.specs.Boxes.{boxes}

@@ -19,7 +19,7 @@ use Rattle.au_plain.specs.declared.expr.Comparison2.TheVariants.{Equal, Less}
 use Rattle.au_plain.specs.declared.plan.PAgg.{PAgg}
 use Rattle.au_plain.specs.declared.plan.PAgg.TheVariants.{Sum, Min, Max}
 use Rattle.au_plain.specs.PTerms.{PTerm, Add, And, Column, Compare}
-use Rattle.au_plain.specs.Plans.{PlanTree}
+use Rattle.au_plain.specs.Plans.{PlanTree, extend_all}
 use Rattle.au_plain.specs.Meaning.{plain_rows, plain_aggregate}
 use Rattle.au_plain.specs.PlanNumbers.{plan_numbers, term_numbers, group_numbers, magnitudes}
 use Rattle.au_encode.specs.Encode.{encode_row, encode_cells}
@@ -27,7 +27,7 @@ use Rattle.au_encode.proofs.Decoded.{cells_length}
 use Rattle.au_encode.proofs.HeldCells.{FitRow, AllFitRows}
 use Rattle.au_rwexpr.specs.Adding.{grow_numbers}
 use Rattle.au_rwexpr.specs.Counts.{one_term, positive, zero_term}
-use Rattle.au_rwexpr.specs.Flatten.{extend_all, lo, sg, hi}
+use Rattle.au_rwexpr.specs.Flatten.{lo, sg, hi}
 use Rattle.au_rwexpr.proofs.Allowed.{triple_of, fits_now, lower_fits, all_both, all_of}
 use Rattle.au_rwexpr.proofs.Careful.{careful, Fits, all_careful, careful_grow, column_fits, compare_fits, and_fits, case_fits, add_fits}
 use Rattle.au_rwexpr.proofs.Coded.{rl, rs, rh, cl, cg, cm}

@@ -19,11 +19,10 @@ use Rattle.au_algebra.proofs.Each.{all_filter, all_from}
 use Rattle.au_plain.specs.declared.plan.PAgg.{PAgg}
 use Rattle.au_plain.specs.declared.plan.PAgg.TheVariants.{Max}
 use Rattle.au_plain.specs.PTerms.{value_at, Add, Column}
-use Rattle.au_plain.specs.Plans.{PlanTree}
+use Rattle.au_plain.specs.Plans.{PlanTree, extend_all}
 use Rattle.au_plain.specs.Meaning.{plain_rows, kept, plain_aggregate, extended}
 use Rattle.au_encode.specs.Encode.{encode, encode_row, encode_cells, encode_counts}
 use Rattle.au_encode.proofs.Decoded.{cells_length}
-use Rattle.au_rwexpr.specs.Flatten.{extend_all}
 use Rattle.au_rwexpr.specs.Cells.{cell_places, run}
 use Rattle.au_rwgroup.specs.Groups as plans
 use Rattle.au_rwgroup.specs.Groups.{group_columns, first_aggs, first_grouping}

@@ -12,12 +12,12 @@ use Rattle.au_algebra.specs.Typing.{all_kinds, kinds_if}
 use Rattle.au_plain.specs.declared.plan.PAgg.{PAgg}
 use Rattle.au_plain.specs.declared.expr.Comparison2.TheVariants.{Less}
 use Rattle.au_plain.specs.PTerms.{PTerm, Column, Compare, Multiply, Case}
-use Rattle.au_plain.specs.Plans.{PlanTree, Join, Keep}
+use Rattle.au_plain.specs.Plans.{PlanTree, Join, Keep, extend_all}
 use Rattle.au_plain.specs.PlanKinds.{plan_kinds, plain_kind, plain_agg_kind, kept_kinds}
 use Rattle.au_encode.specs.Encode.{encoded_kinds, triple_kinds}
 use Rattle.au_rwexpr.specs.Cells.{run, cell_places, three_places}
 use Rattle.au_rwexpr.specs.Counts.{zero_term, one_term, positive}
-use Rattle.au_rwexpr.specs.Flatten.{lo, sg, hi, extend_all}
+use Rattle.au_rwexpr.specs.Flatten.{lo, sg, hi}
 use Rattle.au_rwexpr.specs.Meets.{meets}
 use Rattle.au_rwexpr.proofs.Coded.{own}
 use Rattle.au_rwexpr.proofs.Columns.{AllMean, add_columns, adds, then_adds, means_now}

@@ -16,7 +16,7 @@ use Rattle.au_algebra.specs.Ordinary.{Rows}
 use Rattle.au_algebra.proofs.Each.{all_append, all_filter, all_from}
 use Rattle.au_plain.specs.declared.plan.PAgg.{PAgg}
 use Rattle.au_plain.specs.PTerms.{PTerm, Column}
-use Rattle.au_plain.specs.Plans.{PlanTree, Join}
+use Rattle.au_plain.specs.Plans.{PlanTree, Join, extend_all}
 use Rattle.au_plain.specs.Meaning.{plain_rows, passes}
 use Rattle.au_plain.specs.PlanKinds.{FitRows, FitTables}
 use Rattle.au_plain.specs.PlanNumbers.{plan_numbers, term_numbers, magnitudes}
@@ -27,7 +27,7 @@ use Rattle.au_encode.proofs.HeldCells.{AllFit, AllFitRows}
 use Rattle.au_rwexpr.specs.Adding.{grow_numbers}
 use Rattle.au_rwexpr.specs.Cells.{run}
 use Rattle.au_rwexpr.specs.Counts.{positive}
-use Rattle.au_rwexpr.specs.Flatten.{sg, extend_all}
+use Rattle.au_rwexpr.specs.Flatten.{sg}
 use Rattle.au_rwexpr.specs.Meets.{meets}
 use Rattle.au_rwexpr.proofs.Allowed.{all_both}
 use Rattle.au_rwexpr.proofs.Coded.{rl, rs, rh, own}

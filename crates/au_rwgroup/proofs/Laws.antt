@@ -11,11 +11,10 @@ use Rattle.au_algebra.specs.Fits.{agg_numbers, triple_numbers}
 use Rattle.au_algebra.specs.Typing.{agg_kind, all_kinds, is_sum}
 use Rattle.au_algebra.proofs.GroupRelation.{distinct_relation, total_relation}
 use Rattle.au_plain.specs.declared.plan.PAgg.{PAgg}
-use Rattle.au_plain.specs.Plans.{PlanTree}
+use Rattle.au_plain.specs.Plans.{PlanTree, extend_all}
 use Rattle.au_plain.specs.PlanNumbers.{scans}
 use Rattle.au_encode.specs.Gives.{Gives}
 use Rattle.au_encode.proofs.HeldCells.{gives_held}
-use Rattle.au_rwexpr.specs.Flatten.{extend_all}
 use Rattle.au_rwexpr.proofs.Counting.{scans-extend_all}
 use Rattle.au_rwgroup.specs.Gives.{Distincts, Totals}
 use Rattle.au_rwgroup.specs.Groups.{group_columns, first_grouping, distinct}

@@ -4,9 +4,8 @@ use Rattle.std.proofs.Common.{◌∙◌, ap}
 use Rattle.au_algebra.specs.declared.query.Agg.{Agg}
 use Rattle.au_plain.specs.declared.plan.PAgg.{PAgg}
 use Rattle.au_plain.specs.PTerms.{PTerm, Column}
-use Rattle.au_plain.specs.Plans.{PlanTree, Keep}
+use Rattle.au_plain.specs.Plans.{PlanTree, Keep, extend_all}
 use Rattle.au_rwexpr.specs.Counts.{positive}
-use Rattle.au_rwexpr.specs.Flatten.{extend_all}
 use Rattle.au_rwgroup.specs.Groups.{first_grouping}
 use Rattle.au_rwgroup.specs.GroupPlan.{kept_for, places, all_member_columns, all_member_aggs, all_result_columns, second_grouping, result_places, group}
 

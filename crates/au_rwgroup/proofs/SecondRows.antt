@@ -16,11 +16,10 @@ use Rattle.au_algebra.proofs.Hulls.{hull_of_ranges}
 use Rattle.au_algebra.proofs.Each.{all_filter, all_from, all_append}
 use Rattle.au_plain.specs.declared.plan.PAgg.{PAgg}
 use Rattle.au_plain.specs.PTerms.{PTerm, plain_value}
-use Rattle.au_plain.specs.Plans.{PlanTree, Join}
+use Rattle.au_plain.specs.Plans.{PlanTree, Join, extend_all}
 use Rattle.au_plain.specs.PlanNumbers.{magnitudes, group_numbers}
 use Rattle.au_plain.specs.Meaning.{plain_rows, kept, passes, plain_aggregate, plain_group}
 use Rattle.au_encode.specs.Encode.{encode_row, encode_cells, encode_counts}
-use Rattle.au_rwexpr.specs.Flatten.{extend_all}
 use Rattle.au_rwexpr.specs.Cells.{run}
 use Rattle.au_rwexpr.specs.Meets.{meets}
 use Rattle.au_rwgroup.specs.GroupPlan.{second_grouping}

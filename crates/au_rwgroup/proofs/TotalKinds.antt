@@ -18,10 +18,10 @@ use Rattle.au_algebra.proofs.Items.{and_then_is, some_is}
 use Rattle.au_plain.specs.declared.expr.Comparison2.TheVariants.{Less}
 use Rattle.au_plain.specs.declared.plan.PAgg.TheVariants.{Sum}
 use Rattle.au_plain.specs.PTerms.{PTerm, Compare, Multiply}
-use Rattle.au_plain.specs.Plans.{PlanTree, Rows, Keep, Union, Group}
+use Rattle.au_plain.specs.Plans.{PlanTree, Rows, Keep, Union, Group, extend_all}
 use Rattle.au_plain.specs.PlanKinds.{plan_kinds, plain_kind, plain_agg_kind, kept_kinds, row_fits}
 use Rattle.au_encode.specs.Encode.{encoded_kinds, triple_kinds}
-use Rattle.au_rwexpr.specs.Flatten.{lo, sg, hi, three, extend_all}
+use Rattle.au_rwexpr.specs.Flatten.{lo, sg, hi, three}
 use Rattle.au_rwexpr.specs.Counts.{zero_term, one_term}
 use Rattle.au_rwexpr.specs.Cells.{run}
 use Rattle.au_rwgroup.specs.Totals.{signed, total_columns, total_sums, sums, total}

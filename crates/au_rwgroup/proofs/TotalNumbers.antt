@@ -27,7 +27,7 @@ use Rattle.au_algebra.proofs.Filters.{filter_all}
 use Rattle.au_plain.specs.declared.expr.Comparison2.TheVariants.{Less}
 use Rattle.au_plain.specs.PTerms.{PTerm, Compare, Multiply, value_at}
 use Rattle.au_plain.specs.Plans as plan
-use Rattle.au_plain.specs.Plans.{PlanTree, Keep, Union, Group}
+use Rattle.au_plain.specs.Plans.{PlanTree, Keep, Union, Group, extend_all}
 use Rattle.au_plain.specs.Meaning.{plain_rows}
 use Rattle.au_plain.specs.PlanNumbers.{plan_numbers, group_numbers, magnitudes}
 use Rattle.au_encode.specs.Encode.{encode_row}
@@ -36,7 +36,7 @@ use Rattle.au_encode.proofs.HeldCells.{FitRow, AllFitRows}
 use Rattle.au_rwexpr.specs.Adding.{grow_numbers}
 use Rattle.au_rwexpr.specs.Cells.{run}
 use Rattle.au_rwexpr.specs.Counts.{one_term, zero_term}
-use Rattle.au_rwexpr.specs.Flatten.{lo, sg, hi, three, extend_all}
+use Rattle.au_rwexpr.specs.Flatten.{lo, sg, hi, three}
 use Rattle.au_rwexpr.proofs.Allowed.{all_both, all_of}
 use Rattle.au_rwexpr.proofs.Careful.{careful, Fits, all_careful, careful_grow, chosen_fits, column_fits, compare_fits, multiply_fits}
 use Rattle.au_rwexpr.proofs.Coded.{rl, rs, rh, cl, cg, cm}

@@ -24,11 +24,11 @@ use Rattle.au_algebra.proofs.Filters.{filter_all}
 use Rattle.au_plain.specs.declared.plan.PAgg.TheVariants.{Sum}
 use Rattle.au_plain.specs.PTerms.{value_at}
 use Rattle.au_plain.specs.Plans as plan
-use Rattle.au_plain.specs.Plans.{PlanTree, Keep, Union, Group}
+use Rattle.au_plain.specs.Plans.{PlanTree, Keep, Union, Group, extend_all}
 use Rattle.au_plain.specs.Meaning.{plain_rows, kept, plain_aggregate, plain_group}
 use Rattle.au_encode.specs.Encode.{encode_row, encode_cells}
 use Rattle.au_encode.proofs.Decoded.{cells_length}
-use Rattle.au_rwexpr.specs.Flatten.{lo, hi, three, extend_all}
+use Rattle.au_rwexpr.specs.Flatten.{lo, hi, three}
 use Rattle.au_rwexpr.specs.Cells.{run}
 use Rattle.au_rwexpr.specs.Counts.{one_term}
 use Rattle.au_rwgroup.specs.Totals.{agg_place, total_columns, total_sums, sums, total}

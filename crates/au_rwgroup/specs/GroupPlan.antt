@@ -5,8 +5,8 @@ use Rattle.au_algebra.specs.declared.query.Agg.TheVariants as agg
 use Rattle.au_plain.specs.declared.plan.PAgg.{PAgg}
 use Rattle.au_plain.specs.declared.plan.PAgg.TheVariants.{Sum, Min, Max}
 use Rattle.au_plain.specs.PTerms.{PTerm, Column, Multiply, And, Case}
-use Rattle.au_plain.specs.Plans.{PlanTree, Keep, Join, Group}
-use Rattle.au_rwexpr.specs.Flatten.{lo, sg, hi, three, extend_all}
+use Rattle.au_plain.specs.Plans.{PlanTree, Keep, Join, Group, extend_all}
+use Rattle.au_rwexpr.specs.Flatten.{lo, sg, hi, three}
 use Rattle.au_rwexpr.specs.Counts.{zero_term, one_term, positive}
 use Rattle.au_rwexpr.specs.Cells.{cell_places, run, three_places}
 use Rattle.au_rwexpr.specs.Meets.{meets, same_guesses}

@@ -5,8 +5,8 @@ use Rattle.au_plain.specs.declared.expr.Comparison2.TheVariants.{Equal}
 use Rattle.au_plain.specs.declared.plan.PAgg.{PAgg}
 use Rattle.au_plain.specs.declared.plan.PAgg.TheVariants.{Sum, Max}
 use Rattle.au_plain.specs.PTerms.{PTerm, Column, Literal, Add, Compare, And, Case}
-use Rattle.au_plain.specs.Plans.{PlanTree, Extend, Keep}
-use Rattle.au_rwexpr.specs.Flatten.{lo, sg, hi, extend_all}
+use Rattle.au_plain.specs.Plans.{PlanTree, Extend, Keep, extend_all}
+use Rattle.au_rwexpr.specs.Flatten.{lo, sg, hi}
 use Rattle.au_rwexpr.specs.Counts.{zero_term, one_term, positive}
 use Rattle.au_rwexpr.specs.Cells.{cell_places, run}
 use Rattle.au_combine.specs.Boxes.{boxes}

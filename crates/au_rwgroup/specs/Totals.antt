@@ -7,8 +7,8 @@ use Rattle.au_plain.specs.declared.expr.Comparison2.TheVariants.{Less}
 use Rattle.au_plain.specs.declared.plan.PAgg.{PAgg}
 use Rattle.au_plain.specs.declared.plan.PAgg.TheVariants.{Sum}
 use Rattle.au_plain.specs.PTerms.{PTerm, Compare, Case, Multiply}
-use Rattle.au_plain.specs.Plans.{PlanTree, Rows, Keep, Union, Group}
-use Rattle.au_rwexpr.specs.Flatten.{lo, sg, hi, three, extend_all}
+use Rattle.au_plain.specs.Plans.{PlanTree, Rows, Keep, Union, Group, extend_all}
+use Rattle.au_rwexpr.specs.Flatten.{lo, sg, hi, three}
 use Rattle.au_rwexpr.specs.Counts.{zero_term, one_term}
 use Rattle.au_rwexpr.specs.Cells.{run}
 

@@ -6,8 +6,8 @@ ghost use Rattle.au_rwexpr.specs.Counts.{one_term, positive as is_positive, zero
 ghost use Rattle.au_rwgroup.specs.Groups.{all_sure as are_sure};
 ghost use Rattle.au_rwgroup.specs.Totals.{signed as signed_term};
 
-use au_plain::{Comparison2, PExpr};
-use au_rwexpr::{RangeColumns, and, behind, case, compare, multiply};
+use au_plain::{Comparison2, PExpr, and, both, case, compare, multiply};
+use au_rwexpr::{RangeColumns, behind};
 use au_value::{NoMemory, Value};
 use std::alloc::Global;
 
@@ -57,8 +57,9 @@ pub(crate) fn signed(
 ) -> Result<PExpr, NoMemory>
     ensures { IfOk result (λ e. pterm e ≡ signed_term (pterm below) (pterm above) (term.Column column)) }
 {
-    let test = compare(alloc, Comparison2::Less, PExpr::Column(column), zero())?;
-    let less = multiply(alloc, below, PExpr::Column(column))?;
-    let more = multiply(alloc, above, PExpr::Column(column))?;
+    let less = multiply(alloc, below, PExpr::Column(column));
+    let both_terms = both(less, multiply(alloc, above, PExpr::Column(column)));
+    let test = compare(alloc, Comparison2::Less, PExpr::Column(column), zero());
+    let (test, (less, more)) = both(test, both_terms)?;
     case(alloc, test, less, more)
 }

@@ -2,7 +2,11 @@
 ghost use Rattle.std.specs.Prelude.{◌≡◌, ◌≤◌, ◌*◌, ◌+◌, ◌<◌, ◌^◌, IfOk, flat_map, length, map};
 ghost use Rattle.au_plain.specs.PTerms.{pterm};
 ghost use Rattle.au_plain.specs.Plans.{plan_tree};
+ghost use Rattle.au_plain.specs.Plans as tree;
 ghost use Rattle.au_plain.specs.PlanNumbers.{scans};
+ghost use Rattle.au_rwexpr.specs.Cells.{run};
+ghost use Rattle.au_plain.specs.Plans.{extend_all as extended};
+ghost use Rattle.au_rwexpr.specs.Meets as meeting;
 ghost use Rattle.au_rwgroup.specs.Gives.{Groups};
 ghost use Rattle.au_rwgroup.specs.Groups as first;
 ghost use Rattle.au_rwgroup.specs.GroupPlan as plan;
@@ -16,8 +20,8 @@ use crate::member_columns::all_member_columns;
 use crate::result_columns::{all_result_columns, result_places};
 use au_algebra::Agg;
 use au_combine::{group as grouped, push_run};
-use au_plain::{Layout, PAgg, PExpr, Plan};
-use au_rwexpr::{RangeColumns, copy_plan, extend_all, join, keep, meets};
+use au_plain::{Layout, PAgg, PExpr, Plan, beside, both, copy_plan, extend_all, join, keep};
+use au_rwexpr::{RangeColumns, meets};
 use au_value::NoMemory;
 use std::alloc::Global;
 
@@ -72,11 +76,44 @@ fn with_members(
     ensures { IfOk result (λ p. plan_tree p ≡ plan.second_grouping places.joined.keys places.joined.row (plan.all_member_columns (places_of places.joined) (places.triple.first + 3) aggs.now) (plan.all_member_aggs (places.joined.triple + 8) aggs.now) (first.first_grouping columns places.joined.keys kept.items (plan_tree of)) (plan_tree of)) }
 {
     let joined = places.joined;
-    let rows = copy_plan(alloc, &of)?;
-    let added = all_member_columns(alloc, joined, places.triple.first + 3, aggs)?;
-    let over = member_aggregates(alloc, joined.behind_tests(), aggs)?;
-    let boxes = first_grouping(alloc, of, columns, joined.keys, kept)?;
+    let plans = boxes_and_rows(alloc, of, columns, joined.keys, kept);
+    let ((added, over), (boxes, rows)) = both(member_parts(alloc, places, aggs), plans)?;
     second_grouping(alloc, joined, added, over, boxes, rows)
+}
+
+// The boxes of a plan's rows, and the rows once more.
+fn boxes_and_rows(
+    alloc: Global,
+    of: Plan,
+    columns: usize,
+    keys: usize,
+    kept: Vec<PAgg>,
+) -> Result<(Plan, Plan), NoMemory>
+    ensures boxes { IfOk result (λ r. plan_tree r.0 ≡ first.first_grouping columns keys kept.items (plan_tree of)) }
+    ensures rows { IfOk result (λ r. plan_tree r.1 ≡ plan_tree of) }
+{
+    let rows = copy_plan(alloc, &of);
+    let boxes = first_grouping(alloc, of, columns, keys, kept);
+    let (boxes, rows) = both(boxes, rows)?;
+    Ok((boxes, rows))
+}
+
+// The columns that are added to each pair, and the aggregates over them.
+fn member_parts(
+    alloc: Global,
+    places: GroupPlaces,
+    aggs: &[Agg],
+) -> Result<(Vec<PExpr>, Vec<PAgg>), NoMemory>
+    requires aggs { places.aggs ≡ length aggs.now }
+    requires kept { places.triple.first + 3 + 2 * length aggs.now < 2 ^ 64 }
+    ensures added { IfOk result (λ r. map pterm r.0.items ≡ plan.all_member_columns (places_of places.joined) (places.triple.first + 3) aggs.now) }
+    ensures over { IfOk result (λ r. r.1.items ≡ plan.all_member_aggs (places.joined.triple + 8) aggs.now) }
+{
+    let joined = places.joined;
+    let added = all_member_columns(alloc, joined, places.triple.first + 3, aggs);
+    let over = member_aggregates(alloc, joined.behind_tests(), aggs);
+    let (added, over) = both(added, over)?;
+    Ok((added, over))
 }
 
 // The boxes joined with the rows that overlap them, with further columns, grouped by the boxes.
@@ -90,10 +127,41 @@ fn second_grouping(
 ) -> Result<Plan, NoMemory>
     ensures { IfOk result (λ p. plan_tree p ≡ plan.second_grouping joined.keys joined.row (map pterm columns.items) aggs.items (plan_tree boxes) (plan_tree rows)) }
 {
+    let wide = member_pairs(alloc, joined, columns, boxes, rows);
+    let (wide, aggs) = beside(wide, aggs)?;
+    let (keys, (wide, aggs)) = beside(box_places(alloc, joined), (wide, aggs))?;
+    grouped(alloc, keys, aggs, wide)
+}
+
+// The boxes joined with the rows that overlap them, with further columns.
+fn member_pairs(
+    alloc: Global,
+    joined: JoinedRow,
+    columns: Vec<PExpr>,
+    boxes: Plan,
+    rows: Plan,
+) -> Result<Plan, NoMemory>
+    ensures { IfOk result (λ p. plan_tree p ≡ extended (map pterm columns.items) (tree.Join (meeting.meets joined.row 0 joined.keys) (plan_tree boxes) (plan_tree rows))) }
+{
+    let held = (boxes, rows, columns);
+    let (overlap, (boxes, rows, columns)) = beside(box_overlap(alloc, joined), held)?;
+    let (pairs, columns) = beside(join(alloc, overlap, boxes, rows), columns)?;
+    extend_all(alloc, columns, pairs)
+}
+
+// Whether the row overlaps the box.
+fn box_overlap(alloc: Global, joined: JoinedRow) -> Result<PExpr, NoMemory>
+    ensures { IfOk result (λ e. pterm e ≡ meeting.meets joined.row 0 joined.keys) }
+{
     let row = RangeColumns::at(joined.row)?;
-    let overlap = meets(alloc, row, RangeColumns::at(0)?, joined.keys)?;
+    meets(alloc, row, RangeColumns::at(0)?, joined.keys)
+}
+
+// The places of the box.
+fn box_places(alloc: Global, joined: JoinedRow) -> Result<Vec<usize>, NoMemory>
+    ensures { IfOk result (λ v. v.items ≡ run 0 joined.row) }
+{
     let mut keys = Vec::new(alloc);
     push_run(&mut keys, 0, joined.row)?;
-    let pairs = join(alloc, overlap, boxes, rows)?;
-    grouped(alloc, keys, aggs, extend_all(alloc, columns, pairs)?)
+    Ok(keys)
 }

@@ -5,13 +5,15 @@ ghost use Rattle.au_plain.specs.PTerms as term;
 ghost use Rattle.au_plain.specs.Plans.{plan_tree};
 ghost use Rattle.au_rwexpr.specs.Cells.{cell_places, run};
 ghost use Rattle.au_rwexpr.specs.Counts.{one_term, positive as is_positive, zero_term};
-ghost use Rattle.au_rwexpr.specs.Flatten.{lo};
+ghost use Rattle.au_plain.specs.Plans.{extend_all as extended};
+ghost use Rattle.au_rwexpr.specs.Flatten.{hi, lo, sg};
+ghost use Rattle.au_combine.specs.Boxes.{boxes as boxed};
 ghost use Rattle.au_rwgroup.specs.Groups.{all_sure as are_sure, first_aggs, first_grouping as grouped, group_columns as counting};
 
 use crate::count_terms::{all_sure, one, positive, zero};
 use au_combine::{boxes, push_run};
-use au_plain::{PAgg, PExpr, Plan};
-use au_rwexpr::{RangeColumns, add, and, behind, case, extend, extend_all, keep, push_cells};
+use au_plain::{PAgg, PExpr, Plan, add, and, beside, both, case, extend, extend_all, keep};
+use au_rwexpr::{RangeColumns, behind, push_cells};
 use au_value::NoMemory;
 use std::alloc::Global;
 
@@ -29,13 +31,29 @@ pub(crate) fn first_grouping(
 ) -> Result<Plan, NoMemory>
     ensures { IfOk result (λ p. plan_tree p ≡ grouped columns keys kept.items (plan_tree of)) }
 {
-    let new = behind(RangeColumns::of(columns)?)?;
-    let places = group_places(alloc, keys, kept.len())?;
-    let added = group_columns(alloc, columns, keys)?;
-    let aggs = group_aggregates(alloc, new, kept)?;
-    let groups = boxes(alloc, extend_all(alloc, added, of)?, keys, aggs)?;
-    let summed = extend(alloc, most_of_both(alloc, keys)?, groups)?;
+    let further = kept.len();
+    let groups = counted_boxes(alloc, of, columns, keys, kept)?;
+    let (most, groups) = beside(most_of_both(alloc, keys), groups)?;
+    let summed = extend(alloc, most, groups)?;
+    let (places, summed) = beside(group_places(alloc, keys, further), summed)?;
     keep(alloc, places, summed)
+}
+
+// The boxes of the keys, with what tells of the triple of the group, and then the further aggregates.
+fn counted_boxes(
+    alloc: Global,
+    of: Plan,
+    columns: usize,
+    keys: usize,
+    kept: Vec<PAgg>,
+) -> Result<Plan, NoMemory>
+    ensures { IfOk result (λ p. plan_tree p ≡ boxed keys (first_aggs (3 * columns + 3) kept.items) (extended (counting columns keys) (plan_tree of))) }
+{
+    let aggs = group_aggregates(alloc, columns, kept);
+    let parts = both(group_columns(alloc, columns, keys), aggs);
+    let ((added, aggs), of) = beside(parts, of)?;
+    let (wide, aggs) = beside(extend_all(alloc, added, of), aggs)?;
+    boxes(alloc, wide, keys, aggs)
 }
 
 // What a row adds to the triple of its group.
@@ -43,11 +61,37 @@ fn group_columns(alloc: Global, columns: usize, keys: usize) -> Result<Vec<PExpr
     ensures { IfOk result (λ v. map pterm v.items ≡ counting columns keys) }
 {
     let triple = RangeColumns::of(columns)?;
-    let least = least_column(alloc, triple, keys)?;
-    let guess = case(alloc, positive(alloc, triple.sg())?, one(), zero())?;
-    let unsure = case(alloc, sure_keys(alloc, keys)?, zero(), triple.hi())?;
-    let sure = case(alloc, sure_keys(alloc, keys)?, one(), zero())?;
+    let counted = both(
+        least_column(alloc, triple, keys),
+        guess_column(alloc, triple),
+    );
+    let by_keys = both(unsure_column(alloc, triple, keys), sure_column(alloc, keys));
+    let ((least, guess), (unsure, sure)) = both(counted, by_keys)?;
     four(alloc, least, guess, unsure, sure)
+}
+
+// 1 where a copy is in the guess world.
+fn guess_column(alloc: Global, triple: RangeColumns) -> Result<PExpr, NoMemory>
+    ensures { IfOk result (λ e. pterm e ≡ term.Case (is_positive (sg triple.first)) one_term zero_term) }
+{
+    let there = positive(alloc, triple.sg())?;
+    case(alloc, there, one(), zero())
+}
+
+// The most copies where the keys are unsure.
+fn unsure_column(alloc: Global, triple: RangeColumns, keys: usize) -> Result<PExpr, NoMemory>
+    ensures { IfOk result (λ e. pterm e ≡ term.Case (are_sure 0 keys) zero_term (hi triple.first)) }
+{
+    let sure = sure_keys(alloc, keys)?;
+    case(alloc, sure, zero(), triple.hi())
+}
+
+// 1 where the keys are sure.
+fn sure_column(alloc: Global, keys: usize) -> Result<PExpr, NoMemory>
+    ensures { IfOk result (λ e. pterm e ≡ term.Case (are_sure 0 keys) one_term zero_term) }
+{
+    let sure = sure_keys(alloc, keys)?;
+    case(alloc, sure, one(), zero())
 }
 
 /// Four terms as a list.
@@ -60,10 +104,11 @@ pub(crate) fn four(
 ) -> Result<Vec<PExpr>, NoMemory>
     ensures { IfOk result (λ v. v.items ≡ a ∷ b ∷ c ∷ d ∷ []) }
 {
-    let mut all = Vec::with_capacity(alloc, 4)?;
-    all.push(a)?;
-    all.push(b)?;
-    all.push(c)?;
+    let held = (a, b, c, d);
+    let (mut all, (a, b, c, d)) = beside(Vec::with_capacity(alloc, 4), held)?;
+    let (_, (b, c, d)) = beside(all.push(a), (b, c, d))?;
+    let (_, (c, d)) = beside(all.push(b), (c, d))?;
+    let (_, d) = beside(all.push(c), d)?;
     all.push(d)?;
     Ok(all)
 }
@@ -72,11 +117,9 @@ pub(crate) fn four(
 fn least_column(alloc: Global, triple: RangeColumns, keys: usize) -> Result<PExpr, NoMemory>
     ensures { IfOk result (λ e. pterm e ≡ term.Case (term.And (are_sure 0 keys) (is_positive (lo triple.first))) one_term zero_term) }
 {
-    let surely = and(
-        alloc,
-        sure_keys(alloc, keys)?,
-        positive(alloc, triple.lo())?,
-    )?;
+    let parts = both(sure_keys(alloc, keys), positive(alloc, triple.lo()));
+    let (sure, there) = parts?;
+    let surely = and(alloc, sure, there)?;
     case(alloc, surely, one(), zero())
 }
 
@@ -87,13 +130,10 @@ fn sure_keys(alloc: Global, keys: usize) -> Result<PExpr, NoMemory>
 }
 
 // The aggregates over the added columns, and then further ones.
-fn group_aggregates(
-    alloc: Global,
-    new: RangeColumns,
-    kept: Vec<PAgg>,
-) -> Result<Vec<PAgg>, NoMemory>
-    ensures { IfOk result (λ v. v.items ≡ first_aggs new.first kept.items) }
+fn group_aggregates(alloc: Global, columns: usize, kept: Vec<PAgg>) -> Result<Vec<PAgg>, NoMemory>
+    ensures { IfOk result (λ v. v.items ≡ first_aggs (3 * columns + 3) kept.items) }
 {
+    let new = behind(RangeColumns::of(columns)?)?;
     let last = behind(new)?;
     let mut aggs = Vec::new(alloc);
     aggs.push(PAgg::Max(new.first))?;

@@ -13,8 +13,8 @@ use crate::guessed_keys::four;
 use crate::joined_row::JoinedRow;
 use crate::pair_tests::push_tests;
 use au_algebra::Agg;
-use au_plain::PExpr;
-use au_rwexpr::{case, multiply};
+use au_plain::{PExpr, both, case, multiply};
+use au_rwexpr::RangeColumns;
 use au_value::NoMemory;
 use std::alloc::Global;
 
@@ -109,11 +109,24 @@ fn sum_columns(
 {
     let cell = joined.cell(column)?;
     let counts = joined.counts()?;
-    let least = signed(alloc, counts.hi(), joined.sure_count(), cell.first)?;
+    let least = signed(alloc, counts.hi(), joined.sure_count(), cell.first);
+    let most = signed(alloc, joined.sure_count(), counts.hi(), cell.first + 2);
+    let ends = both(least, most);
+    let (guess, (least, most)) = both(guessed_term(alloc, joined, counts, cell), ends)?;
+    four(alloc, least, guess, most, zero())
+}
+
+// What the row adds to a sum in the guess world.
+fn guessed_term(
+    alloc: Global,
+    joined: JoinedRow,
+    counts: RangeColumns,
+    cell: RangeColumns,
+) -> Result<PExpr, NoMemory>
+    ensures { IfOk result (λ e. pterm e ≡ term.Case (plan.belongs (places_of joined)) (term.Multiply (sg counts.first) (sg cell.first)) zero_term) }
+{
     let product = multiply(alloc, counts.sg(), cell.sg())?;
-    let guess = case(alloc, joined.belongs(), product, zero())?;
-    let greatest = signed(alloc, joined.sure_count(), counts.hi(), cell.first + 2)?;
-    four(alloc, least, guess, greatest, zero())
+    case(alloc, joined.belongs(), product, zero())
 }
 
 // The guess and the upper end, where these count, between the ends of the row's range.
@@ -127,8 +140,9 @@ fn min_columns(
     ensures { IfOk result (λ v. map pterm v.items ≡ plan.member_columns (places_of joined) kept (agg.Min column)) }
 {
     let cell = joined.cell(column)?;
-    let guess = case(alloc, joined.guessed(), cell.sg(), PExpr::Column(kept + 1))?;
-    let upper = case(alloc, joined.surely(), cell.hi(), PExpr::Column(kept))?;
+    let guess = case(alloc, joined.guessed(), cell.sg(), PExpr::Column(kept + 1));
+    let upper = case(alloc, joined.surely(), cell.hi(), PExpr::Column(kept));
+    let (guess, upper) = both(guess, upper)?;
     four(alloc, cell.lo(), guess, upper, cell.hi())
 }
 
@@ -143,7 +157,8 @@ fn max_columns(
     ensures { IfOk result (λ v. map pterm v.items ≡ plan.member_columns (places_of joined) kept (agg.Max column)) }
 {
     let cell = joined.cell(column)?;
-    let guess = case(alloc, joined.guessed(), cell.sg(), PExpr::Column(kept + 1))?;
-    let lower = case(alloc, joined.surely(), cell.lo(), PExpr::Column(kept))?;
+    let guess = case(alloc, joined.guessed(), cell.sg(), PExpr::Column(kept + 1));
+    let lower = case(alloc, joined.surely(), cell.lo(), PExpr::Column(kept));
+    let (guess, lower) = both(guess, lower)?;
     four(alloc, cell.hi(), guess, lower, cell.lo())
 }

@@ -11,8 +11,8 @@ ghost use Rattle.au_rwgroup.specs.JoinedPlaces.{places_of};
 
 use crate::count_terms::{all_sure, positive, zero};
 use crate::joined_row::JoinedRow;
-use au_plain::PExpr;
-use au_rwexpr::{RangeColumns, and, case, same_guesses};
+use au_plain::{PExpr, and, both, case};
+use au_rwexpr::{RangeColumns, same_guesses};
 use au_value::NoMemory;
 use std::alloc::Global;
 
@@ -26,16 +26,11 @@ pub(crate) fn push_tests(
 ) -> Result<(), NoMemory>
     ensures { OnOk result (map pterm columns.new.items ≡ map pterm columns.old.items ++ (tests (places_of joined) ++ weights (places_of joined))) }
 {
-    let sure = keys_are_sure(alloc, joined)?;
-    let same = belongs_to_box(alloc, joined)?;
-    let count = sure_copies(alloc, joined)?;
-    let certain = has_sure_copy(alloc, joined)?;
-    let guess = has_guessed_copy(alloc, joined)?;
-    columns.push(sure)?;
-    columns.push(same)?;
-    columns.push(count)?;
-    columns.push(certain)?;
-    columns.push(guess)?;
+    columns.push(keys_are_sure(alloc, joined)?)?;
+    columns.push(belongs_to_box(alloc, joined)?)?;
+    columns.push(sure_copies(alloc, joined)?)?;
+    columns.push(has_sure_copy(alloc, joined)?)?;
+    columns.push(has_guessed_copy(alloc, joined)?)?;
     Ok(())
 }
 
@@ -43,9 +38,10 @@ pub(crate) fn push_tests(
 fn keys_are_sure(alloc: Global, joined: JoinedRow) -> Result<PExpr, NoMemory>
     ensures { IfOk result (λ e. pterm e ≡ term.And (are_sure joined.row joined.keys) (are_sure 0 joined.keys)) }
 {
-    let row = all_sure(alloc, RangeColumns::at(joined.row)?, joined.keys)?;
-    let both = all_sure(alloc, RangeColumns::at(0)?, joined.keys)?;
-    and(alloc, row, both)
+    let (row, own) = (RangeColumns::at(joined.row)?, RangeColumns::at(0)?);
+    let row = all_sure(alloc, row, joined.keys);
+    let (row, own) = both(row, all_sure(alloc, own, joined.keys))?;
+    and(alloc, row, own)
 }
 
 // Whether the row has the guesses of the box.
@@ -60,7 +56,8 @@ fn belongs_to_box(alloc: Global, joined: JoinedRow) -> Result<PExpr, NoMemory>
 fn sure_copies(alloc: Global, joined: JoinedRow) -> Result<PExpr, NoMemory>
     ensures { IfOk result (λ e. pterm e ≡ term.Case (is_sure (places_of joined)) (lo joined.triple) zero_term) }
 {
-    case(alloc, joined.is_sure(), joined.counts()?.lo(), zero())
+    let counts = joined.counts()?;
+    case(alloc, joined.is_sure(), counts.lo(), zero())
 }
 
 // Whether that is not 0.

@@ -8,8 +8,8 @@ ghost use Rattle.au_rwgroup.specs.GroupPlan as plan;
 
 use crate::count_terms::positive;
 use au_algebra::Agg;
-use au_plain::PExpr;
-use au_rwexpr::{RangeColumns, case, push_cells, push_three};
+use au_plain::{PExpr, beside, case};
+use au_rwexpr::{RangeColumns, push_cells, push_three};
 use au_value::NoMemory;
 use std::alloc::Global;
 
@@ -67,9 +67,8 @@ fn push_sum(
     requires { place + 3 < 2 ^ 64 }
     ensures { OnOk result (map pterm columns.new.items ≡ map pterm columns.old.items ++ plan.result_columns (is_positive (term.Column tests.there)) (is_positive (term.Column tests.guess)) place (agg.Sum 0)) }
 {
-    let guess = guess_or(alloc, tests, place + 1, PExpr::Column(place))?;
     columns.push(PExpr::Column(place))?;
-    columns.push(guess)?;
+    columns.push(guess_or(alloc, tests, place + 1, PExpr::Column(place))?)?;
     columns.push(PExpr::Column(place + 2))?;
     Ok(())
 }
@@ -83,11 +82,9 @@ fn push_min(
     requires { place + 3 < 2 ^ 64 }
     ensures { OnOk result (map pterm columns.new.items ≡ map pterm columns.old.items ++ plan.result_columns (is_positive (term.Column tests.there)) (is_positive (term.Column tests.guess)) place (agg.Min 0)) }
 {
-    let guess = guess_or(alloc, tests, place + 1, PExpr::Column(place))?;
-    let inner = inner_end(alloc, tests, place)?;
     columns.push(PExpr::Column(place))?;
-    columns.push(guess)?;
-    columns.push(inner)?;
+    columns.push(guess_or(alloc, tests, place + 1, PExpr::Column(place))?)?;
+    columns.push(inner_end(alloc, tests, place)?)?;
     Ok(())
 }
 
@@ -100,10 +97,9 @@ fn push_max(
     requires { place + 3 < 2 ^ 64 }
     ensures { OnOk result (map pterm columns.new.items ≡ map pterm columns.old.items ++ plan.result_columns (is_positive (term.Column tests.there)) (is_positive (term.Column tests.guess)) place (agg.Max 0)) }
 {
+    columns.push(inner_end(alloc, tests, place)?)?;
     let inner = inner_end(alloc, tests, place)?;
-    let guess = guess_or(alloc, tests, place + 1, inner_end(alloc, tests, place)?)?;
-    columns.push(inner)?;
-    columns.push(guess)?;
+    columns.push(guess_or(alloc, tests, place + 1, inner)?)?;
     columns.push(PExpr::Column(place))?;
     Ok(())
 }
@@ -112,7 +108,7 @@ fn push_max(
 fn guess_or(alloc: Global, tests: GroupTests, guess: usize, lower: PExpr) -> Result<PExpr, NoMemory>
     ensures { IfOk result (λ e. pterm e ≡ term.Case (is_positive (term.Column tests.guess)) (term.Column guess) (pterm lower)) }
 {
-    let guessed = positive(alloc, PExpr::Column(tests.guess))?;
+    let (guessed, lower) = beside(positive(alloc, PExpr::Column(tests.guess)), lower)?;
     case(alloc, guessed, PExpr::Column(guess), lower)
 }
 

@@ -1,5 +1,5 @@
 //! Total as a plan.
-ghost use Rattle.std.specs.Prelude.{◌≡◌, ◌≤◌, ◌+◌, ◌*◌, ◌++◌, ◌∷◌, [], IfOk, OnOk, length, map};
+ghost use Rattle.std.specs.Prelude.{◌≡◌, ◌≤◌, ◌+◌, ◌*◌, ◌++◌, ◌∷◌, [], IfOk, OnOk, length, map, pos, replicate};
 ghost use Rattle.au_plain.specs.PTerms.{pterm};
 ghost use Rattle.au_plain.specs.PTerms as term;
 ghost use Rattle.au_plain.specs.Plans.{plan_tree};
@@ -8,6 +8,7 @@ ghost use Rattle.au_plain.specs.PlanNumbers.{scans};
 ghost use Rattle.au_rwexpr.specs.Cells.{run};
 ghost use Rattle.au_rwexpr.specs.Counts.{one_term};
 ghost use Rattle.au_rwexpr.specs.Flatten.{three};
+ghost use Rattle.au_value.specs.declared.value.Value.TheVariants as value;
 ghost use Rattle.au_rwgroup.specs.Gives.{Totals};
 ghost use Rattle.au_rwgroup.specs.Totals.{agg_place, sum_terms, sums, total as totalled, total_columns as terms_of, total_sums as sums_of};
 
@@ -15,8 +16,8 @@ use crate::count_terms::{one, signed};
 use crate::literal_rows::{one_row, repeated};
 use au_algebra::Agg;
 use au_combine::{group, push_run};
-use au_plain::{Layout, PAgg, PExpr, Plan};
-use au_rwexpr::{RangeColumns, behind, extend_all, keep, multiply, union};
+use au_plain::{Layout, PAgg, PExpr, Plan, extend_all, keep, multiply, union};
+use au_rwexpr::{RangeColumns, behind};
 use au_value::{NoMemory, Value};
 use std::alloc::Global;
 
@@ -37,10 +38,17 @@ fn total_plan(alloc: Global, of: Plan, aggs: &[Agg], columns: usize) -> Result<P
     ensures { IfOk result (λ p. plan_tree p ≡ totalled columns aggs.now (plan_tree of)) }
 {
     if aggs.is_empty() {
-        one_row(alloc, 3, repeated(alloc, &Value::Int(1), 3)?)
+        row_of_ones(alloc)
     } else {
         sums_plan(alloc, of, aggs, columns)
     }
+}
+
+// The triple of one copy, and no columns.
+fn row_of_ones(alloc: Global) -> Result<Plan, NoMemory>
+    ensures { IfOk result (λ p. plan_tree p ≡ tree.Rows 3 (replicate 3 (value.Int (pos 1)) ∷ [])) }
+{
+    one_row(alloc, 3, repeated(alloc, &Value::Int(1), 3)?)
 }
 
 // The sums over all rows and a row of zeros, with the triple of one copy.
@@ -100,12 +108,9 @@ fn push_terms(
 ) -> Result<(), NoMemory>
     ensures { OnOk result (map pterm columns.new.items ≡ map pterm columns.old.items ++ sum_terms triple.first own.first) }
 {
-    let low = signed(alloc, triple.hi(), triple.lo(), own.first)?;
-    let guess = multiply(alloc, triple.sg(), own.sg())?;
-    let high = signed(alloc, triple.lo(), triple.hi(), own.first + 2)?;
-    columns.push(low)?;
-    columns.push(guess)?;
-    columns.push(high)?;
+    columns.push(signed(alloc, triple.hi(), triple.lo(), own.first)?)?;
+    columns.push(multiply(alloc, triple.sg(), own.sg())?)?;
+    columns.push(signed(alloc, triple.lo(), triple.hi(), own.first + 2)?)?;
     Ok(())
 }
 

@@ -19,8 +19,6 @@ mod select;
 mod setting;
 mod shape;
 mod terms;
-#[cfg(test)]
-mod tests;
 mod theorems;
 mod typed;
 

@@ -1,4 +1,5 @@
 pub mod Adding
+pub mod Joining
 pub mod Laws
 pub mod Numeral
 pub mod Order

@@ -5,6 +5,8 @@ ghost use Rattle.au_value.specs.Adding.{no_terms, with_term};
 use crate::faults::Overflow;
 use std::marker::Model;
 
+mod joining;
+
 /// The sum of some numbers, and the sum of their magnitudes, which bounds each part of the sum.
 ///
 /// The total of a list of terms is one number whatever their order, and so is whether they are refused.

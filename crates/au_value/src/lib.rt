@@ -30,6 +30,3 @@ pub use range::Range;
 pub use theorems::{hull_holds_both, order_is_total};
 pub use value::{Value, compare, copies, copy, kind, order};
 pub use word::Word;
-
-#[cfg(test)]
-mod tests;

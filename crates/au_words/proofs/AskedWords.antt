@@ -6,11 +6,13 @@ use Rattle.std.specs.Str.{bytes_eq}
 use Rattle.std.specs.Str.Parse.{digits_value}
 use Rattle.std.proofs.lemmas.Bool.{true≢false}
 use Rattle.au_words.specs.Words.{Asked, Text, asked_demo, asked_of, demo, is_number, is_option, positionals, query, request_of, table_fault, unless}
-use Rattle.au_words.specs.CommandLine.{IsDemo, IsQuery, is_demo_form}
+use Rattle.au_words.specs.CommandLine.{IsDemo, IsQuery, IsUsage, is_demo_form}
 use Rattle.au_words.specs.declared.fault.UsageFault.{UsageFault}
 use Rattle.au_words.specs.declared.fault.UsageFault.TheVariants.{Words}
 use Rattle.au_words.specs.declared.words.Command.{Command}
-use Rattle.au_words.specs.declared.words.Command.TheVariants.{Answer, Direct, Guess}
+use Rattle.au_words.specs.declared.words.Command.TheVariants.{Answer, Direct, Guess, Ua}
+use Rattle.au_words.specs.declared.words.WordsFault.{WordsFault}
+use Rattle.au_words.specs.declared.words.WordsFault.TheVariants.{NoMemory, Usage}
 use Rattle.au_words.proofs.Takes.{named, word_of}
 
 abbrev AsksQuery : Command → Text → List Text → Type 0
@@ -20,6 +22,7 @@ asks_by : (command : Command) (rest : List Text) → IsQuery command (word_of co
 asks_by Answer rest h = rw h.1 refl
 asks_by Direct rest h = rw h.1 refl
 asks_by Guess rest h = rw h.1 refl
+asks_by Ua rest h = rw h.1 refl
 
 -- a query's words ask for its request, unless a table word is wrong
 pub asks_query : (command : Command) (words : List Text) → IsQuery command words
@@ -29,6 +32,12 @@ asks_query command (word ∷ rest) h =
     let e = named word command h.0 in
     let moved : IsQuery command (word_of command ∷ rest) = subst (λ w. IsQuery command (w ∷ rest)) e h in
     ap (λ w. asked_of (w ∷ rest)) e ∙ asks_by command rest moved
+
+-- a wrong table word is what is wrong with a query's words
+pub refused_query : (e : WordsFault) (command : Command) (words : List Text) → IsQuery command words
+    → IsUsage e (λ fault. table_fault (drop 1 (positionals (drop 1 words))) ≡ Some fault) → IsUsage e (λ fault. asked_of words ≡ Err fault)
+refused_query (Usage fault) command words h is = asks_query command words h ∙ ap (λ wrong. unless wrong (query (request_of command (drop 1 words)))) is
+refused_query NoMemory command words h is = tt
 
 -- the numbers of a demonstration
 abbrev pub demo_by : Bool → Bool → ℕ → ℕ → Result Asked UsageFault

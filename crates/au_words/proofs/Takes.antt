@@ -12,7 +12,7 @@ use Rattle.clap.proofs.OnLiterals.{clap_on_literals}
 use Rattle.au_words.specs.Words.{is_option, is_query_form, positionals, query_command}
 use Rattle.au_words.specs.CommandLine.{HasDemo, HasQuery, audb, demo_line, is_taken, takes_options}
 use Rattle.au_words.specs.declared.words.Command.{Command}
-use Rattle.au_words.specs.declared.words.Command.TheVariants.{Answer, Direct, Guess}
+use Rattle.au_words.specs.declared.words.Command.TheVariants.{Answer, Direct, Guess, Ua}
 use Rattle.au_words.proofs.RowsById.{row_for}
 use Rattle.au_words.proofs.WordSteps.{line, plain, state}
 use Rattle.au_words.proofs.QueryWalk.{taken, whole_walk}
@@ -51,18 +51,21 @@ abbrev pub word_of : Command → Text
 word_of Answer = codes "answer"
 word_of Direct = codes "direct"
 word_of Guess = codes "guess"
+word_of Ua = codes "ua"
 
 stops : (command : Command) (rest : List Text) → fold (walked top.rules names) (state false 1 [] None) (word_of command ∷ rest) ≡ stopped (word_of command) rest
 unfolding walked
 stops Answer rest = keeps (codes "answer") [] rest
 stops Direct rest = keeps (codes "direct") [] rest
 stops Guess rest = keeps (codes "guess") [] rest
+stops Ua rest = keeps (codes "ua") [] rest
 
 passes_above : (command : Command) (rest : List Text) → walk_passes top names (state false 1 [] None) (word_of command ∷ rest) ≡ true
 unfolding walked walk_passes
 passes_above Answer rest = kept_pass (codes "answer") [] rest
 passes_above Direct rest = kept_pass (codes "direct") [] rest
 passes_above Guess rest = kept_pass (codes "guess") [] rest
+passes_above Ua rest = kept_pass (codes "ua") [] rest
 
 -- the facts of the form
 record Form (options : Bool) (rest : List Text) : Type 0 where
@@ -106,6 +109,7 @@ form_of : (command : Command) (rest : List Text) → is_query_form command rest 
 form_of Answer rest form = two_options rest form
 form_of Direct rest form = two_options rest form
 form_of Guess rest form = no_options rest form
+form_of Ua rest form = no_options rest form
 
 level_below : (command : Command) (rest : List Text) → Form (takes_options command) rest → level_passes (line (takes_options command) (word_of command)) [] nothing_held rest false ≡ true
 level_below command rest f = level_takes (takes_options command) (word_of command) rest _ _ _ (whole_walk (takes_options command) (word_of command) rest f.all f.table_once f.combine_once)
@@ -114,6 +118,7 @@ takes_by : (command : Command) (rest : List Text) → level_passes (line (takes_
 takes_by Answer rest below = rw (simple, stops Answer rest, passes_above Answer rest, below) refl
 takes_by Direct rest below = rw (simple, stops Direct rest, passes_above Direct rest, below) refl
 takes_by Guess rest below = rw (simple, stops Guess rest, passes_above Guess rest, below) refl
+takes_by Ua rest below = rw (simple, stops Ua rest, passes_above Ua rest, below) refl
 
 -- words of the form are taken
 pub query_takes : (command : Command) (rest : List Text) → is_query_form command rest ≡ true → takes audb (word_of command ∷ rest) ≡ true
@@ -123,6 +128,7 @@ found_by : (command : Command) (rest : List Text) → subcommand_of audb (word_o
 found_by Answer rest = rw (stops Answer rest) refl
 found_by Direct rest = rw (stops Direct rest) refl
 found_by Guess rest = rw (stops Guess rest) refl
+found_by Ua rest = rw (stops Ua rest) refl
 
 -- and so their matches are known
 pub query_found : (command : Command) (rest : List Text) → is_query_form command rest ≡ true
@@ -140,14 +146,16 @@ unwrapped : (x command : Command) → Some x ≡ Some command → x ≡ command
 unwrapped x command e = ap (λ o. unwrap_or o x) e
 
 pub named : (word : Text) (command : Command) → query_command word ≡ Some command → word ≡ word_of command
-named word command h = by_case (bytes_eq word (codes "answer")) (bytes_eq word (codes "direct")) (bytes_eq word (codes "guess")) refl refl refl h
+named word command h =
+    by_case (bytes_eq word (codes "answer")) (bytes_eq word (codes "direct")) (bytes_eq word (codes "guess")) (bytes_eq word (codes "ua")) refl refl refl refl h
   where
-    by_case : (a d g : Bool) → bytes_eq word (codes "answer") ≡ a → bytes_eq word (codes "direct") ≡ d → bytes_eq word (codes "guess") ≡ g
-        → (if a then Some Answer else if d then Some Direct else if g then Some Guess else None) ≡ Some command → word ≡ word_of command
-    by_case true d g ea ed eg e = (bytes_eq-Decides word (codes "answer")).0 ea ∙ ap word_of (unwrapped Answer command e)
-    by_case false true g ea ed eg e = (bytes_eq-Decides word (codes "direct")).0 ed ∙ ap word_of (unwrapped Direct command e)
-    by_case false false true ea ed eg e = (bytes_eq-Decides word (codes "guess")).0 eg ∙ ap word_of (unwrapped Guess command e)
-    by_case false false false ea ed eg e = absurd (true≢false (sym (ap is_some e)))
+    by_case : (a d g u : Bool) → bytes_eq word (codes "answer") ≡ a → bytes_eq word (codes "direct") ≡ d → bytes_eq word (codes "guess") ≡ g → bytes_eq word (codes "ua") ≡ u
+        → (if a then Some Answer else if d then Some Direct else if g then Some Guess else if u then Some Ua else None) ≡ Some command → word ≡ word_of command
+    by_case true d g u ea ed eg eu e = (bytes_eq-Decides word (codes "answer")).0 ea ∙ ap word_of (unwrapped Answer command e)
+    by_case false true g u ea ed eg eu e = (bytes_eq-Decides word (codes "direct")).0 ed ∙ ap word_of (unwrapped Direct command e)
+    by_case false false true u ea ed eg eu e = (bytes_eq-Decides word (codes "guess")).0 eg ∙ ap word_of (unwrapped Guess command e)
+    by_case false false false true ea ed eg eu e = (bytes_eq-Decides word (codes "ua")).0 eu ∙ ap word_of (unwrapped Ua command e)
+    by_case false false false false ea ed eg eu e = absurd (true≢false (sym (ap is_some e)))
 
 -- ---- a demonstration
 

@@ -19,7 +19,7 @@ use Rattle.au_words.specs.declared.fault.UsageFault.TheVariants.{Words}
 use Rattle.au_words.specs.declared.words.form.Form.{Form}
 use Rattle.au_words.specs.declared.words.form.Form.TheVariants as form
 use Rattle.au_words.specs.declared.words.Command.{Command}
-use Rattle.au_words.specs.declared.words.Command.TheVariants.{Guess}
+use Rattle.au_words.specs.declared.words.Command.TheVariants.{Guess, Ua}
 use Rattle.au_words.specs.declared.words.Request.{Request}
 use Rattle.au_words.specs.declared.words.TableWord.{TableWord}
 use Rattle.au_words.specs.declared.words.WordsFault.{WordsFault}
@@ -94,6 +94,7 @@ tables_rule = record (new_rule (codes "TABLE")) { action = Some Append }
 
 abbrev pub takes_options : Command → Bool
 takes_options Guess = false
+takes_options Ua = false
 takes_options _ = true
 
 abbrev pub with_options : Bool → App → App
@@ -116,7 +117,8 @@ audb =
     let answer = with_subcommand top (query_line true (codes "answer")).top in
     let direct = with_subcommand answer (query_line true (codes "direct")).top in
     let guess = with_subcommand direct (query_line false (codes "guess")).top in
-    with_subcommand guess demo_line.top
+    let ua = with_subcommand guess (query_line false (codes "ua")).top in
+    with_subcommand ua demo_line.top
 
 abbrev pub HasNoGlobals : Line → Type 0
 HasNoGlobals line = (out-Command line).has_globals ≡ false

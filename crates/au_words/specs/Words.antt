@@ -10,7 +10,7 @@ use Rattle.std.specs.Str.Parse.{digits_value}
 use Rattle.au_words.specs.declared.fault.UsageFault.{UsageFault}
 use Rattle.au_words.specs.declared.fault.UsageFault.TheVariants.{Words, BadTable, SameTable}
 use Rattle.au_words.specs.declared.words.Command.{Command}
-use Rattle.au_words.specs.declared.words.Command.TheVariants.{Answer, Direct, Guess}
+use Rattle.au_words.specs.declared.words.Command.TheVariants.{Answer, Direct, Guess, Ua}
 
 abbrev pub Text : Type 0
 Text = List ℕ
@@ -86,10 +86,12 @@ query_command word =
     if bytes_eq word (codes "answer") then Some Answer
     else if bytes_eq word (codes "direct") then Some Direct
     else if bytes_eq word (codes "guess") then Some Guess
+    else if bytes_eq word (codes "ua") then Some Ua
     else None
 
 abbrev pub options_of : Command → List Text
 options_of Guess = []
+options_of Ua = []
 options_of _ = codes "--table" ∷ codes "--combine" ∷ []
 
 -- whether the words are the command's options, a query and at least one table word

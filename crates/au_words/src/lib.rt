@@ -14,8 +14,6 @@
 
 mod fault;
 mod words;
-#[cfg(test)]
-mod words_tests;
 
 pub use fault::UsageFault;
 pub use words::{Asked, Command, CommandLine, Request, TableWord, WordsFault};

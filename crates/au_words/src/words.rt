@@ -26,6 +26,9 @@ pub enum Command {
 
     /// The answer over the selected-guess world.
     Guess,
+
+    /// The rows of the selected-guess world, each with how often it is certain.
+    Ua,
 }
 
 /// A table word: a table's name and the path of its file.

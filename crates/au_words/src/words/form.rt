@@ -3,7 +3,7 @@ ghost use Rattle.std.specs.Prelude.{◌≡◌, ◌∷◌, false, codes, length, 
 ghost use Rattle.std.specs.List.{list_all, filter};
 ghost use Rattle.std.specs.Str.{bytes_eq};
 ghost use Rattle.au_words.specs.Words.{are_options, is_option, is_query_form, options_of, query_command, positionals};
-ghost use Rattle.au_words.specs.CommandLine.{HasForm, is_demo_form, is_taken, texts};
+ghost use Rattle.au_words.specs.CommandLine.{HasForm, is_demo_form, is_taken, takes_options, texts};
 
 use crate::words::Command;
 
@@ -36,7 +36,7 @@ fn is_taken(command: Command, word: &str) -> bool
     }
     match command {
         Command::Answer | Command::Direct => word == "--table" || word == "--combine",
-        Command::Guess => false,
+        Command::Guess | Command::Ua => false,
     }
 }
 
@@ -59,13 +59,20 @@ fn is_once(name: &str, words: &[&str]) -> bool
     count_of(name, words) <= 1
 }
 
+// Whether the command takes options.
+fn takes_options(command: Command) -> bool
+    ensures { result ≡ takes_options command }
+{
+    command == Command::Answer || command == Command::Direct
+}
+
 // Whether each option that this command takes stands at most once.
 fn are_once(command: Command, words: &[&str]) -> bool
     ensures { result ≡ list_all (λ option. nat_le (length (filter (bytes_eq option) (texts words.now))) 1) (options_of command) }
 {
     let table = is_once("--table", words);
     let combine = is_once("--combine", words);
-    command == Command::Guess || (table && combine)
+    !takes_options(command) || (table && combine)
 }
 
 // Whether the options are such as this command takes, each at most once.
@@ -96,6 +103,7 @@ fn query_command(word: &str) -> Option<Command>
         "answer" => Some(Command::Answer),
         "direct" => Some(Command::Direct),
         "guess" => Some(Command::Guess),
+        "ua" => Some(Command::Ua),
         _ => None,
     }
 }

@@ -73,11 +73,13 @@ fn command_line<'a>(alloc: Global) -> Result<clap::Command<'a>, AllocError>
     let answer = query_line(alloc, true, "answer")?;
     let direct = query_line(alloc, true, "direct")?;
     let guess = query_line(alloc, false, "guess")?;
+    let ua = query_line(alloc, false, "ua")?;
     let demo = demo_line(alloc)?;
     bare_line(alloc)
         .subcommand(answer)?
         .subcommand(direct)?
         .subcommand(guess)?
+        .subcommand(ua)?
         .subcommand(demo)
 }
 

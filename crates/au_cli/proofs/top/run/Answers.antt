@@ -2,7 +2,7 @@
 use Rattle.std.proofs.Common.{subst}
 use Rattle.au_words.specs.Words.{asked_of}
 use Rattle.au_cli.specs.Causes.{Ends}
-use Rattle.au_cli.proofs.Endings.{early_comes, is_complete, no_file_rose, read_fault_rose, refusal_comes, usage_comes_first}
+use Rattle.au_cli.proofs.Endings.{early_comes, is_complete, no_file_rose, not_positive_cause, read_fault_rose, refusal_comes, usage_comes_first}
 use Rattle.au_cli.proofs.top.run.Goals as goal
 
 pub returns-clause-usage : goal.returns-clause-usage
@@ -12,6 +12,10 @@ returns-clause-usage g c fault first =
 pub returns-clause-query : goal.returns-clause-query
 returns-clause-query g c refusal first =
     early_comes (asked_of c.args.words.now) _ _ _ _ _ _ _ _ _ refusal c.answer-outcome.result c.answer-outcome.ensures.ends first
+
+pub returns-clause-not_positive : goal.returns-clause-not_positive
+returns-clause-not_positive g c at is =
+    not_positive_cause (asked_of c.args.words.now) _ _ _ _ _ _ _ _ _ c.answer-outcome.result at c.answer-outcome.ensures.ends is
 
 pub returns-clause-no_file : goal.returns-clause-no_file
 returns-clause-no_file g c i is =

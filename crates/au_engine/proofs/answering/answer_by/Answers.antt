@@ -12,7 +12,7 @@ use Rattle.au_engine.proofs.answering.answer_by.Goals as goal
 holds : (c : goal.In-Ok-typed_answer) → Answered (blocks_of c.args.tables.now) (tree c.in-Ok.typed.query) c.in-Ok.typed.kinds.items c.in-Ok-typed_answer.answer.rows
 holds c =
     answered c.args.options.combine (blocks_of c.args.tables.now) (tree c.in-Ok.typed.query) c.in-Ok.typed.kinds.items c.in-Ok-typed_answer.answer.rows
-    c.in-Ok-typed_answer.ensures.tables c.in-Ok.ensures.tree_kinds c.in-Ok-typed_answer.ensures.rows
+    c.in-Ok.ensures.tables c.in-Ok.ensures.tree_kinds c.in-Ok-typed_answer.ensures.rows
 
 pub returns-in-Ok-typed_answer-clause-relation : goal.returns-in-Ok-typed_answer-clause-relation
 returns-in-Ok-typed_answer-clause-relation c =

@@ -1,28 +1,40 @@
--- The plan can be run, and what its run gives.
-use Rattle.std.proofs.Common.{map, subst, sym}
+-- The plan of what is shown can be run, and what its run finds is the answer's.
+use Rattle.std.proofs.Common.{◌≡◌, Err, map, subst}
+use Rattle.au_expr.specs.declared.fault.EvalFault.TheVariants.{Overflow}
 use Rattle.au_algebra.specs.Trees.{tree}
+use Rattle.au_translate.specs.Translate.{bounded_table}
 use Rattle.au_plain.specs.Plans.{plan_tree}
 use Rattle.au_exec.specs.Outcomes.{rows_of}
 use Rattle.au_engine.specs.Answers.{blocks_of}
-use Rattle.au_engine.specs.Plans.{IsReady}
-use Rattle.au_engine.proofs.PlanRuns.{can_run, ran}
+use Rattle.au_engine.specs.Stages.{AddsTree}
+use Rattle.au_engine.proofs.PlanRuns.{shown_found, shown_leaves, shown_runs, tree_leaves}
 use Rattle.au_engine.proofs.running.encoded_rows.Goals as goal
 
-pub run_list-requires : goal.run_list-requires
-run_list-requires c =
-    let ready = c.in-Ok.ready in
-    let ts = blocks_of c.args.tables.now in
-    let q = tree c.args.query.now in
-    let p = plan_tree ready.planned.plan in
-    let n = ready.planned.layout.columns in
-    can_run ts q p n (map rows_of c.as_slice.result.now) (subst (λ held. IsReady ts q p n (map rows_of held)) (sym c.as_slice.ensures.value) c.in-Ok.ensures)
+pub returns-in-Err-clause-overflow : goal.returns-in-Err-clause-overflow
+returns-in-Err-clause-overflow c e =
+    let is : c.in-Err.fault ≡ Overflow = cc in
+    tree_leaves c.args.combined (tree c.args.query.now) (map bounded_table (blocks_of c.args.tables.now)) (c.in-Err.ensures.overflow (λ i. Err (is i)))
 
-pub returns-in-Ok-run_list-clause-rows : goal.returns-in-Ok-run_list-clause-rows
-returns-in-Ok-run_list-clause-rows c =
-    let ready = c.in-Ok.ready in
-    let ts = blocks_of c.args.tables.now in
-    let q = tree c.args.query.now in
-    let p = plan_tree ready.planned.plan in
-    let n = ready.planned.layout.columns in
-    ran ts q p n (map rows_of c.as_slice.result.now) (subst (λ held. IsReady ts q p n (map rows_of held)) (sym c.as_slice.ensures.value) c.in-Ok.ensures)
-    (rows_of c.in-Ok-run_list.rows) c.in-Ok-run_list.ensures.rows
+pub run-requires : goal.run-requires
+run-requires c =
+    shown_runs c.args.combined (blocks_of c.args.tables.now) (tree c.args.query.now) c.requires (map rows_of c.staged.new.tables.items) (plan_tree c.in-Ok.planned.plan) (plan_tree c.in-Ok-shown.planned.plan)
+    c.in-Ok.planned.layout.columns c.in-Ok-shown.planned.layout.columns c.in-Ok-shown.ensures.columns c.in-Ok-shown.ensures.plan
+    (subst (λ xs. AddsTree (blocks_of c.args.tables.now) (tree c.args.query.now) (map rows_of xs) (map rows_of c.staged.new.tables.items) (plan_tree c.in-Ok.planned.plan) c.in-Ok.planned.layout.columns)
+    c.new-held.ensures.items c.in-Ok.ensures.plan)
+
+pub returns-in-Ok-run-clause-rows : goal.returns-in-Ok-run-clause-rows
+returns-in-Ok-run-clause-rows c =
+    shown_found c.args.combined (blocks_of c.args.tables.now) (tree c.args.query.now) c.requires (map rows_of c.staged.new.tables.items) (plan_tree c.in-Ok.planned.plan) (plan_tree c.in-Ok-shown.planned.plan)
+    c.in-Ok.planned.layout.columns c.in-Ok-shown.planned.layout.columns c.in-Ok-shown.ensures.columns c.in-Ok-shown.ensures.plan
+    (subst (λ xs. AddsTree (blocks_of c.args.tables.now) (tree c.args.query.now) (map rows_of xs) (map rows_of c.staged.new.tables.items) (plan_tree c.in-Ok.planned.plan) c.in-Ok.planned.layout.columns)
+    c.new-held.ensures.items c.in-Ok.ensures.plan)
+    (rows_of c.in-Ok-run.rows) c.in-Ok-run.ensures.rows
+
+pub returns-in-Err-run-clause-overflow : goal.returns-in-Err-run-clause-overflow
+returns-in-Err-run-clause-overflow c e =
+    let is : c.in-Err-run.fault ≡ Overflow = cc in
+    shown_leaves c.args.combined (blocks_of c.args.tables.now) (tree c.args.query.now) c.requires (map rows_of c.staged.new.tables.items) (plan_tree c.in-Ok.planned.plan) (plan_tree c.in-Ok-shown.planned.plan)
+    c.in-Ok.planned.layout.columns c.in-Ok-shown.planned.layout.columns c.in-Ok-shown.ensures.columns c.in-Ok-shown.ensures.plan
+    (subst (λ xs. AddsTree (blocks_of c.args.tables.now) (tree c.args.query.now) (map rows_of xs) (map rows_of c.staged.new.tables.items) (plan_tree c.in-Ok.planned.plan) c.in-Ok.planned.layout.columns)
+    c.new-held.ensures.items c.in-Ok.ensures.plan)
+    (c.in-Err-run.ensures.overflow (λ i. Err (is i)))

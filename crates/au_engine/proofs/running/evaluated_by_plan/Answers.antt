@@ -1,5 +1,6 @@
--- The rows of the plan's run decode to the relation.
-use Rattle.std.proofs.Common.{◌∙◌}
+-- The rows that were found decode to a relation of the answer's normal form.
+use Rattle.std.proofs.Common.{◌∙◌, ap}
+use Rattle.au_algebra.specs.Bounded.{normal}
 use Rattle.au_algebra.specs.Trees.{tree}
 use Rattle.au_exec.specs.Outcomes.{rows_of}
 use Rattle.au_engine.specs.Answers.{blocks_of}
@@ -7,8 +8,9 @@ use Rattle.au_engine.proofs.PlanRuns.{decodable, decoded}
 use Rattle.au_engine.proofs.running.evaluated_by_plan.Goals as goal
 
 pub decode-requires : goal.decode-requires
-decode-requires c = decodable (blocks_of c.args.tables.now) (tree c.args.query.now) c.in-Ok.found.1 (rows_of c.in-Ok.found.0) c.in-Ok.ensures.rows
+decode-requires c = decodable c.args.combined (blocks_of c.args.tables.now) (tree c.args.query.now) c.in-Ok.found.1 (rows_of c.in-Ok.found.0) c.in-Ok.ensures.rows
 
 pub returns-in-Ok-decode-clause-rows : goal.returns-in-Ok-decode-clause-rows
 returns-in-Ok-decode-clause-rows c =
-    c.in-Ok-decode.ensures.rows ∙ decoded (blocks_of c.args.tables.now) (tree c.args.query.now) c.in-Ok.found.1 (rows_of c.in-Ok.found.0) c.in-Ok.ensures.rows
+    ap normal c.in-Ok-decode.ensures.rows
+    ∙ decoded c.args.combined (blocks_of c.args.tables.now) (tree c.args.query.now) c.in-Ok.found.1 (rows_of c.in-Ok.found.0) c.in-Ok.ensures.rows

@@ -10,5 +10,5 @@ pub returns-in-Ok-resolve-clause-tree_kinds : goal.returns-in-Ok-resolve-clause-
 returns-in-Ok-resolve-clause-tree_kinds c =
     let q = tree c.in-Ok-resolve.typed.query in
     ap (λ ks. kinds_of ks q) (sym (same_kinds c.args.tables.now))
-    ∙ ap (λ rs. kinds_of (table_kinds rs) q) (sym (ap (λ ss. relations ss) c.as_slice.ensures.value ∙ c.in-Ok.ensures))
+    ∙ ap (λ rs. kinds_of (table_kinds rs) q) (sym (ap (λ ss. relations ss) c.as_slice.ensures.value ∙ c.in-Ok.ensures.relations))
     ∙ c.in-Ok-resolve.ensures.typed

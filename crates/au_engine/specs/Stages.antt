@@ -1,0 +1,99 @@
+-- A plan that is run in stages: of some operators the input is run first, and its rows stand as a table for the rest.
+use Rattle.std.specs.Prelude.{◌≡◌, ℕ, Bool, true, false, List, [], ◌++◌, length, map, Some, ℤ, if◌then◌else◌}
+use Rattle.std.specs.List.{AllZip}
+use Rattle.au_value.specs.declared.kinds.Kind.{Kind}
+use Rattle.au_expr.specs.Figures.{Fit}
+use Rattle.au_algebra.specs.Bounded.{Bounded, bounded, combine}
+use Rattle.au_algebra.specs.Fits.{numbers, triple_numbers}
+use Rattle.au_algebra.specs.Laws.{IsRelation}
+use Rattle.au_algebra.specs.Lists.{SameUpToOrder, same_row}
+use Rattle.au_algebra.specs.Ordinary.{Rows}
+use Rattle.au_algebra.specs.Trees.{Tree}
+use Rattle.au_algebra.specs.Typing.{kinds_of}
+use Rattle.au_blocks.specs.Tables.{BlockTable, column_kinds}
+use Rattle.au_translate.specs.Translate.{bounded_table}
+use Rattle.au_plain.specs.PlanKinds.{FitRows, FitTables, HaveKinds}
+use Rattle.au_plain.specs.Plans.{PlanTree}
+use Rattle.au_combine.specs.Gives.{Combines}
+use Rattle.au_encode.specs.Encode.{encode}
+use Rattle.au_encode.specs.Gives.{Gives}
+
+-- two lists have the same rows, each equally often
+abbrev pub SameRows : Rows → Rows → Type 0
+SameRows xs ys = SameUpToOrder same_row xs ys
+
+-- A plan gives a relation over tables that stand behind `n` others, whatever these are and whatever stands behind: the
+-- tables are held up to the order of their rows, which have kinds, and numbers in the range.
+pub record GivesOver (n : ℕ) (held : List Rows) (p : PlanTree) (ks : List Kind) (rows : Bounded) (ns : List ℤ) : Type 0 where
+  pub kinds : List (List Kind)
+  pub tables : List Rows
+  pub typed : AllZip HaveKinds kinds tables
+  pub fit : FitTables tables
+  pub same : AllZip SameRows held tables
+  pub gives :
+      (front back : List (List Kind)) (before after : List Rows) → length front ≡ n → length before ≡ n → FitTables ((before ++ tables) ++ after) →
+      Gives ((front ++ kinds) ++ back) ((before ++ tables) ++ after) p ks rows ns
+
+-- Tables were put behind others, and over them a plan gives a relation of `c` columns.
+pub record Adds (old new : List Rows) (p : PlanTree) (c : ℕ) (ks : List Kind) (rows : Bounded) (ns : List ℤ) : Type 0 where
+  pub added : List Rows
+  pub behind : new ≡ old ++ added
+  pub columns : length ks ≡ c
+  pub over : GivesOver (length old) added p ks rows ns
+
+-- the relation is that of a block table
+abbrev pub AddsTable : BlockTable → List Rows → List Rows → PlanTree → ℕ → Type 0
+AddsTable t old new p c = (ns : List ℤ) → Adds old new p c (column_kinds t) (bounded_table t) ns
+
+-- the relation and the numbers are those of a tree over block tables, where it is typed
+abbrev pub AddsTree : List BlockTable → Tree → List Rows → List Rows → PlanTree → ℕ → Type 0
+AddsTree ts q old new p c =
+    (ks : List Kind) → kinds_of (map column_kinds ts) q ≡ Some ks →
+    Adds old new p c ks (bounded q (map bounded_table ts)) (numbers q (map bounded_table ts))
+
+-- a plan that gives some relation over all the tables
+abbrev pub CanRun : List Rows → PlanTree → ℕ → Type 0
+CanRun held p c = (ks : List Kind) × ((rows : Bounded) × ((ns : List ℤ) × Adds [] held p c ks rows ns))
+
+-- the rows that its run found are those of the relation, up to order, and their numbers lie in the range
+abbrev pub Finds : List Rows → PlanTree → ℕ → Rows → Type 0
+Finds held p c found =
+    (ks : List Kind) (rows : Bounded) (ns : List ℤ) → Adds [] held p c ks rows ns → SameRows found (encode rows) × FitRows (encode rows)
+
+-- no relation that the plan gives has numbers that all lie in the range
+abbrev pub LeavesRange : List Rows → PlanTree → ℕ → Type 0
+LeavesRange held p c = (ks : List Kind) (rows : Bounded) (ns : List ℤ) → Adds [] held p c ks rows ns → ¬ (Fit ns)
+
+-- one plan over the tables `held` gives whatever another gives over tables that were put behind `old`
+abbrev pub Materializes : List Rows → PlanTree → ℕ → List Rows → List Rows → PlanTree → ℕ → Type 0
+Materializes held p c old new q d =
+    (ks : List Kind) (rows : Bounded) (ns : List ℤ) → Adds [] held p c ks rows ns → Adds old new q d ks rows ns
+
+-- the same of the combined relation
+abbrev pub MaterializesCombined : List Rows → PlanTree → ℕ → List Rows → List Rows → PlanTree → ℕ → Type 0
+MaterializesCombined held p c old new q d =
+    (ks : List Kind) (rows : Bounded) (ns : List ℤ) → Adds [] held p c ks rows ns →
+    Adds old new q d ks (combine rows) (ns ++ triple_numbers (combine rows))
+
+abbrev pub LeavesRangeCombined : List Rows → PlanTree → ℕ → Type 0
+LeavesRangeCombined held p c =
+    (ks : List Kind) (rows : Bounded) (ns : List ℤ) → Adds [] held p c ks rows ns → ¬ (Fit (ns ++ triple_numbers (combine rows)))
+
+-- the relation that is shown, and its numbers
+abbrev pub shown_rows : Bool → Bounded → Bounded
+shown_rows combined rows = if combined then combine rows else rows
+
+abbrev pub own_numbers : Bool → Bounded → List ℤ
+own_numbers combined rows = if combined then triple_numbers (combine rows) else []
+
+-- the plan of the relation that is shown
+abbrev pub Shows : Bool → ℕ → PlanTree → PlanTree → Type 0
+Shows true c of p = Combines c of p
+Shows false c of p = p ≡ of
+
+-- rows of `c` encoded columns that are those of the relation that is shown of a tree over block tables, up to order
+pub record AreRowsOf (combined : Bool) (ts : List BlockTable) (q : Tree) (c : ℕ) (found : Rows) : Type 0 where
+  pub kinds : List Kind
+  pub columns : length kinds ≡ c
+  pub relation : IsRelation kinds (shown_rows combined (bounded q (map bounded_table ts)))
+  pub same : SameRows found (encode (shown_rows combined (bounded q (map bounded_table ts))))

@@ -1,0 +1,89 @@
+//! The plan of a tree, made in stages.
+//!
+//! The plan of a grouping holds its input twice, and that of a difference its combined left side. So these are run first,
+//! and their rows stand as tables: each operator of the tree is run once, and each plan grows with the tree alone.
+ghost use Rattle.std.specs.Prelude.{◌≡◌, IfOk, map};
+ghost use Rattle.au_expr.specs.Figures.{Fit};
+ghost use Rattle.au_algebra.specs.Fits.{numbers};
+ghost use Rattle.au_algebra.specs.Trees.{tree};
+ghost use Rattle.au_algebra.specs.Typing.{IsTyped};
+ghost use Rattle.au_blocks.specs.Tables.{column_kinds};
+ghost use Rattle.au_translate.specs.Translate.{bounded_table};
+ghost use Rattle.au_plain.specs.Plans.{plan_tree};
+ghost use Rattle.au_exec.specs.Outcomes.{rows_of};
+ghost use Rattle.au_engine.specs.Answers.{blocks_of};
+ghost use Rattle.au_engine.specs.Stages.{AddsTree};
+
+use crate::encoded::scanned;
+use crate::stage::{materialized, materialized_combined};
+use crate::steps::{
+    Planned, difference_of, distinct_of, group_of, product_of, project_of, select_of, total_of,
+    union_of,
+};
+use au_algebra::Query;
+use au_blocks::Table;
+use au_expr::EvalFault;
+use au_plain::PRow;
+use au_value::Word;
+use std::alloc::Global;
+
+/// The plan of a tree that is typed for block tables, over encoded tables that it puts behind others.
+///
+/// `NoMemory` comes also where a row cannot have so many columns, and `Overflow` only where a number of the tree leaves
+/// 128 bits.
+pub(crate) fn staged(
+    alloc: Global,
+    query: &Query,
+    blocks: &[(Word, Table)],
+    tables: &mut Vec<Vec<PRow>>,
+) -> Result<Planned, EvalFault>
+    requires { IsTyped (map column_kinds (blocks_of blocks.now)) (tree query.now) }
+    ensures plan { IfOk result (λ p. AddsTree (blocks_of blocks.now) (tree query.now) (map rows_of tables.old.items) (map rows_of tables.new.items) (plan_tree p.plan) p.layout.columns) }
+    ensures overflow { result ≡ Err EvalFault.Overflow → ¬ (Fit (numbers (tree query.now) (map bounded_table (blocks_of blocks.now)))) }
+{
+    match query {
+        Query::Table(i) => match blocks.get(*i) {
+            Some(table) => Ok(scanned(alloc, &table.1, tables)?),
+            None => unreachable!(),
+        },
+        Query::Select(condition, of) => {
+            let of = staged(alloc, of, blocks, tables)?;
+            Ok(select_of(alloc, condition, of)?)
+        }
+        Query::Project(items, of) => {
+            let of = staged(alloc, of, blocks, tables)?;
+            Ok(project_of(alloc, items.as_slice(), of)?)
+        }
+        Query::Product(left, right) => {
+            let left = staged(alloc, left, blocks, tables)?;
+            let right = staged(alloc, right, blocks, tables)?;
+            Ok(product_of(alloc, left, right)?)
+        }
+        Query::Union(left, right) => {
+            let left = staged(alloc, left, blocks, tables)?;
+            let right = staged(alloc, right, blocks, tables)?;
+            Ok(union_of(alloc, left, right)?)
+        }
+        Query::Difference(left, right) => {
+            let mut own = Vec::new(alloc);
+            let left = staged(alloc, left, blocks, &mut own)?;
+            let left = materialized_combined(alloc, left, own, tables)?;
+            let right = staged(alloc, right, blocks, tables)?;
+            Ok(difference_of(alloc, left, right)?)
+        }
+        Query::Distinct(of) => {
+            let of = staged(alloc, of, blocks, tables)?;
+            Ok(distinct_of(alloc, of)?)
+        }
+        Query::Group(keys, aggs, of) => {
+            let mut own = Vec::new(alloc);
+            let of = staged(alloc, of, blocks, &mut own)?;
+            let of = materialized(alloc, of, own, tables)?;
+            Ok(group_of(alloc, *keys, aggs.as_slice(), of)?)
+        }
+        Query::Total(aggs, of) => {
+            let of = staged(alloc, of, blocks, tables)?;
+            Ok(total_of(alloc, aggs.as_slice(), of)?)
+        }
+    }
+}

@@ -1,0 +1,11 @@
+-- Each call goes to a plan of fewer operators.
+use Rattle.std.proofs.Common.{◌+◌, ◌*◌}
+use Rattle.au_physical.specs.Physicals.{physical_tree}
+use Rattle.au_exec.specs.Chains.{plan_size}
+use Rattle.au_exec.proofs.open.+openings.Given as goal
+
+abbrev pub decreases-open : goal.decreases-open
+decreases-open l = 2 * plan_size (physical_tree l.plan.now)
+
+abbrev pub decreases-chained : goal.decreases-chained
+decreases-chained l = 2 * plan_size (physical_tree l.plan.now) + 1

@@ -1,0 +1,8 @@
+-- The node of the plan with rows in place of its Scans stands for the plan.
+use Rattle.std.proofs.Common.{ap}
+use Rattle.au_expr.specs.Figures.{fit}
+use Rattle.au_exec.proofs.Openings.{makes_same}
+use Rattle.au_exec.proofs.open.opened.Goals as goal
+
+pub returns : goal.returns
+returns c = makes_same _ _ _ _ c.open.result c.in_ok-read_tables.ensures.rows (ap fit c.in_ok-read_tables.ensures.numbers) c.open.ensures

@@ -1,0 +1,107 @@
+//! The next rows of a run, and all that are left.
+ghost use Rattle.std.specs.Prelude.{◌≡◌, false, true, IfOk, IsTrue, MatchResult};
+ghost use Rattle.std.specs.Vec.Iter.{into_iter_items};
+ghost use Rattle.au_expr.specs.declared.fault.EvalFault.TheVariants as fault;
+ghost use Rattle.au_exec.specs.Left.{CanPull, fits_left};
+ghost use Rattle.au_exec.specs.Outcomes.{rows_of};
+ghost use Rattle.au_exec.specs.Taken.{HasSize};
+ghost use Rattle.au_exec.specs.Runs.{Batched, CanGo, IsGoing, Same, Stepped, state_fits, state_rows};
+
+use crate::collect::collect;
+use crate::node::Node;
+use crate::open::opened;
+use crate::pull::pull;
+use crate::rows::push_row;
+use crate::source::{CHUNK, take_rows};
+use crate::state::State;
+use au_expr::EvalFault;
+use au_plain::PRow;
+use au_value::NoMemory;
+use std::alloc::Global;
+use std::mem;
+use std::vec::IntoIter;
+
+/// The next batch, and nothing where no row is left.
+pub(crate) fn advance(alloc: Global, state: &mut State) -> Result<Option<Vec<PRow>>, EvalFault>
+    requires { CanGo state.old }
+    ensures { Stepped state.old state.new result }
+{
+    begin(alloc, state)?;
+    match state {
+        State::Going(ready, node) => next(alloc, ready, node),
+        State::Waiting(_, _) => unreachable!(),
+    }
+}
+
+/// All rows that are left.
+pub(crate) fn rest(alloc: Global, state: &mut State) -> Result<Vec<PRow>, EvalFault>
+    requires { CanGo state.old }
+    ensures { MatchResult result (λ v. (rows_of v ≡ state_rows state.old) × (state_fits state.old ≡ true)) (λ f. f ≡ fault.Overflow → state_fits state.old ≡ false) }
+{
+    begin(alloc, state)?;
+    match state {
+        State::Going(ready, node) => {
+            let rows = drained(alloc, ready)?;
+            collect(alloc, rows, node)
+        }
+        State::Waiting(_, _) => unreachable!(),
+    }
+}
+
+// Makes its rows ready to be pulled.
+fn begin(alloc: Global, state: &mut State) -> Result<(), EvalFault>
+    requires { CanGo state.old }
+    ensures { MatchResult result (λ _. IsGoing state.new × Same state.old state.new) (λ f. f ≡ fault.Overflow → state_fits state.old ≡ false) }
+{
+    if let State::Waiting(plan, tables) = state {
+        let tables = mem::replace(tables, Vec::new(alloc));
+        let node = opened(alloc, plan, tables)?;
+        *state = State::Going(Vec::new(alloc).into_iter(), node);
+    }
+    Ok(())
+}
+
+// The rows that are there, moved.
+fn drained(alloc: Global, ready: &mut IntoIter<PRow>) -> Result<Vec<PRow>, NoMemory>
+    ensures { IfOk result (λ v. v.items ≡ into_iter_items ready.old) }
+{
+    let mut rows = Vec::new(alloc);
+    for row in mem::replace(ready, Vec::new(alloc).into_iter()) {
+        push_row(&mut rows, row)?;
+    }
+    Ok(rows)
+}
+
+// The next rows: of those that are there, or else those that are pulled next.
+fn next(
+    alloc: Global,
+    ready: &mut IntoIter<PRow>,
+    node: &mut Node,
+) -> Result<Option<Vec<PRow>>, EvalFault>
+    requires { CanPull node.old }
+    ensures { MatchResult result (λ batch. Batched ready.old node.old ready.new node.new batch) (λ f. f ≡ fault.Overflow → fits_left node.old ≡ false) }
+{
+    'pulling: loop {
+        let batch = take_rows(alloc, ready)?;
+        if batch.is_some() {
+            return Ok(batch);
+        }
+        let next = pull(alloc, node)?;
+        match next {
+            None => return Ok(None),
+            Some(rows) => {
+                if is_batch(&rows) {
+                    return Ok(Some(rows));
+                }
+                *ready = rows.into_iter();
+            }
+        }
+    }
+}
+
+// Whether rows are as many as a batch has.
+fn is_batch(rows: &[PRow]) -> bool
+    ensures { IsTrue result → HasSize rows.now }
+{
+    0 < rows.len() && rows.len() <= CHUNK
+}

@@ -1,0 +1,122 @@
+//! Plans that are run batch by batch.
+ghost use Rattle.std.specs.Prelude.{◌≡◌, ◌++◌, false, true, IfErr, IfOk, IfSome, map};
+ghost use Rattle.au_expr.specs.Figures.{fit};
+ghost use Rattle.au_expr.specs.declared.fault.EvalFault.TheVariants as fault;
+ghost use Rattle.au_physical.specs.PhysicalKinds.{IsPhysicalFor};
+ghost use Rattle.au_physical.specs.PhysicalMeaning.{physical_rows};
+ghost use Rattle.au_physical.specs.PhysicalNumbers.{physical_numbers};
+ghost use Rattle.au_physical.specs.Physicals.{physical_tree};
+ghost use Rattle.au_exec.specs.Advances.{Advances};
+ghost use Rattle.au_exec.specs.Outcomes.{rows_of};
+
+use crate::advance::{advance, rest};
+use crate::state::State;
+use au_expr::EvalFault;
+use au_physical::Physical;
+use au_plain::PRow;
+use au_value::NoMemory;
+use std::alloc::Global;
+use std::marker::Model;
+use std::snapshot::Snapshot;
+
+/// Rows that a run gives at once: between 1 and 256.
+pub type Batch = Vec<PRow>;
+
+/// A plan that is being run over tables.
+#[derive(Drop)]
+pub struct Run {
+    alloc: Global,
+    state: State,
+    refusal: Option<EvalFault>,
+    plan: Snapshot<Physical>,
+    tables: Snapshot<Vec<Vec<PRow>>>,
+}
+
+impl Model for Run {
+    ghost use Rattle.au_exec.specs.RunViews.{RunView};
+
+    ghost Value = { RunView };
+
+    ghost use Rattle.std.specs.Prelude.{map};
+    ghost use Rattle.au_expr.specs.Figures.{fit};
+    ghost use Rattle.au_physical.specs.PhysicalNumbers.{physical_numbers};
+    ghost use Rattle.au_physical.specs.Physicals.{physical_tree};
+    ghost use Rattle.au_exec.specs.Outcomes.{rows_of};
+    ghost use Rattle.au_exec.specs.RunViews.{IsRun};
+    ghost use Rattle.au_exec.specs.Runs.{state_rows};
+
+    ghost view = { λ r. record { rows = state_rows r.state; fits = fit (physical_numbers (physical_tree r.plan.value) (map rows_of r.tables.value.items)); refusal = r.refusal } };
+
+    ghost invariant = { λ r. IsRun r.state r.refusal (fit (physical_numbers (physical_tree r.plan.value) (map rows_of r.tables.value.items))) };
+}
+
+impl Run {
+    /// A run of a plan that is typed for the tables, before its first batch.
+    pub fn start(alloc: Global, plan: Physical, tables: Vec<Vec<PRow>>) -> Result<Run, NoMemory>
+        requires { IsPhysicalFor (map rows_of tables.items) (physical_tree plan) }
+        ensures rows { IfOk result (λ run. run.rows ≡ physical_rows (physical_tree plan) (map rows_of tables.items)) }
+        ensures fits { IfOk result (λ run. run.fits ≡ fit (physical_numbers (physical_tree plan) (map rows_of tables.items))) }
+        ensures fresh { IfOk result (λ run. run.refusal ≡ None) }
+    {
+        let given = Snapshot::of(&plan);
+        let plan = boxed_plan(alloc, plan)?;
+        Ok(Run {
+            alloc,
+            plan: given,
+            tables: Snapshot::of(&tables),
+            state: State::Waiting(plan, tables),
+            refusal: None,
+        })
+    }
+
+    /// The next batch, or nothing where no row is left. A batch has a row, and at most 256.
+    ///
+    /// `Overflow` comes only where a number of the plan leaves -2^127 to 2^127-1. After a refusal each later call gives the
+    /// same one.
+    pub fn next_batch(&mut self) -> Result<Option<Batch>, EvalFault>
+        ensures given { Advances self.old self.new result }
+        ensures fits { self.new.fits ≡ self.old.fits }
+        ensures overflow { IfErr result (λ f. f ≡ fault.Overflow → self.new.fits ≡ false) }
+    {
+        if let Some(fault) = self.refusal {
+            return Err(fault);
+        }
+        match advance(self.alloc, &mut self.state) {
+            Ok(batch) => Ok(batch),
+            Err(fault) => {
+                self.refusal = Some(fault);
+                Err(fault)
+            }
+        }
+    }
+
+    /// All rows that are left.
+    ///
+    /// A refusal that was given before is given again, and `Overflow` comes only where a number of the plan leaves -2^127
+    /// to 2^127-1.
+    pub fn all(self) -> Result<Vec<PRow>, EvalFault>
+        ensures rows { IfOk result (λ held. rows_of held ≡ self.rows) }
+        ensures fits { IfOk result (λ _. self.fits ≡ true) }
+        ensures again { IfSome self.refusal (λ f. result ≡ Err f) }
+        ensures overflow { IfErr result (λ f. f ≡ fault.Overflow → self.fits ≡ false) }
+    {
+        let Run {
+            alloc,
+            mut state,
+            refusal,
+            plan: _,
+            tables: _,
+        } = self;
+        match refusal {
+            Some(fault) => Err(fault),
+            None => rest(alloc, &mut state),
+        }
+    }
+}
+
+// The plan in a box.
+fn boxed_plan(alloc: Global, plan: Physical) -> Result<Box<Physical>, NoMemory>
+    ensures { IfOk result (λ b. b.value ≡ plan) }
+{
+    Ok(Box::new(alloc, plan)?)
+}

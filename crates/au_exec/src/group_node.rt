@@ -1,0 +1,63 @@
+//! Groups that are ready for their rows to be pulled: all rows of the node below were seen, and none is kept.
+ghost use Rattle.std.specs.Prelude.{◌≡◌, ◌&&◌, [], true, false, MatchResult};
+ghost use Rattle.std.specs.List.{AllByRecursion};
+ghost use Rattle.au_expr.specs.Figures.{fit};
+ghost use Rattle.au_expr.specs.declared.fault.EvalFault.TheVariants as fault;
+ghost use Rattle.au_plain.specs.Meaning.{plain_group};
+ghost use Rattle.au_plain.specs.PlanNumbers.{group_numbers};
+ghost use Rattle.au_exec.specs.Fitting.{HasArgument, HavePlaces};
+ghost use Rattle.au_exec.specs.Left.{CanPull, fits_left, rows_left};
+ghost use Rattle.au_exec.specs.Opened.{Makes};
+ghost use Rattle.au_exec.specs.Tables.{CanGrowAll, grow_all, grown_fit, table_of, table_with};
+
+use crate::boxed::boxed;
+use crate::groups::{Groups, add_rows, finished};
+use crate::node::Node;
+use crate::pull::pull;
+use au_expr::EvalFault;
+use au_plain::PAgg;
+use indexmap::IndexSet;
+use std::alloc::Global;
+
+/// One row for each list of values in the key columns, in the order in which they are first seen: the keys, and then the
+/// aggregates over the rows with these keys.
+pub(crate) fn grouped_node(
+    alloc: Global,
+    keys: &[usize],
+    aggs: &[PAgg],
+    of: Box<Node>,
+) -> Result<Box<Node>, EvalFault>
+    requires of { CanPull of.value }
+    requires keys { AllByRecursion (HavePlaces keys.now) (rows_left of.value) }
+    requires aggs { AllByRecursion (HasArgument (rows_left of.value)) aggs.now }
+    ensures { Makes (plain_group keys.now aggs.now (rows_left of.value)) (fits_left of.value && fit (group_numbers keys.now aggs.now (rows_left of.value))) result }
+{
+    let mut of = of;
+    let groups = folded_rows(alloc, keys, aggs, &mut of)?;
+    let rows = finished(alloc, groups)?;
+    Ok(boxed(alloc, Node::Source(rows.into_iter()))?)
+}
+
+// The groups of all rows of a node.
+fn folded_rows(
+    alloc: Global,
+    keys: &[usize],
+    aggs: &[PAgg],
+    of: &mut Node,
+) -> Result<Groups, EvalFault>
+    requires of { CanPull of.old }
+    requires grows { CanGrowAll keys.now aggs.now (table_with [] []) (rows_left of.old) }
+    ensures { MatchResult result (λ g. (table_of g ≡ grow_all keys.now aggs.now (table_with [] []) (rows_left of.old)) × (fits_left of.old ≡ true) × (grown_fit keys.now aggs.now (table_with [] []) (rows_left of.old) ≡ true)) (λ f. f ≡ fault.Overflow → fits_left of.old && grown_fit keys.now aggs.now (table_with [] []) (rows_left of.old) ≡ false) }
+{
+    let mut groups = Groups {
+        seen: IndexSet::new(alloc),
+        held: Vec::new(alloc),
+    };
+    'pulling: loop {
+        let next = pull(alloc, of)?;
+        match next {
+            None => return Ok(groups),
+            Some(rows) => add_rows(alloc, keys, aggs, &mut groups, rows)?,
+        }
+    }
+}

@@ -1,0 +1,175 @@
+//! Groups of rows by the values in their key columns, row by row.
+ghost use Rattle.std.specs.Prelude.{◌≡◌, ◌≤◌, ◌++◌, ◌∷◌, [], true, false, IfOk, IfSome, OnOk, MatchResult, map, vec_len};
+ghost use Rattle.std.specs.List.{list_any, position_or_len};
+ghost use Rattle.indexmap.specs.IndexSet.{insert_key};
+ghost use Rattle.au_expr.specs.Figures.{Fit};
+ghost use Rattle.au_expr.specs.declared.fault.EvalFault.TheVariants as fault;
+ghost use Rattle.au_algebra.specs.Lists.{same_row};
+ghost use Rattle.au_plain.specs.Meaning.{kept};
+ghost use Rattle.au_exec.specs.Fitting.{HavePlaces};
+ghost use Rattle.au_exec.specs.Folds.{fold_value};
+ghost use Rattle.au_exec.specs.Keys.{key_values, part_values};
+ghost use Rattle.au_exec.specs.Outcomes.{rows_of};
+ghost use Rattle.au_exec.specs.Tables.{CanGrow, CanGrowAll, CanPut, finished_row, folded_of, grow, grow_all, grow_numbers, grown_fit, put_at, put_numbers, table_of};
+
+use crate::fold::{Fold, add_all, first_folds};
+use crate::keep::columns;
+use crate::key::{Part, push_parts};
+use crate::rows::{push_row, push_value};
+use au_expr::EvalFault;
+use au_plain::{PAgg, PRow};
+use au_value::{NoMemory, Value};
+use indexmap::IndexSet;
+use std::alloc::Global;
+use std::mem;
+
+/// The groups of some rows: each list of key values, in the order in which they are first seen, with its aggregates.
+#[derive(Drop)]
+pub(crate) struct Groups {
+    pub(crate) seen: IndexSet<Vec<Part>>,
+    pub(crate) held: Vec<(PRow, Vec<Fold>)>,
+}
+
+/// More rows.
+pub(crate) fn add_rows(
+    alloc: Global,
+    keys: &[usize],
+    aggs: &[PAgg],
+    groups: &mut Groups,
+    rows: Vec<PRow>,
+) -> Result<(), EvalFault>
+    requires { CanGrowAll keys.now aggs.now (table_of groups.old) (rows_of rows) }
+    ensures { MatchResult result (λ _. (table_of groups.new ≡ grow_all keys.now aggs.now (table_of groups.old) (rows_of rows)) × (grown_fit keys.now aggs.now (table_of groups.old) (rows_of rows) ≡ true)) (λ f. f ≡ fault.Overflow → grown_fit keys.now aggs.now (table_of groups.old) (rows_of rows) ≡ false) }
+{
+    let mut key = Vec::new(alloc);
+    for row in rows {
+        add_row(alloc, keys, aggs, groups, &row, &mut key)?;
+    }
+    Ok(())
+}
+
+/// The row of each group: the key values, and then the aggregates.
+pub(crate) fn finished(alloc: Global, groups: Groups) -> Result<Vec<PRow>, NoMemory>
+    ensures { IfOk result (λ v. rows_of v ≡ map finished_row (table_of groups).groups) }
+{
+    let mut rows = Vec::new(alloc);
+    for (key, folds) in groups.held {
+        push_row(&mut rows, group_row(key, folds)?)?;
+    }
+    Ok(rows)
+}
+
+// The key values, and then the aggregates.
+fn group_row(key: PRow, folds: Vec<Fold>) -> Result<PRow, NoMemory>
+    ensures { IfOk result (λ v. v.items ≡ key.items ++ map fold_value folds.items) }
+{
+    let mut row = key;
+    for fold in folds {
+        push_value(&mut row, value(fold))?;
+    }
+    Ok(row)
+}
+
+// One row more.
+fn add_row(
+    alloc: Global,
+    keys: &[usize],
+    aggs: &[PAgg],
+    groups: &mut Groups,
+    row: &[Value],
+    key: &mut Vec<Part>,
+) -> Result<(), EvalFault>
+    requires { CanGrow keys.now aggs.now (table_of groups.old) row.now }
+    ensures { MatchResult result (λ _. (table_of groups.new ≡ grow keys.now aggs.now (table_of groups.old) row.now) × Fit (grow_numbers keys.now aggs.now (table_of groups.old) row.now)) (λ f. f ≡ fault.Overflow → ¬ (Fit (grow_numbers keys.now aggs.now (table_of groups.old) row.now))) }
+{
+    let place = place_of(alloc, &mut groups.seen, keys, row, key)?;
+    put(alloc, keys, aggs, &mut groups.held, place, row)?;
+    Ok(())
+}
+
+/// The place of a row's key values among those that were seen, behind the others where they are new. The key is room that
+/// is used again for each row.
+pub(crate) fn place_of(
+    alloc: Global,
+    seen: &mut IndexSet<Vec<Part>>,
+    keys: &[usize],
+    row: &[Value],
+    key: &mut Vec<Part>,
+) -> Result<usize, NoMemory>
+    requires { HavePlaces keys.now row.now }
+    ensures keys { OnOk result (key_values seen.new.keys ≡ insert_key same_row (key_values seen.old.keys) (kept keys.now row.now)) }
+    ensures place { IfOk result (λ place. place ≡ position_or_len (same_row (kept keys.now row.now)) (key_values seen.old.keys)) }
+{
+    key.clear();
+    push_parts(key, keys, row)?;
+    match known_place(seen, key) {
+        Some(place) => Ok(place),
+        None => put_key(seen, mem::replace(key, Vec::new(alloc))),
+    }
+}
+
+// The place of a key that was seen.
+fn known_place(seen: &IndexSet<Vec<Part>>, key: &[Part]) -> Option<usize>
+    ensures { IfSome result (λ place. (list_any (same_row (part_values key.now)) (key_values seen.now.keys) ≡ true) × (place ≡ position_or_len (same_row (part_values key.now)) (key_values seen.now.keys))) }
+{
+    match seen.get_index_of(key) {
+        Some(place) => Some(place),
+        None => None,
+    }
+}
+
+// Puts a key among those that were seen.
+fn put_key(seen: &mut IndexSet<Vec<Part>>, key: Vec<Part>) -> Result<usize, NoMemory>
+    ensures keys { OnOk result (key_values seen.new.keys ≡ insert_key same_row (key_values seen.old.keys) (part_values key.items)) }
+    ensures place { IfOk result (λ place. place ≡ position_or_len (same_row (part_values key.items)) (key_values seen.old.keys)) }
+{
+    let (place, _) = seen.insert_full(key)?;
+    Ok(place)
+}
+
+// A row in the group at this place, which is a new one behind the others.
+fn put(
+    alloc: Global,
+    keys: &[usize],
+    aggs: &[PAgg],
+    held: &mut Vec<(PRow, Vec<Fold>)>,
+    place: usize,
+    row: &[Value],
+) -> Result<(), EvalFault>
+    requires within { place ≤ vec_len held.old }
+    requires keys { HavePlaces keys.now row.now }
+    requires aggs { CanPut aggs.now (folded_of held.old.items) place row.now }
+    ensures { MatchResult result (λ _. (folded_of held.new.items ≡ put_at aggs.now (folded_of held.old.items) place (kept keys.now row.now) row.now) × Fit (put_numbers aggs.now (folded_of held.old.items) place row.now)) (λ f. f ≡ fault.Overflow → ¬ (Fit (put_numbers aggs.now (folded_of held.old.items) place row.now))) }
+{
+    if place == held.len() {
+        let key = columns(alloc, keys, row)?;
+        let folds = first_folds(alloc, aggs, row)?;
+        push_group(held, key, folds)?;
+    } else {
+        add_all(&mut held[place].1, row)?;
+    }
+    Ok(())
+}
+
+// Puts a group behind others.
+fn push_group(
+    held: &mut Vec<(PRow, Vec<Fold>)>,
+    key: PRow,
+    folds: Vec<Fold>,
+) -> Result<(), NoMemory>
+    ensures { OnOk result (held.new.items ≡ held.old.items ++ (key, folds) ∷ []) }
+{
+    held.push((key, folds))?;
+    Ok(())
+}
+
+// The value of an aggregate.
+fn value(fold: Fold) -> Value
+    ensures { result ≡ fold_value fold }
+{
+    match fold {
+        Fold::Sum(_, adder) => Value::Int(adder.total()),
+        Fold::Least(_, v) => v,
+        Fold::Greatest(_, v) => v,
+    }
+}

@@ -1,0 +1,136 @@
+//! The Scans of a plan, with the rows of their tables in their place.
+ghost use Rattle.std.specs.Prelude.{◌≡◌, ◌+◌, [], IfOk, OnOk, get_or, length, map, set};
+ghost use Rattle.au_expr.specs.Figures.{fit};
+ghost use Rattle.au_physical.specs.PhysicalMeaning.{physical_rows};
+ghost use Rattle.au_physical.specs.PhysicalNumbers.{physical_numbers};
+ghost use Rattle.au_physical.specs.Physicals.{physical_tree};
+ghost use Rattle.au_exec.specs.CanOpen.{CanOpen};
+ghost use Rattle.au_exec.specs.Outcomes.{rows_of};
+ghost use Rattle.au_exec.specs.Scans.{AreThere, HasUses, counted, filled, spent};
+
+use crate::inputs::{Inputs, table_rows};
+use au_physical::Physical;
+use au_plain::PRow;
+use au_value::NoMemory;
+use std::alloc::Global;
+use std::snapshot::Snapshot;
+
+/// Puts the rows of its table in place of each Scan: moved where no later Scan reads the table, else copied.
+pub(crate) fn read_tables(
+    alloc: Global,
+    plan: &mut Physical,
+    tables: Vec<Vec<PRow>>,
+) -> Result<(), NoMemory>
+    requires { CanOpen (map rows_of tables.items) (physical_tree plan.old) }
+    ensures rows { OnOk result (physical_rows (physical_tree plan.new) [] ≡ physical_rows (physical_tree plan.old) (map rows_of tables.items)) }
+    ensures numbers { OnOk result (physical_numbers (physical_tree plan.new) [] ≡ physical_numbers (physical_tree plan.old) (map rows_of tables.items)) }
+    ensures can { OnOk result (CanOpen [] (physical_tree plan.new)) }
+{
+    let given = Snapshot::of(&tables);
+    let mut uses = zeros(alloc, tables.len())?;
+    count_scans(plan, &mut uses)?;
+    let mut inputs = Inputs { tables, uses };
+    fill(alloc, &given, &mut inputs, plan)?;
+    Ok(())
+}
+
+// Puts rows in place of each Scan.
+fn fill(
+    alloc: Global,
+    given: &Snapshot<Vec<Vec<PRow>>>,
+    inputs: &mut Inputs,
+    plan: &mut Physical,
+) -> Result<(), NoMemory>
+    requires uses { HasUses (physical_tree plan.old) inputs.old.uses.items }
+    requires there { AreThere (map rows_of given.now.value.items) (map rows_of inputs.old.tables.items) inputs.old.uses.items }
+    ensures tree { OnOk result (physical_tree plan.new ≡ filled (map rows_of given.now.value.items) (physical_tree plan.old)) }
+    ensures uses { OnOk result (inputs.new.uses.items ≡ spent (physical_tree plan.old) inputs.old.uses.items) }
+    ensures there { OnOk result (AreThere (map rows_of given.now.value.items) (map rows_of inputs.new.tables.items) inputs.new.uses.items) }
+{
+    match plan {
+        Physical::Scan(table, width) => {
+            let width = *width;
+            let rows = table_rows(alloc, given, inputs, *table)?;
+            *plan = Physical::Rows(width, rows);
+            Ok(())
+        }
+        Physical::Rows(_, _) => Ok(()),
+        Physical::Extend(_, of) => fill(alloc, given, inputs, of),
+        Physical::Keep(_, of) => fill(alloc, given, inputs, of),
+        Physical::Filter(_, of) => fill(alloc, given, inputs, of),
+        Physical::Nested(_, left, right) => {
+            fill(alloc, given, inputs, left)?;
+            fill(alloc, given, inputs, right)
+        }
+        Physical::Hash(_, _, left, right) => {
+            fill(alloc, given, inputs, left)?;
+            fill(alloc, given, inputs, right)
+        }
+        Physical::Overlap(_, _, left, right) => {
+            fill(alloc, given, inputs, left)?;
+            fill(alloc, given, inputs, right)
+        }
+        Physical::Union(left, right) => {
+            fill(alloc, given, inputs, left)?;
+            fill(alloc, given, inputs, right)
+        }
+        Physical::Group(_, _, of) => fill(alloc, given, inputs, of),
+    }
+}
+
+// So many zeros.
+fn zeros(alloc: Global, count: usize) -> Result<Vec<usize>, NoMemory>
+    ensures { IfOk result (λ v. length v.items ≡ count) }
+{
+    let mut zeros = Vec::with_capacity(alloc, count)?;
+    for _zero in 0..count {
+        zeros.push(0)?;
+    }
+    Ok(zeros)
+}
+
+// Counts the Scans of a plan.
+fn count_scans(plan: &Physical, uses: &mut Vec<usize>) -> Result<(), NoMemory>
+    ensures { OnOk result (uses.new.items ≡ counted (physical_tree plan.now) uses.old.items) }
+{
+    match plan {
+        Physical::Scan(table, _) => count(*table, uses),
+        Physical::Rows(_, _) => Ok(()),
+        Physical::Extend(_, of) => count_scans(of, uses),
+        Physical::Keep(_, of) => count_scans(of, uses),
+        Physical::Filter(_, of) => count_scans(of, uses),
+        Physical::Nested(_, left, right) => {
+            count_scans(right, uses)?;
+            count_scans(left, uses)
+        }
+        Physical::Hash(_, _, left, right) => {
+            count_scans(right, uses)?;
+            count_scans(left, uses)
+        }
+        Physical::Overlap(_, _, left, right) => {
+            count_scans(right, uses)?;
+            count_scans(left, uses)
+        }
+        Physical::Union(left, right) => {
+            count_scans(right, uses)?;
+            count_scans(left, uses)
+        }
+        Physical::Group(_, _, of) => count_scans(of, uses),
+    }
+}
+
+// One Scan more of a table. There are no more of them than memory can hold.
+fn count(table: usize, uses: &mut Vec<usize>) -> Result<(), NoMemory>
+    ensures { OnOk result (uses.new.items ≡ set uses.old.items table (get_or uses.old.items table 0 + 1)) }
+{
+    if table >= uses.len() {
+        return Ok(());
+    }
+    match uses[table].checked_add(1) {
+        Some(more) => {
+            uses[table] = more;
+            Ok(())
+        }
+        None => Err(NoMemory),
+    }
+}

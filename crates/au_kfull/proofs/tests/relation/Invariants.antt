@@ -1,8 +1,0 @@
--- The rows so far are ranges of numbers with triples.
-use Rattle.std.proofs.Common.{◌∷◌, []}
-use Rattle.au_value.specs.declared.kinds.Kind.TheVariants.{Int}
-use Rattle.au_algebra.specs.Laws.{IsRelation}
-use Rattle.au_kfull.proofs.tests.relation.Given as goal
-
-abbrev pub invariant-loop-first : goal.invariant-loop-first
-invariant-loop-first g l = IsRelation (Int ∷ Int ∷ []) l.rel

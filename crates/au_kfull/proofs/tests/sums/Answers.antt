@@ -1,7 +1,0 @@
--- The aggregate is one of a column of numbers.
-use Rattle.std.proofs.Common.{[], ◌∷◌, refl}
-use Rattle.au_value.specs.declared.kinds.Kind.TheVariants.{Int}
-use Rattle.au_kfull.proofs.tests.sums.Goals as goal
-
-pub group-requires : goal.group-requires
-group-requires c = (Int ∷ Int ∷ [], c.requires, record { made = Int ∷ []; typed = refl })

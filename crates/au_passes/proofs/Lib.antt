@@ -1,0 +1,24 @@
+pub mod Weights
+pub mod Passing
+pub mod Changing
+pub mod PlanParts
+pub mod Testing
+pub mod FilteredRows
+pub mod Strengthening
+pub mod StrengthenedKinds
+pub mod StrengthenedRows
+pub mod StrengthenedNumbers
+pub mod PushLaws
+pub mod PushSteps
+mod WorkedPush
+pub mod Conjunctions
+pub mod Marks
+pub mod InPlace
+pub mod Renumbering
+pub mod MarkLaws
+pub mod KeptColumns
+pub mod Narrowing
+pub mod NarrowedGroups
+pub mod NarrowedPlans
+pub mod NarrowedSides
+pub mod NarrowSteps

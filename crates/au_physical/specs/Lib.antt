@@ -1,0 +1,4 @@
+pub mod Physicals
+pub mod PhysicalMeaning
+pub mod PhysicalKinds
+pub mod PhysicalNumbers

@@ -1,0 +1,7 @@
+use Rattle.std.proofs.Common.{◌∙◌, ap}
+use Rattle.au_plain.specs.PTerms as term
+use Rattle.au_plain.proofs.TermLists.{terms_of, greatest_view}
+use Rattle.au_plain.proofs.terms.greatest_of_two.Goals as goal
+
+pub returns : goal.returns
+returns c = greatest_view c.in_ok-pair.field-0 ∙ ap (λ es. term.Greatest (terms_of es)) c.in_ok-pair.ensures

@@ -1,0 +1,9 @@
+pub mod UpToOrder
+pub mod Groups
+pub mod Implementing
+pub mod Crossed
+pub mod Separations
+pub mod Joining
+pub mod Passes
+pub mod Making
+mod Literal

@@ -1,0 +1,82 @@
+//! Runs that are done, and what they put.
+use crate::runs::{answer_of, judge};
+use std::test::Fail;
+
+// Answers over worlds, as CSV.
+const ANSWERS: &str =
+    "answer|SELECT * FROM orders|orders=orders.csv -> 0 Done row_lo,row,row_hi,id_lo,id,id_hi,city_lo,city,city_hi,amount_lo,amount,amount_hi~1,1,1,1,1,1,Bergen,Oslo,Oslo,10,10,12~1,1,1,2,2,2,Bergen,Bergen,Bergen,5,5,5~0,1,1,3,3,3,Oslo,Oslo,Oslo,7,7,7~! 
+answer|SELECT * FROM orders WHERE city = 'Oslo'|orders=orders.csv -> 0 Done row_lo,row,row_hi,id_lo,id,id_hi,city_lo,city,city_hi,amount_lo,amount,amount_hi~0,1,1,1,1,1,Bergen,Oslo,Oslo,10,10,12~0,1,1,3,3,3,Oslo,Oslo,Oslo,7,7,7~! 
+answer|SELECT o.id, r.fee FROM orders o, rates AS r WHERE o.city = r.city|orders=orders.csv|rates=rates.csv -> 0 Done row_lo,row,row_hi,id_lo,id,id_hi,fee_lo,fee,fee_hi~0,1,1,1,1,1,3,3,3~0,0,1,1,1,1,4,4,4~1,1,1,2,2,2,4,4,4~0,1,1,3,3,3,3,3,3~! 
+direct|SELECT o.id, r.fee FROM orders o, rates AS r WHERE o.city = r.city|orders=orders.csv|rates=rates.csv -> 0 Done row_lo,row,row_hi,id_lo,id,id_hi,fee_lo,fee,fee_hi~0,1,1,1,1,1,3,3,3~0,0,1,1,1,1,4,4,4~1,1,1,2,2,2,4,4,4~0,1,1,3,3,3,3,3,3~! 
+answer|SELECT COUNT(*), SUM(amount) FROM orders|orders=orders.csv -> 0 Done row_lo,row,row_hi,col1_lo,col1,col1_hi,col2_lo,col2,col2_hi~1,1,1,2,3,3,15,22,24~! 
+answer|SELECT city, SUM(amount) AS s FROM orders GROUP BY city|orders=orders.csv -> 0 Done row_lo,row,row_hi,city_lo,city,city_hi,s_lo,s,s_hi~1,1,1,Bergen,Bergen,Bergen,5,5,17~0,1,2,Bergen,Oslo,Oslo,0,17,24~! 
+direct|SELECT city, SUM(amount) AS s FROM orders GROUP BY city|orders=orders.csv -> 0 Done row_lo,row,row_hi,city_lo,city,city_hi,s_lo,s,s_hi~1,1,1,Bergen,Bergen,Bergen,5,5,17~0,1,2,Bergen,Oslo,Oslo,0,17,24~! 
+answer|SELECT city, MIN(amount) AS s FROM orders GROUP BY city|orders=orders.csv -> 0 Done row_lo,row,row_hi,city_lo,city,city_hi,s_lo,s,s_hi~1,1,1,Bergen,Bergen,Bergen,5,5,5~0,1,2,Bergen,Oslo,Oslo,5,7,12~! 
+answer|SELECT DISTINCT city FROM orders|orders=orders.csv -> 0 Done row_lo,row,row_hi,city_lo,city,city_hi~1,1,1,Bergen,Bergen,Bergen~0,1,2,Bergen,Oslo,Oslo~! 
+answer|SELECT city FROM orders EXCEPT ALL SELECT city FROM orders WHERE id = 2|orders=orders.csv -> 0 Done row_lo,row,row_hi,city_lo,city,city_hi~0,2,2,Bergen,Oslo,Oslo~! 
+answer|SELECT city FROM orders EXCEPT SELECT city FROM rates WHERE fee = 4|orders=orders.csv|rates=rates.csv -> 0 Done row_lo,row,row_hi,city_lo,city,city_hi~0,1,2,Bergen,Oslo,Oslo~! 
+answer|SELECT * FROM orders|orders=none.csv -> 0 Done row_lo,row,row_hi,id_lo,id,id_hi,city_lo,city,city_hi,amount_lo,amount,amount_hi~! 
+answer|SELECT COUNT(*), SUM(amount) FROM orders|orders=none.csv -> 0 Done row_lo,row,row_hi,col1_lo,col1,col1_hi,col2_lo,col2,col2_hi~1,1,1,0,0,0,0,0,0~! 
+answer|SELECT x*x AS p FROM t|t=block.csv -> 0 Done row_lo,row,row_hi,p_lo,p,p_hi~1,1,1,-6,4,9~! 
+answer|SELECT n FROM t|t=most.csv -> 0 Done row_lo,row,row_hi,n_lo,n,n_hi~1,1,1,170141183460469231731687303715884105727,170141183460469231731687303715884105727,170141183460469231731687303715884105727~! 
+answer|SELECT n FROM t|t=least.csv -> 0 Done row_lo,row,row_hi,n_lo,n,n_hi~1,1,1,-170141183460469231731687303715884105728,-170141183460469231731687303715884105728,-170141183460469231731687303715884105728~! 
+answer|SELECT k, MIN(x) AS m FROM t GROUP BY k|t=sums.csv -> 0 Done row_lo,row,row_hi,k_lo,k,k_hi,m_lo,m,m_hi~1,1,1,1,1,1,1,1,1~! 
+answer|SELECT * FROM orders WHERE id = 4|orders=more.csv -> 0 Done row_lo,row,row_hi,id_lo,id,id_hi,city_lo,city,city_hi,amount_lo,amount,amount_hi~0,0,1,4,4,4,Moss,Moss,Moss,1,1,1~! 
+answer|SELECT \"Order Date\" AS d, id + 1 AS n, city FROM p|p=sheet.csv -> 0 Done row_lo,row,row_hi,d_lo,d,d_hi,n_lo,n,n_hi,city_lo,city,city_hi~1,1,1,2021-06-20,2021-06-20,2021-06-20,2,2,2,\"Oslo, Nord\",\"Oslo, Nord\",\"Oslo, Nord\"~! 
+answer|SELECT COUNT(*), SUM(x) FROM t|t=many.csv -> 0 Done row_lo,row,row_hi,col1_lo,col1,col1_hi,col2_lo,col2,col2_hi~1,1,1,300,300,300,300,300,600~! 
+answer|SELECT * FROM t|t=cut.csv -> 0 Done row_lo,row,row_hi,id_lo,id,id_hi,city_lo,city,city_hi~1,1,1,1,1,1,Os,Os,Os~! 
+answer|SELECT 1 AS one FROM orders|orders=orders.csv -> 0 Done row_lo,row,row_hi,one_lo,one,one_hi~2,3,3,1,1,1~! 
+answer|SELECT city FROM orders UNION ALL SELECT city FROM rates|orders=orders.csv|rates=rates.csv -> 0 Done row_lo,row,row_hi,city_lo,city,city_hi~2,2,2,Bergen,Bergen,Bergen~1,1,1,Bergen,Oslo,Oslo~1,2,2,Oslo,Oslo,Oslo~! 
+answer|SELECT id, CASE WHEN city = 'Oslo' THEN amount ELSE 0 END AS x FROM orders|orders=orders.csv -> 0 Done row_lo,row,row_hi,id_lo,id,id_hi,x_lo,x,x_hi~1,1,1,1,1,1,0,10,12~1,1,1,2,2,2,0,0,0~0,1,1,3,3,3,7,7,7~! 
+answer|SELECT city, SUM(amount) AS s FROM orders GROUP BY city HAVING SUM(amount) > 10|orders=orders.csv -> 0 Done row_lo,row,row_hi,city_lo,city,city_hi,s_lo,s,s_hi~0,0,1,Bergen,Bergen,Bergen,5,5,17~0,1,2,Bergen,Oslo,Oslo,0,17,24~! 
+answer|SELECT ((((((((((((((((((((((((((((((((1)))))))))))))))))))))))))))))))) FROM orders|orders=orders.csv -> 0 Done row_lo,row,row_hi,col1_lo,col1,col1_hi~2,3,3,1,1,1~! 
+direct|SELECT 1 AS one FROM \"orders\";|orders=orders.csv -> 0 Done row_lo,row,row_hi,one_lo,one,one_hi~2,3,3,1,1,1~! 
+answer|SELECT m.x FROM m, e WHERE m.x + 1 > 0|m=edge.csv|e=bare.csv -> 0 Done row_lo,row,row_hi,x_lo,x,x_hi~! 
+answer|SELECT m.x FROM e, m WHERE m.x + 1 > 0|m=edge.csv|e=bare.csv -> 0 Done row_lo,row,row_hi,x_lo,x,x_hi~! 
+direct|SELECT m.x FROM m, e WHERE m.x + 1 > 0|m=edge.csv|e=bare.csv -> 0 Done row_lo,row,row_hi,x_lo,x,x_hi~! 
+direct|SELECT m.x FROM e, m WHERE m.x + 1 > 0|m=edge.csv|e=bare.csv -> 0 Done row_lo,row,row_hi,x_lo,x,x_hi~! 
+answer|SELECT k FROM (SELECT n AS k, n + 1 AS z FROM t) u|t=most.csv -> 0 Done row_lo,row,row_hi,k_lo,k,k_hi~1,1,1,170141183460469231731687303715884105727,170141183460469231731687303715884105727,170141183460469231731687303715884105727~! ";
+
+// Names that need quotes, tables for people, guess worlds, and a demonstration.
+const FORMS: &str =
+    "answer|SELECT id AS \"a,b\" FROM orders WHERE id = 2|orders=orders.csv -> 0 Done row_lo,row,row_hi,\"a,b_lo\",\"a,b\",\"a,b_hi\"~1,1,1,2,2,2~! 
+answer|SELECT id AS \"say \"\"x\"\"\" FROM orders WHERE id = 2|orders=orders.csv -> 0 Done row_lo,row,row_hi,\"say \"\"x\"\"_lo\",\"say \"\"x\"\"\",\"say \"\"x\"\"_hi\"~1,1,1,2,2,2~! 
+answer|--table|SELECT city FROM orders|--combine|orders=orders.csv -> 0 Done city               | row  ~-------------------+------~Bergen             | 1/1/1~[Bergen/Oslo/Oslo] | 1/2/2~! 
+direct|--table|SELECT id FROM t|t=none.csv -> 0 Done id | row~---+----~! 
+answer|--table|SELECT city AS \"Ærø\" FROM t|t=nordic.csv -> 0 Done Ærø   | row  ~------+------~Malmö | 0/1/1~! 
+answer|--table|SELECT c AS \"a\tb\" FROM t|t=control.csv -> 0 Done a?b    | row  ~-------+------~x?y?z  | 1/1/1~! 
+guess|SELECT city, SUM(amount) AS s FROM orders GROUP BY city|orders=orders.csv -> 0 Done row,city,s~1,Bergen,5~1,Oslo,17~! 
+guess|SELECT o.id, r.fee FROM orders o, rates AS r WHERE o.city = r.city|orders=orders.csv|rates=rates.csv -> 0 Done row,id,fee~1,1,3~1,2,4~1,3,3~! 
+guess|SELECT SUM(x) FROM t|t=sums.csv -> 0 Done row,col1~1,2~! 
+guess|SELECT id AS \"a,b\", city AS \"say \"\"x\"\"\" FROM t|t=none.csv -> 0 Done row,\"a,b\",\"say \"\"x\"\"\"~! 
+guess|SELECT t AS \"two~lines\", n FROM t|t=texts.csv -> 0 Done row,\"two~lines\",n~2,,-1~5,b,2~1,b,10~! 
+demo|1|3 -> 0 Done rows 2~least 1~guess 2~most 3~! ";
+
+const PAIRS: &str =
+    "SELECT a.grp, MAX(a.id) AS m FROM t a, t b WHERE a.amount = b.amount AND a.grp = 'g0' AND b.grp = 'g1' GROUP BY a.grp";
+
+#[test]
+fn answers_of_queries(rt: HostRuntime) -> Result<(), Fail> {
+    judge(&rt, rt.alloc(), ANSWERS)
+}
+
+#[test]
+fn forms_of_answers(rt: HostRuntime) -> Result<(), Fail> {
+    judge(&rt, rt.alloc(), FORMS)
+}
+
+#[test]
+fn one_answer_by_both_roads(rt: HostRuntime) -> Result<(), Fail> {
+    let alloc = rt.alloc();
+    let planned = answer_of(
+        alloc,
+        format!(in alloc; "answer|{PAIRS}|t=made.csv")?.as_str(),
+    )?;
+    let direct = answer_of(
+        alloc,
+        format!(in alloc; "direct|{PAIRS}|t=made.csv")?.as_str(),
+    )?;
+    assert_eq!(rt; planned.as_str(), direct.as_str());
+    assert!(rt; planned.as_str().starts_with("0 Done "), "an answer");
+    Ok(())
+}

@@ -1,0 +1,105 @@
+//! Whole runs, over files and sinks in memory.
+use crate::files::shelf_for;
+use au_cli::{Outcome, run};
+use au_io::{MemShelf, MemSink};
+use au_value::Word;
+use std::alloc::{AllocError, Global};
+use std::process::Abort;
+use std::test::Fail;
+
+// The words of a line.
+fn words_of(alloc: Global, line: &str) -> Result<Vec<Word>, AllocError> {
+    let mut words = Vec::new(alloc);
+    for word in line.split('|') {
+        words.push(Word::new(word.replace(alloc, '~', "\n")?))?;
+    }
+    Ok(words)
+}
+
+// The status, the outcome, and what was put.
+fn told(alloc: Global, outcome: Outcome, out: &MemSink, err: &MemSink) -> Result<String, Fail> {
+    let code = outcome.code();
+    let put = str::from_utf8(out.bytes())?;
+    let line = str::from_utf8(err.bytes())?;
+    let text = format!(in alloc; "{code} {outcome:?} {put}! {line}")?;
+    Ok(text.replace(alloc, '\n', "~")?)
+}
+
+// A run over a shelf, whose puts on `out` and `err` fail as listed.
+fn ran(
+    alloc: Global,
+    line: &str,
+    mut shelf: MemShelf,
+    failing: Vec<(u64, usize)>,
+    failing_lines: Vec<(u64, usize)>,
+) -> Result<String, Fail> {
+    let words = words_of(alloc, line)?;
+    let mut out = MemSink::new(alloc, failing);
+    let mut err = MemSink::new(alloc, failing_lines);
+    let outcome = run(alloc, words.as_slice(), &mut shelf, &mut out, &mut err);
+    told(alloc, outcome, &out, &err)
+}
+
+/// Whether each run ends and puts as its line says.
+pub(crate) fn judge(rt: &impl Abort, alloc: Global, cases: &str) -> Result<(), Fail> {
+    for case in cases.lines() {
+        let (line, wanted) = case.split_once(" -> ").expect(rt, "an arrow");
+        let shelf = shelf_for(alloc, line, Vec::new(alloc))?;
+        let found = ran(alloc, line, shelf, Vec::new(alloc), Vec::new(alloc))?;
+        assert_eq!(rt; found.as_str(), wanted, "{line}");
+    }
+    Ok(())
+}
+
+/// Whether a run ends and puts as its line says, where the call of this number on the shelf fails.
+pub(crate) fn judge_read(
+    rt: &impl Abort,
+    alloc: Global,
+    call: u64,
+    case: &str,
+) -> Result<(), Fail> {
+    let (line, wanted) = case.split_once(" -> ").expect(rt, "an arrow");
+    let mut failing = Vec::new(alloc);
+    failing.push(call)?;
+    let shelf = shelf_for(alloc, line, failing)?;
+    let found = ran(alloc, line, shelf, Vec::new(alloc), Vec::new(alloc))?;
+    assert_eq!(rt; found.as_str(), wanted, "call {call} fails");
+    Ok(())
+}
+
+/// Whether a run ends and puts as its line says, where its first put takes so many bytes and fails.
+pub(crate) fn judge_put(
+    rt: &impl Abort,
+    alloc: Global,
+    taken: usize,
+    case: &str,
+) -> Result<(), Fail> {
+    let (line, wanted) = case.split_once(" -> ").expect(rt, "an arrow");
+    let mut failing = Vec::new(alloc);
+    failing.push((0, taken))?;
+    let shelf = shelf_for(alloc, line, Vec::new(alloc))?;
+    let found = ran(alloc, line, shelf, failing, Vec::new(alloc))?;
+    assert_eq!(rt; found.as_str(), wanted, "{taken} bytes are put");
+    Ok(())
+}
+
+/// How a run ends and what it puts, where its first puts on `out` and on `err` take so many bytes and fail.
+pub(crate) fn cut_run(
+    alloc: Global,
+    line: &str,
+    taken: usize,
+    taken_of_line: usize,
+) -> Result<String, Fail> {
+    let shelf = shelf_for(alloc, line, Vec::new(alloc))?;
+    let mut failing = Vec::new(alloc);
+    failing.push((0, taken))?;
+    let mut failing_lines = Vec::new(alloc);
+    failing_lines.push((0, taken_of_line))?;
+    ran(alloc, line, shelf, failing, failing_lines)
+}
+
+/// What a run puts on `out`.
+pub(crate) fn answer_of(alloc: Global, line: &str) -> Result<String, Fail> {
+    let shelf = shelf_for(alloc, line, Vec::new(alloc))?;
+    ran(alloc, line, shelf, Vec::new(alloc), Vec::new(alloc))
+}

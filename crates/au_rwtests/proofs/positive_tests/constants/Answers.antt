@@ -1,9 +1,0 @@
--- The item is typed for rows without columns.
-use Rattle.au_expr.specs.Terms.{term}
-use Rattle.au_plain.specs.Plans.{plan_tree}
-use Rattle.au_rwtests.proofs.Over.{project_none_typed}
-use Rattle.au_rwtests.proofs.positive_tests.constants.Goals as goal
-
-pub returns : goal.returns
-returns c =
-    project_none_typed (plan_tree c.in_ok-left.left) c.in_ok-left.ensures (term c.in_ok-item.item) (plan_tree c.in_ok-plan.plan) c.in_ok-item.ensures c.in_ok-plan.ensures.gives

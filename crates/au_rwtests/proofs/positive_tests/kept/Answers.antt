@@ -1,9 +1,0 @@
--- The condition is typed for rows without columns.
-use Rattle.au_expr.specs.Terms.{term}
-use Rattle.au_plain.specs.Plans.{plan_tree}
-use Rattle.au_rwtests.proofs.Over.{select_none_typed}
-use Rattle.au_rwtests.proofs.positive_tests.kept.Goals as goal
-
-pub returns : goal.returns
-returns c =
-    select_none_typed (plan_tree c.in_ok-left.left) c.in_ok-left.ensures (term c.in_ok-condition.condition) (plan_tree c.in_ok-plan.plan) c.in_ok-condition.ensures c.in_ok-plan.ensures.gives

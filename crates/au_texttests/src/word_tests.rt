@@ -1,0 +1,104 @@
+//! Words of a command line, and what they ask for.
+use crate::cases::{Call, judge};
+use au_value::Word;
+use au_words::CommandLine;
+use std::alloc::{AllocError, Global};
+use std::test::Fail;
+
+// The words of a line, each ended by `|`.
+fn words_of(alloc: Global, line: &str) -> Result<Vec<Word>, AllocError> {
+    let mut words = Vec::new(alloc);
+    for word in line.split('|') {
+        words.push(Word::new(String::from_str(alloc, word)?))?;
+    }
+    words.pop();
+    Ok(words)
+}
+
+struct Words;
+
+impl Call for Words {
+    fn outcome(alloc: Global, given: &str) -> Result<String, Fail> {
+        let words = words_of(alloc, given)?;
+        let line = CommandLine::of(alloc, words.as_slice())?;
+        let asked = line.read(alloc);
+        Ok(format!(in alloc; "{asked:?}")?)
+    }
+}
+
+// No words, an empty one, commands that are none, words that are wanting, options that are none or of another command,
+// and numbers that are none or past their ranges.
+const NO_FORM: &str = " -> Err(Usage(Words))
+| -> Err(Usage(Words))
+ask|SELECT * FROM t|t=a.csv| -> Err(Usage(Words))
+help| -> Err(Usage(Words))
+--help| -> Err(Usage(Words))
+answer| -> Err(Usage(Words))
+answer|SELECT * FROM t| -> Err(Usage(Words))
+answer|SELECT * FROM t|--table| -> Err(Usage(Words))
+answer|--workers=65|SELECT * FROM t|t=a.csv| -> Err(Usage(Words))
+answer|--combine=10|SELECT * FROM t|t=a.csv| -> Err(Usage(Words))
+answer|--table=1|SELECT * FROM t|t=a.csv| -> Err(Usage(Words))
+answer|--tab|SELECT * FROM t|t=a.csv| -> Err(Usage(Words))
+answer|--table|SELECT * FROM t|--table|t=a.csv| -> Err(Usage(Words))
+answer|--combine|--combine|SELECT * FROM t|t=a.csv| -> Err(Usage(Words))
+answer|--|SELECT * FROM t|t=a.csv| -> Err(Usage(Words))
+answer|--help|SELECT * FROM t|t=a.csv| -> Err(Usage(Words))
+answer|-h|SELECT * FROM t|t=a.csv| -> Err(Usage(Words))
+answer|SELECT * FROM t|-t=a.csv| -> Err(Usage(Words))
+answer|-SELECT * FROM t|t=a.csv| -> Err(Usage(Words))
+answer|SELECT * FROM t|t=a.csv|-| -> Err(Usage(Words))
+guess|--table|SELECT * FROM t|t=a.csv| -> Err(Usage(Words))
+guess|SELECT * FROM t| -> Err(Usage(Words))
+demo| -> Err(Usage(Words))
+demo|1| -> Err(Usage(Words))
+demo|1|2|3| -> Err(Usage(Words))
+demo|01|1| -> Err(Usage(Words))
+demo|1|01| -> Err(Usage(Words))
+demo|00|1| -> Err(Usage(Words))
+demo|1|0| -> Err(Usage(Words))
+demo|1|100001| -> Err(Usage(Words))
+demo|4294967296|1| -> Err(Usage(Words))
+demo|+1|1| -> Err(Usage(Words))
+demo|-1|1| -> Err(Usage(Words))
+demo||1| -> Err(Usage(Words))
+demo|1|--table| -> Err(Usage(Words))
+demo|--workers=2|1|1| -> Err(Usage(Words))";
+
+const TABLE_WORDS: &str = "answer|SELECT * FROM t|t| -> Err(Usage(BadTable(0)))
+answer|SELECT * FROM t|=a.csv| -> Err(Usage(BadTable(0)))
+guess|SELECT * FROM t|t=| -> Err(Usage(BadTable(0)))
+direct|SELECT * FROM t|t=a.csv|u|v| -> Err(Usage(BadTable(1)))
+answer|SELECT * FROM t|t=a.csv|T=b.csv| -> Err(Usage(SameTable(0, 1)))
+answer|SELECT * FROM t|t=a|T=b|u| -> Err(Usage(BadTable(2)))
+answer|SELECT * FROM t|a=1|b=2|B=3|A=4| -> Err(Usage(SameTable(1, 2)))
+answer|SELECT * FROM t|a=1|b=2|A=3|a=4| -> Err(Usage(SameTable(0, 2)))
+answer|answer|a=b=c|--table|B=|=| -> Err(Usage(BadTable(1)))";
+
+// Options stand anywhere, a table word is cut at its first equal sign, and a command's name may be a query.
+const ASKED: &str =
+    r#"answer|Q|t=a.csv| -> Ok(Query(Request { command: Answer, table: false, combine: false, query: "Q", tables: [TableWord { name: "t", path: "a.csv" }] }))
+answer|--table|Q|t=a.csv| -> Ok(Query(Request { command: Answer, table: true, combine: false, query: "Q", tables: [TableWord { name: "t", path: "a.csv" }] }))
+answer|Q|--combine|t=a.csv| -> Ok(Query(Request { command: Answer, table: false, combine: true, query: "Q", tables: [TableWord { name: "t", path: "a.csv" }] }))
+direct|Q|t=a.csv|--table| -> Ok(Query(Request { command: Direct, table: true, combine: false, query: "Q", tables: [TableWord { name: "t", path: "a.csv" }] }))
+direct|--combine|Q|t=a.csv|--table| -> Ok(Query(Request { command: Direct, table: true, combine: true, query: "Q", tables: [TableWord { name: "t", path: "a.csv" }] }))
+guess|Q|t=a.csv| -> Ok(Query(Request { command: Guess, table: false, combine: false, query: "Q", tables: [TableWord { name: "t", path: "a.csv" }] }))
+answer|demo|a=b=c|--table|B=-| -> Ok(Query(Request { command: Answer, table: true, combine: false, query: "demo", tables: [TableWord { name: "a", path: "b=c" }, TableWord { name: "B", path: "-" }] }))
+demo|0|1| -> Ok(Demo { start: 0, blocks: 1 })
+demo|1|3| -> Ok(Demo { start: 1, blocks: 3 })
+demo|4294967295|100000| -> Ok(Demo { start: 4294967295, blocks: 100000 })"#;
+
+#[test]
+fn words_of_no_form(rt: HostRuntime) -> Result<(), Fail> {
+    judge::<Words>(&rt, rt.alloc(), NO_FORM)
+}
+
+#[test]
+fn defects_of_table_words(rt: HostRuntime) -> Result<(), Fail> {
+    judge::<Words>(&rt, rt.alloc(), TABLE_WORDS)
+}
+
+#[test]
+fn what_words_ask_for(rt: HostRuntime) -> Result<(), Fail> {
+    judge::<Words>(&rt, rt.alloc(), ASKED)
+}

@@ -1,0 +1,26 @@
+//! Queries over values that tell apart what is certain (Feng, Huber, Glavic, Kennedy, SIGMOD 2019).
+//!
+//! [`ua_table`] makes of each block its marked row, with a pair of counts: how often it is there in every world at least,
+//! and how often in the guess world. [`ua`] answers a query of the four positive operators over such tables; its rows keep
+//! what the pairs say, by the law [`ua_answer_holds`]. [`not_positive`] finds what other queries have beyond these four,
+//! and [`ua_text`] gives an answer as CSV.
+//!
+//! ```text
+//! let table = ua_table(alloc, &table)?;
+//! let rows = ua(alloc, &query, &[table])?;
+//! out.put(ua_text(alloc, names, &rows)?.as_slice())
+//! ```
+#![tactic(auto)]
+
+mod answer;
+mod positivity;
+mod summed_rows;
+mod tables;
+mod text;
+mod theorems;
+
+pub use answer::ua;
+pub use positivity::not_positive;
+pub use tables::ua_table;
+pub use text::ua_text;
+pub use theorems::{ua_answer_holds, ua_fits, ua_text_fits};
