@@ -238,7 +238,7 @@ impl Call for Counted {
     }
 }
 
-// 256 rows at once and the rest, of tables of so many rows, of joins and of groupings; and of each 256 those that a filter keeps.
+// How many rows each batch has, over tables of so many rows: at most 256, and none is filled up with rows of the next.
 const SIZES: &str = "SELECT c0, c1, c2 FROM t0 | 0 -> Ok([]) true
 SELECT c0, c1, c2 FROM t0 | 1 -> Ok([1]) true
 SELECT c0, c1, c2 FROM t0 | 256 -> Ok([256]) true
@@ -246,12 +246,12 @@ SELECT c0, c1, c2 FROM t0 | 257 -> Ok([256, 1]) true
 SELECT c0, c1, c2 FROM t0 | 600 -> Ok([256, 256, 88]) true
 SELECT * FROM (SELECT c0, c1, c2 FROM t0) x WHERE (c0 < 258) | 600 -> Ok([256, 2]) true
 SELECT * FROM (SELECT c0, c1, c2 FROM t0) x WHERE (400 <= c0) | 600 -> Ok([112, 88]) true
-(SELECT c0, c1, c2 FROM t0) UNION ALL (SELECT c0, c1, c2 FROM t0) | 200 -> Ok([256, 144]) true
+(SELECT c0, c1, c2 FROM t0) UNION ALL (SELECT c0, c1, c2 FROM t0) | 200 -> Ok([200, 200]) true
 SELECT c1 AS c0, SUM(c0) AS c1 FROM (SELECT c0, c1, c2 FROM t0) x GROUP BY c1 | 300 -> Ok([1]) true
 SELECT c0 AS c0, SUM(c0) AS c1 FROM (SELECT c0, c1, c2 FROM t0) x GROUP BY c0 | 300 -> Ok([256, 44]) true
 SELECT x.c0 AS c0, x.c1 AS c1, x.c2 AS c2, y.c0 AS c3, y.c1 AS c4, y.c2 AS c5 FROM (SELECT c0, c1, c2 FROM t0) x, (SELECT c0, c1, c2 FROM t0) y WHERE (x.c0 = y.c0) | 300 -> Ok([256, 44]) true
-SELECT x.c0 AS c0, x.c1 AS c1, x.c2 AS c2, y.c0 AS c3, y.c1 AS c4, y.c2 AS c5 FROM (SELECT c0, c1, c2 FROM t0) x, (SELECT c0, c1, c2 FROM t0) y WHERE (x.c0 < y.c0) | 24 -> Ok([256, 20]) true
-SELECT x.c0 AS c0, x.c1 AS c1, x.c2 AS c2, y.c0 AS c3, y.c1 AS c4, y.c2 AS c5 FROM (SELECT c0, c1, c2 FROM t0) x, (SELECT c0, c1, c2 FROM t0) y WHERE (x.c1 = y.c1) | 17 -> Ok([256, 33]) true";
+SELECT x.c0 AS c0, x.c1 AS c1, x.c2 AS c2, y.c0 AS c3, y.c1 AS c4, y.c2 AS c5 FROM (SELECT c0, c1, c2 FROM t0) x, (SELECT c0, c1, c2 FROM t0) y WHERE (x.c0 < y.c0) | 24 -> Ok([256, 5, 15]) true
+SELECT x.c0 AS c0, x.c1 AS c1, x.c2 AS c2, y.c0 AS c3, y.c1 AS c4, y.c2 AS c5 FROM (SELECT c0, c1, c2 FROM t0) x, (SELECT c0, c1, c2 FROM t0) y WHERE (x.c1 = y.c1) | 17 -> Ok([256, 16, 17]) true";
 
 #[test]
 fn chosen_operators(rt: HostRuntime) -> Result<(), Fail> {
