@@ -3,13 +3,13 @@
 use Rattle.std.specs.Prelude.{◌-◌, ◌^◌, Bool, false, ◌&&◌, List, [], ◌∷◌, ◌++◌, map, take, filter, flat_map, sum_by, ℤ, pos, negsuc, nat_abs, int_le, if◌then◌else◌}
 use Rattle.std.specs.List.{list_all}
 use Rattle.au_value.specs.Ranges.{Span, certain, all_overlap, all_certainly_equal, guesses}
-use Rattle.au_annot.specs.Triples.{one}
+use Rattle.au_annot.specs.Triples.{counts}
 use Rattle.au_expr.specs.Numbers.{expr_numbers}
 use Rattle.au_algebra.specs.declared.query.Agg.{Agg}
 use Rattle.au_algebra.specs.declared.query.Agg.TheVariants.{Sum, Min, Max}
 use Rattle.au_algebra.specs.Trees.{Tree, Table, Select, Project, Product, Union, Difference, Distinct, Group, Total}
+use Rattle.au_algebra.specs.Counted.{CountedRow}
 use Rattle.au_algebra.specs.Entries.{entry}
-use Rattle.au_algebra.specs.Ordinary.{Rows}
 use Rattle.au_algebra.specs.Bounded.{RangeRow, Bounded, Grouped, bounded, combine, normal, guessing, most_of, guess_of, least_of, grouped, all_rows, guessed_keys, lower_term, upper_term, guess_term}
 
 -- the components of the triples
@@ -77,10 +77,10 @@ triples_fit rows = list_all in_range (triple_numbers rows)
 abbrev pub fits : Bool → Tree → List Bounded → Bool
 fits combined q ts = list_all in_range (answer_numbers combined q ts)
 
--- each row as ranges of one value, with one copy
-abbrev pub certain_rows : Rows → Bounded
-certain_rows rows = map (λ row. entry (map certain row) one) rows
+-- each counted row as ranges of one value, with its count as least, guess and most
+abbrev pub certain_rows : List CountedRow → Bounded
+certain_rows rows = map (λ r. entry (map certain r.cells) (counts r.annot r.annot r.annot)) rows
 
--- the same over the rows of the guess world alone
-abbrev pub guess_fits : Tree → List Rows → Bool
-guess_fits q ws = fits false q (map certain_rows ws)
+-- the same over the counted rows of the guess world alone
+abbrev pub guess_fits : Tree → List (List CountedRow) → Bool
+guess_fits q ts = fits false q (map certain_rows ts)

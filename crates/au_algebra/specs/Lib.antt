@@ -1,13 +1,15 @@
-pub mod Bounded
-pub mod Counted
-pub mod Distribution
-pub mod Entries
-pub mod Fits
-pub mod Laws
+-- The definitions, in the order in which they are to be read.
+pub mod Trees
+pub mod Typing
 pub mod Lists
 pub mod Ordinary
-pub mod Typing
-pub mod Trees
+pub mod Entries
+pub mod Counted
+pub mod Bounded
+pub mod Fits
+pub mod Distribution
 pub mod Positive
 pub mod Products
+pub mod Laws
+-- What the contracts of inner calls and the proofs speak of.
 pub mod Ends

@@ -1,7 +1,9 @@
+-- The definitions, in the order in which they are to be read.
 pub mod Annotations
-pub mod CountLaws
 pub mod Counts
-pub mod Pairs
-pub mod PairLaws
 pub mod Triples
+pub mod Pairs
+-- What the contracts of inner calls and the proofs speak of.
+pub mod CountLaws
 pub mod TripleLaws
+pub mod PairLaws

@@ -1,11 +1,12 @@
 -- The blocks that are finished one after another.
-use Rattle.std.proofs.Common.{◌≡◌, ℕ, ◌+◌, false, List, [], ◌∷◌, ◌++◌, length, map, Option, Some, None, Ok, Err, refl, sym, ap, ◌∙◌, append_assoc}
+use Rattle.std.proofs.Common.{◌≡◌, ℕ, ◌+◌, List, [], ◌∷◌, ◌++◌, length, map, Option, Some, None, Ok, Err, refl, sym, ap, ◌∙◌, append_assoc}
 use Rattle.std.specs.Prelude.{Result, flat_map}
 use Rattle.std.specs.List.{enumerate_from}
 use Rattle.std.proofs.lemmas.List.{append-nil, length_push}
 use Rattle.au_value.specs.declared.kinds.Kind.{Kind}
 use Rattle.au_csv.specs.Texts.{Record}
 use Rattle.au_blocks.specs.declared.faults.TableFault.{TableFault}
+use Rattle.au_blocks.specs.declared.format.Format.TheVariants as format
 use Rattle.au_blocks.specs.Blocks.{Choices}
 use Rattle.au_blocks.specs.Entries.{Entry, blocks_of}
 use Rattle.au_blocks.specs.Defects.{block_defects, blocks_defects}
@@ -61,9 +62,9 @@ unless-err None t e is = cc
 unless-err (Some x) t e is = cc
 
 -- the blocks of a plain table have no defect
-plain-from : (n : ℕ) (rows : List Record) → first (flat_map block_defects (enumerate_from n (blocks_of false rows))) ≡ None
+plain-from : (n : ℕ) (rows : List Record) → first (flat_map block_defects (enumerate_from n (blocks_of format.Plain rows))) ≡ None
 plain-from n [] = refl
 plain-from n (r ∷ rows) = plain-from (n + 1) rows
 
-pub plain-blocks : (rows : List Record) → first (blocks_defects (blocks_of false rows)) ≡ None
+pub plain-blocks : (rows : List Record) → first (blocks_defects (blocks_of format.Plain rows)) ≡ None
 plain-blocks rows = plain-from 0 rows

@@ -8,6 +8,8 @@ use Rattle.std.proofs.lemmas.List.Elements.{filter-append, filter_map-append}
 use Rattle.indexmap.specs.IndexSet.{insert_key}
 use Rattle.au_value.specs.declared.kinds.Kind.{Kind}
 use Rattle.au_csv.specs.Texts.{Record}
+use Rattle.au_blocks.specs.declared.format.Format.{Format}
+use Rattle.au_blocks.specs.Headers.{has_blocks}
 use Rattle.au_blocks.specs.Entries.{Entry, entry_of, entries_of, label_of, labelled, distinct, blocks_of}
 use Rattle.au_blocks.specs.Gathered.{Gathered, gathered, nothing, with_entry}
 use Rattle.au_blocks.proofs.Gathering.{gathered-push}
@@ -72,32 +74,32 @@ labelled-absent l (r ∷ rows) absent =
     ]
 
 -- what is gathered under a label
-abbrev pub under : List Kind → List Record → Text → Gathered
-under kinds rows label = gathered kinds (entries_of true (labelled label rows))
+abbrev pub under : Format → List Kind → List Record → Text → Gathered
+under f kinds rows label = gathered kinds (entries_of f (labelled label rows))
 
-under-same : (kinds : List Kind) (rows : List Record) (r : Record) (e : Entry) → entry_of true r ≡ Some e
-    → under kinds (rows ++ r ∷ []) (label_of r) ≡ with_entry kinds (under kinds rows (label_of r)) e
-under-same kinds rows r e is =
+under-same : (f : Format) (kinds : List Kind) (rows : List Record) (r : Record) (e : Entry) → entry_of f r ≡ Some e
+    → under f kinds (rows ++ r ∷ []) (label_of r) ≡ with_entry kinds (under f kinds rows (label_of r)) e
+under-same f kinds rows r e is =
     let records : labelled (label_of r) (rows ++ r ∷ []) ≡ labelled (label_of r) rows ++ r ∷ [] =
     rw (itself (label_of r)) at (filter-append (λ (x : Record). bytes_eq (label_of r) (label_of x)) rows (r ∷ [])) in
-    let entries : entries_of true (labelled (label_of r) (rows ++ r ∷ [])) ≡ entries_of true (labelled (label_of r) rows) ++ e ∷ [] =
-    ap (entries_of true) records ∙ filter_map-append (entry_of true) (labelled (label_of r) rows) (r ∷ []) ∙ ap (λ o. entries_of true (labelled (label_of r) rows) ++ cons_option o []) is in
-    ap (gathered kinds) entries ∙ gathered-push kinds (entries_of true (labelled (label_of r) rows)) e
+    let entries : entries_of f (labelled (label_of r) (rows ++ r ∷ [])) ≡ entries_of f (labelled (label_of r) rows) ++ e ∷ [] =
+    ap (entries_of f) records ∙ filter_map-append (entry_of f) (labelled (label_of r) rows) (r ∷ []) ∙ ap (λ o. entries_of f (labelled (label_of r) rows) ++ cons_option o []) is in
+    ap (gathered kinds) entries ∙ gathered-push kinds (entries_of f (labelled (label_of r) rows)) e
 
-under-other : (kinds : List Kind) (rows : List Record) (r : Record) (m : Text) → bytes_eq (label_of r) m ≡ false
-    → under kinds (rows ++ r ∷ []) m ≡ under kinds rows m
-under-other kinds rows r m apart =
+under-other : (f : Format) (kinds : List Kind) (rows : List Record) (r : Record) (m : Text) → bytes_eq (label_of r) m ≡ false
+    → under f kinds (rows ++ r ∷ []) m ≡ under f kinds rows m
+under-other f kinds rows r m apart =
     let no : bytes_eq m (label_of r) ≡ false = turned m (label_of r) ∙ apart in
     let records : labelled m (rows ++ r ∷ []) ≡ labelled m rows =
     rw no at (filter-append (λ (x : Record). bytes_eq m (label_of x)) rows (r ∷ [])) ∙ append-nil (labelled m rows) in
-    ap (λ rs. gathered kinds (entries_of true rs)) records
+    ap (λ rs. gathered kinds (entries_of f rs)) records
 
 -- the labels of the records so far, and what is gathered under each
 abbrev pub labels : List Record → List Text
 labels rows = distinct (map label_of rows)
 
-abbrev pub builders : List Kind → List Record → List Gathered
-builders kinds rows = map (under kinds rows) (labels rows)
+abbrev pub builders : Format → List Kind → List Record → List Gathered
+builders f kinds rows = map (under f kinds rows) (labels rows)
 
 -- a builder more, where the label is new
 abbrev pub with_builder : List Gathered → Bool → List Gathered
@@ -106,45 +108,45 @@ with_builder gs known = gs ++ cond known [] (nothing ∷ [])
 pub labels-push : (rows : List Record) (r : Record) → labels (rows ++ r ∷ []) ≡ insert_key bytes_eq (labels rows) (label_of r)
 labels-push rows r = ap distinct (map-append label_of rows (r ∷ [])) ∙ distinct-push (map label_of rows) (label_of r)
 
-step-known : (kinds : List Kind) (rows : List Record) (r : Record) (e : Entry) → entry_of true r ≡ Some e → list_any (bytes_eq (label_of r)) (labels rows) ≡ true
-    → set (builders kinds rows) (position_or_len (bytes_eq (label_of r)) (labels rows)) (with_entry kinds (get_or (builders kinds rows) (position_or_len (bytes_eq (label_of r)) (labels rows)) nothing) e)
-    ≡ map (under kinds (rows ++ r ∷ [])) (labels rows)
-step-known kinds rows r e is known =
-    let G = under kinds rows in
-    let H = under kinds (rows ++ r ∷ []) in
+step-known : (f : Format) (kinds : List Kind) (rows : List Record) (r : Record) (e : Entry) → entry_of f r ≡ Some e → list_any (bytes_eq (label_of r)) (labels rows) ≡ true
+    → set (builders f kinds rows) (position_or_len (bytes_eq (label_of r)) (labels rows)) (with_entry kinds (get_or (builders f kinds rows) (position_or_len (bytes_eq (label_of r)) (labels rows)) nothing) e)
+    ≡ map (under f kinds (rows ++ r ∷ [])) (labels rows)
+step-known f kinds rows r e is known =
+    let G = under f kinds rows in
+    let H = under f kinds (rows ++ r ∷ []) in
     let l = label_of r in
-    rw (get-label G H l (under-other kinds rows r) (labels rows) nothing known, ← under-same kinds rows r e is)
-    (set-label G H l (under-other kinds rows r) (labels rows) (apart-distinct (map label_of rows)) known)
+    rw (get-label G H l (under-other f kinds rows r) (labels rows) nothing known, ← under-same f kinds rows r e is)
+    (set-label G H l (under-other f kinds rows r) (labels rows) (apart-distinct (map label_of rows)) known)
 
-step-new : (kinds : List Kind) (rows : List Record) (r : Record) (e : Entry) → entry_of true r ≡ Some e → list_any (bytes_eq (label_of r)) (labels rows) ≡ false
-    → set (builders kinds rows ++ nothing ∷ []) (position_or_len (bytes_eq (label_of r)) (labels rows)) (with_entry kinds (get_or (builders kinds rows ++ nothing ∷ []) (position_or_len (bytes_eq (label_of r)) (labels rows)) nothing) e)
-    ≡ map (under kinds (rows ++ r ∷ [])) (labels rows ++ label_of r ∷ [])
-step-new kinds rows r e is new =
-    let G = under kinds rows in
-    let H = under kinds (rows ++ r ∷ []) in
+step-new : (f : Format) (kinds : List Kind) (rows : List Record) (r : Record) (e : Entry) → entry_of f r ≡ Some e → list_any (bytes_eq (label_of r)) (labels rows) ≡ false
+    → set (builders f kinds rows ++ nothing ∷ []) (position_or_len (bytes_eq (label_of r)) (labels rows)) (with_entry kinds (get_or (builders f kinds rows ++ nothing ∷ []) (position_or_len (bytes_eq (label_of r)) (labels rows)) nothing) e)
+    ≡ map (under f kinds (rows ++ r ∷ [])) (labels rows ++ label_of r ∷ [])
+step-new f kinds rows r e is new =
+    let G = under f kinds rows in
+    let H = under f kinds (rows ++ r ∷ []) in
     let l = label_of r in
     let at : position_or_len (bytes_eq l) (labels rows) ≡ length (labels rows) = position-absent l (labels rows) new in
-    let long : length (builders kinds rows) ≡ length (labels rows) = length-map (labels rows) G in
+    let long : length (builders f kinds rows) ≡ length (labels rows) = length-map (labels rows) G in
     let none : list_any (bytes_eq l) (map label_of rows) ≡ false = sym (any-distinct l (map label_of rows)) ∙ new in
-    let start : under kinds rows l ≡ nothing = ap (λ rs. gathered kinds (entries_of true rs)) (labelled-absent l rows none) in
-    let value : with_entry kinds nothing e ≡ H l = ap (λ g. with_entry kinds g e) (sym start) ∙ sym (under-same kinds rows r e is) in
-    rw (at, get_or_at (builders kinds rows) nothing [] nothing (length (labels rows)) long, value)
-    (set_at (builders kinds rows) nothing [] (H l) (length (labels rows)) long
-    ∙ ap (λ gs. gs ++ H l ∷ []) (sym (map-others G H l (under-other kinds rows r) (labels rows) new))
+    let start : under f kinds rows l ≡ nothing = ap (λ rs. gathered kinds (entries_of f rs)) (labelled-absent l rows none) in
+    let value : with_entry kinds nothing e ≡ H l = ap (λ g. with_entry kinds g e) (sym start) ∙ sym (under-same f kinds rows r e is) in
+    rw (at, get_or_at (builders f kinds rows) nothing [] nothing (length (labels rows)) long, value)
+    (set_at (builders f kinds rows) nothing [] (H l) (length (labels rows)) long
+    ∙ ap (λ gs. gs ++ H l ∷ []) (sym (map-others G H l (under-other f kinds rows r) (labels rows) new))
     ∙ sym (map-append H (labels rows) (l ∷ [])))
 
 -- a record more: its label's builder has one entry more
-pub builders-push : (kinds : List Kind) (rows : List Record) (r : Record) (e : Entry) → entry_of true r ≡ Some e
-    → (gs : List Gathered) → gs ≡ with_builder (builders kinds rows) (list_any (bytes_eq (label_of r)) (labels rows))
-    → set gs (position_or_len (bytes_eq (label_of r)) (labels rows)) (with_entry kinds (get_or gs (position_or_len (bytes_eq (label_of r)) (labels rows)) nothing) e) ≡ builders kinds (rows ++ r ∷ [])
-builders-push kinds rows r e is gs are =
+pub builders-push : (f : Format) (kinds : List Kind) (rows : List Record) (r : Record) (e : Entry) → entry_of f r ≡ Some e
+    → (gs : List Gathered) → gs ≡ with_builder (builders f kinds rows) (list_any (bytes_eq (label_of r)) (labels rows))
+    → set gs (position_or_len (bytes_eq (label_of r)) (labels rows)) (with_entry kinds (get_or gs (position_or_len (bytes_eq (label_of r)) (labels rows)) nothing) e) ≡ builders f kinds (rows ++ r ∷ [])
+builders-push f kinds rows r e is gs are =
     elim (cases_Bool (list_any (bytes_eq (label_of r)) (labels rows))) [
       | inl known ↦
-          let kept : gs ≡ builders kinds rows = are ∙ rw known (append-nil (builders kinds rows)) in
-          rw (kept, labels-push rows r, known) (step-known kinds rows r e is known)
+          let kept : gs ≡ builders f kinds rows = are ∙ rw known (append-nil (builders f kinds rows)) in
+          rw (kept, labels-push rows r, known) (step-known f kinds rows r e is known)
       | inr new ↦
-          let more : gs ≡ builders kinds rows ++ nothing ∷ [] = are ∙ rw new refl in
-          rw (more, labels-push rows r, new) (step-new kinds rows r e is new)
+          let more : gs ≡ builders f kinds rows ++ nothing ∷ [] = are ∙ rw new refl in
+          rw (more, labels-push rows r, new) (step-new f kinds rows r e is new)
     ]
 
 position-known : (l : Text) (ls : List Text) → list_any (bytes_eq l) ls ≡ true → position_or_len (bytes_eq l) ls < length ls
@@ -159,23 +161,23 @@ position-known l (m ∷ ls) known =
     ]
 
 -- the label's place is one of a builder
-pub place-within : (kinds : List Kind) (rows : List Record) (l : Text) (gs : List Gathered) → gs ≡ with_builder (builders kinds rows) (list_any (bytes_eq l) (labels rows))
+pub place-within : (f : Format) (kinds : List Kind) (rows : List Record) (l : Text) (gs : List Gathered) → gs ≡ with_builder (builders f kinds rows) (list_any (bytes_eq l) (labels rows))
     → position_or_len (bytes_eq l) (labels rows) < length gs
-place-within kinds rows l gs are =
-    let long : length (builders kinds rows) ≡ length (labels rows) = length-map (labels rows) (under kinds rows) in
+place-within f kinds rows l gs are =
+    let long : length (builders f kinds rows) ≡ length (labels rows) = length-map (labels rows) (under f kinds rows) in
     elim (cases_Bool (list_any (bytes_eq l) (labels rows))) [
       | inl known ↦
-          let kept : gs ≡ builders kinds rows = are ∙ rw known (append-nil (builders kinds rows)) in
+          let kept : gs ≡ builders f kinds rows = are ∙ rw known (append-nil (builders f kinds rows)) in
           let low = position-known l (labels rows) known in
           rw (kept, long) low
       | inr new ↦
-          let more : gs ≡ builders kinds rows ++ nothing ∷ [] = are ∙ rw new refl in
-          rw (more, position-absent l (labels rows) new, length_push (builders kinds rows) nothing, long) (omega arith)
+          let more : gs ≡ builders f kinds rows ++ nothing ∷ [] = are ∙ rw new refl in
+          rw (more, position-absent l (labels rows) new, length_push (builders f kinds rows) nothing, long) (omega arith)
     ]
 
 -- what is gathered under each label is what each block's entries amount to
-pub builders-blocks : (kinds : List Kind) (rows : List Record) → builders kinds rows ≡ map (gathered kinds) (blocks_of true rows)
-builders-blocks kinds rows = map-both (labels rows) where
-  map-both : (ls : List Text) → map (under kinds rows) ls ≡ map (gathered kinds) (map (λ label. entries_of true (labelled label rows)) ls)
+pub builders-blocks : (f : Format) (kinds : List Kind) (rows : List Record) → has_blocks f ≡ true → builders f kinds rows ≡ map (gathered kinds) (blocks_of f rows)
+builders-blocks f kinds rows is = rw is (map-both (labels rows)) where
+  map-both : (ls : List Text) → map (under f kinds rows) ls ≡ map (gathered kinds) (map (λ label. entries_of f (labelled label rows)) ls)
   map-both [] = refl
-  map-both (l ∷ ls) = ap (λ r. under kinds rows l ∷ r) (map-both ls)
+  map-both (l ∷ ls) = ap (λ r. under f kinds rows l ∷ r) (map-both ls)

@@ -10,24 +10,24 @@ use Rattle.std.proofs.lemmas.List.Sums.{sum_by_push, prefix_len-le-length}
 use Rattle.std.proofs.lemmas.Bool.{cases_Bool, lt-ltb, le-ltb, ne_eqb, eqb-true}
 use Rattle.au_value.specs.declared.kinds.Kind.{Kind}
 use Rattle.au_blocks.specs.Entries.{Entry, is_marked, is_absent, alternatives}
-use Rattle.au_blocks.specs.Gathered.{times_of, more, is_never, is_again, Gathered, gathered, gathered_defect, finished, with_entry, with_row, with_absence}
+use Rattle.au_blocks.specs.Gathered.{seen_of, more, is_never, is_again, Gathered, gathered, gathered_defect, finished, with_entry, with_row, with_absence}
 use Rattle.au_blocks.specs.Defects.{block_defects, where_true}
-use Rattle.au_blocks.specs.Read.{row, block_of, first, unless}
+use Rattle.au_blocks.specs.Read.{candidate_of, block_of, first, unless}
 use Rattle.au_blocks.specs.declared.faults.TableFault.{TableFault}
 use Rattle.au_blocks.specs.declared.faults.TableFault.TheVariants as fault
 
 -- once more
-more-times : (n : ℕ) → times_of (n + 1) ≡ more (times_of n)
+more-times : (n : ℕ) → seen_of (n + 1) ≡ more (seen_of n)
 more-times zero = refl
 more-times (suc zero) = refl
-more-times (suc (suc n)) = let e : suc (suc (suc n)) ≡ suc (suc n) + 1 = omega arith in subst (λ k. times_of k ≡ more (times_of (suc (suc n)))) e refl
+more-times (suc (suc n)) = let e : suc (suc (suc n)) ≡ suc (suc n) + 1 = omega arith in subst (λ k. seen_of k ≡ more (seen_of (suc (suc n)))) e refl
 
-times-push : (p : Entry → Bool) (entries : List Entry) (e : Entry) → times_of (count_by p (entries ++ e ∷ [])) ≡ cond (p e) (more (times_of (count_by p entries))) (times_of (count_by p entries))
+times-push : (p : Entry → Bool) (entries : List Entry) (e : Entry) → seen_of (count_by p (entries ++ e ∷ [])) ≡ cond (p e) (more (seen_of (count_by p entries))) (seen_of (count_by p entries))
 times-push p entries e =
     rw (sum_by_push (λ x. cond (p x) 1 0) entries e)
-    (elim (p e) as (λ b. times_of (count_by p entries + cond b 1 0) ≡ cond b (more (times_of (count_by p entries))) (times_of (count_by p entries))) [
+    (elim (p e) as (λ b. seen_of (count_by p entries + cond b 1 0) ≡ cond b (more (seen_of (count_by p entries))) (seen_of (count_by p entries))) [
       | true ↦ more-times (count_by p entries)
-      | false ↦ let same : count_by p entries + 0 ≡ count_by p entries = omega arith in ap times_of same
+      | false ↦ let same : count_by p entries + 0 ≡ count_by p entries = omega arith in ap seen_of same
     ])
 
 -- the first that passes, one item more
@@ -67,12 +67,12 @@ alternatives-push entries e = filter-append (λ x. not (is_absent x.role)) entri
 
 -- one alternative more
 gathered-row : (kinds : List Kind) (entries : List Entry) (e : Entry) → is_absent e.role ≡ false
-    → gathered kinds (entries ++ e ∷ []) ≡ with_row (gathered kinds entries) (is_marked e.role) (row kinds e.cells)
+    → gathered kinds (entries ++ e ∷ []) ≡ with_row (gathered kinds entries) (is_marked e.role) (candidate_of kinds e)
 gathered-row kinds entries e here =
     let alts : alternatives (entries ++ e ∷ []) ≡ alternatives entries ++ e ∷ [] = rw here at (alternatives-push entries e) in
-    let g = λ (x : Entry). row kinds x.cells in
+    let g = candidate_of kinds in
     let m = λ (x : Entry). is_marked x.role in
-    same-gathered (gathered kinds (entries ++ e ∷ [])) (with_row (gathered kinds entries) (is_marked e.role) (row kinds e.cells))
+    same-gathered (gathered kinds (entries ++ e ∷ [])) (with_row (gathered kinds entries) (is_marked e.role) (candidate_of kinds e))
     (ap (map g) alts ∙ map-append g (alternatives entries) (e ∷ []))
     (times-push m entries e)
     (rw here at (times-push (λ x. is_absent x.role) entries e))
@@ -85,7 +85,7 @@ gathered-absence kinds entries e here =
     let alts : alternatives (entries ++ e ∷ []) ≡ alternatives entries = rw here at (alternatives-push entries e) ∙ append-nil (alternatives entries) in
     let m = λ (x : Entry). is_marked x.role in
     same-gathered (gathered kinds (entries ++ e ∷ [])) (with_absence (gathered kinds entries) (is_marked e.role))
-    (ap (map (λ (x : Entry). row kinds x.cells)) alts)
+    (ap (map (candidate_of kinds)) alts)
     (times-push m entries e)
     (rw here at (times-push (λ x. is_absent x.role) entries e))
     (ap (position m) alts)
@@ -99,12 +99,12 @@ gathered-push kinds entries e =
     ]
 
 -- what a count comes to
-is_never-times : (n : ℕ) → is_never (times_of n) ≡ eqb n 0
+is_never-times : (n : ℕ) → is_never (seen_of n) ≡ eqb n 0
 is_never-times zero = refl
 is_never-times (suc zero) = refl
 is_never-times (suc (suc n)) = sym (ne_eqb (suc (suc n)) 0 (λ e. absurd (omega arith)))
 
-is_again-times : (n : ℕ) → is_again (times_of n) ≡ ltb 1 n
+is_again-times : (n : ℕ) → is_again (seen_of n) ≡ ltb 1 n
 is_again-times zero = refl
 is_again-times (suc zero) = refl
 is_again-times (suc (suc n)) = sym (lt-ltb 1 (suc (suc n)) (omega arith))
@@ -122,7 +122,7 @@ gathered_defect-first : (kinds : List Kind) (entries : List Entry) (n : ℕ) →
 gathered_defect-first kinds entries n =
     let marks = count_by (λ (x : Entry). is_marked x.role) entries in
     let absents = count_by (λ (x : Entry). is_absent x.role) entries in
-    rw (is_again-times marks, is_never-times marks, is_again-times absents, length-map (alternatives entries) (λ (x : Entry). row kinds x.cells))
+    rw (is_again-times marks, is_never-times marks, is_again-times absents, length-map (alternatives entries) (candidate_of kinds))
     (sym (first-of-four (ltb 1 marks) (eqb marks 0) (eqb (length (alternatives entries)) 0) (ltb 1 absents) (fault.TwoGuesses n) (fault.NoGuess n) (fault.OnlyAbsent n) (fault.TwoAbsent n)))
 
 -- whether some entry passes, by how many do
@@ -135,7 +135,7 @@ any-none p (x ∷ xs) =
 pub any-count : (p : Entry → Bool) (entries : List Entry) → list_any p entries ≡ not (eqb (count_by p entries) 0)
 any-count p entries = any-none p entries ∙ ap not (sym (sum_by-zero (λ (x : Entry). cond (p x) 1 0) entries))
 
-any-times : (p : Entry → Bool) (entries : List Entry) → list_any p entries ≡ not (is_never (times_of (count_by p entries)))
+any-times : (p : Entry → Bool) (entries : List Entry) → list_any p entries ≡ not (is_never (seen_of (count_by p entries)))
 any-times p entries = any-count p entries ∙ ap not (sym (is_never-times (count_by p entries)))
 
 -- the block that the entries amount to, or its first defect

@@ -1,4 +1,6 @@
 pub mod Cuts
+mod Dots
+mod Counts
 pub mod Distinct
 pub mod Enumerated
 pub mod Finishing

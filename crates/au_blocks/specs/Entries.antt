@@ -1,10 +1,13 @@
 -- The records of a table file below its header: what role each has in its block,
 -- and which records form a block.
-use Rattle.std.specs.Prelude.{ℕ, Bool, true, false, not, List, [], ◌∷◌, map, filter, filter_map, Option, Some, None, option_map, is_some, if◌then◌else◌, codes, bytes_eq, slice_index_or}
+use Rattle.std.specs.Prelude.{ℕ, Bool, true, false, not, List, [], ◌∷◌, map, filter, filter_map, Option, Some, None, option_map, is_some, unwrap_or, if◌then◌else◌, codes, bytes_eq, slice_index_or}
 use Rattle.au_csv.specs.Texts.{Record}
 use Rattle.au_blocks.specs.declared.role.Role.{Role}
 use Rattle.au_blocks.specs.declared.role.Role.TheVariants as role
-use Rattle.au_blocks.specs.Headers.{cells_of}
+use Rattle.au_blocks.specs.declared.format.Format.{Format}
+use Rattle.au_blocks.specs.Blocks.{Copies, once}
+use Rattle.au_blocks.specs.Headers.{has_blocks, has_copies, cells_of}
+use Rattle.au_blocks.specs.Spellings.{copies_written}
 
 -- the field at a place, empty where there is none
 abbrev pub field : ℕ → Record → List ℕ
@@ -33,28 +36,35 @@ is_absent role.Alternative = false
 is_absent role.Absent = true
 is_absent role.AbsentGuess = true
 
--- a record's role and cells
+-- a record's role, copies and cells
 pub record Entry : Type 0 where
   pub role : Role
+  pub copies : Copies
   pub cells : Record
 
-abbrev pub entry : Role → Record → Entry
-entry r cells = record { role = r; cells = cells }
+abbrev pub entry : Role → Copies → Record → Entry
+entry r copies cells = record { role = r; copies = copies; cells = cells }
 
 -- the role of a record, if it has one: in a plain table each is a marked alternative
-abbrev pub role_of : Bool → Record → Option Role
-role_of false r = Some role.Guess
-role_of true r = role_named (field 1 r)
+abbrev pub role_of : Format → Record → Option Role
+role_of f r = if has_blocks f then role_named (field 1 r) else Some role.Guess
 
 -- whether a record of a block table has a role
 abbrev pub has_role : Record → Bool
-has_role r = is_some (role_of true r)
+has_role r = is_some (role_named (field 1 r))
 
-abbrev pub entry_of : Bool → Record → Option Entry
-entry_of blocks r = option_map (λ x. entry x (cells_of blocks r)) (role_of blocks r)
+-- the numbers of copies that a record writes, if its format has them: one copy elsewhere
+abbrev pub written_copies : Format → Record → Option Copies
+written_copies f r = if has_copies f then copies_written (field 2 r) else Some once
 
-abbrev pub entries_of : Bool → List Record → List Entry
-entries_of blocks rows = filter_map (entry_of blocks) rows
+abbrev pub copies_in : Format → Record → Copies
+copies_in f r = unwrap_or (written_copies f r) once
+
+abbrev pub entry_of : Format → Record → Option Entry
+entry_of f r = option_map (λ x. entry x (copies_in f r) (cells_of f r)) (role_of f r)
+
+abbrev pub entries_of : Format → List Record → List Entry
+entries_of f rows = filter_map (entry_of f) rows
 
 -- the entries that are alternatives
 abbrev pub alternatives : List Entry → List Entry
@@ -74,6 +84,7 @@ abbrev pub labelled : List ℕ → List Record → List Record
 labelled label rows = filter (λ r. bytes_eq label (label_of r)) rows
 
 -- the entries of each block: of the records with each label, or in a plain table of each record alone
-abbrev pub blocks_of : Bool → List Record → List (List Entry)
-blocks_of false rows = map (λ r. entry role.Guess r ∷ []) rows
-blocks_of true rows = map (λ label. entries_of true (labelled label rows)) (distinct (map label_of rows))
+abbrev pub blocks_of : Format → List Record → List (List Entry)
+blocks_of f rows =
+    if has_blocks f then map (λ label. entries_of f (labelled label rows)) (distinct (map label_of rows))
+    else map (λ r. entry role.Guess once r ∷ []) rows

@@ -5,6 +5,7 @@ use Rattle.au_value.specs.declared.kinds.Kind.{Kind}
 use Rattle.au_value.specs.declared.kinds.Kind.TheVariants as kind
 use Rattle.au_value.specs.Numeral.{numeral_value}
 use Rattle.au_csv.specs.Texts.{Record}
+use Rattle.au_blocks.specs.declared.format.Format.{Format}
 use Rattle.au_blocks.specs.declared.role.Role.{Role}
 use Rattle.au_blocks.specs.Headers.{cells_of}
 use Rattle.au_blocks.specs.Entries.{Entry, field, role_of, is_absent, alternatives}
@@ -34,9 +35,9 @@ abbrev pub offers_row : Option Role → Bool
 offers_row None = false
 offers_row (Some x) = not (is_absent x)
 
-abbrev pub is_alternative : Bool → Record → Bool
-is_alternative blocks r = offers_row (role_of blocks r)
+abbrev pub is_alternative : Format → Record → Bool
+is_alternative f r = offers_row (role_of f r)
 
 -- whether a record has a numeral at a place, if it is an alternative
-abbrev pub holds_numeral : Bool → ℕ → Record → Bool
-holds_numeral blocks k r = not (is_alternative blocks r) || is_numeral (field k (cells_of blocks r))
+abbrev pub holds_numeral : Format → ℕ → Record → Bool
+holds_numeral f k r = not (is_alternative f r) || is_numeral (field k (cells_of f r))

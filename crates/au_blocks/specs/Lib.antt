@@ -1,11 +1,15 @@
+-- The definitions, in the order in which they are to be read.
 pub mod Blocks
 pub mod Tables
 pub mod Worlds
-pub mod Faults
 pub mod Headers
+pub mod Spellings
 pub mod Entries
 pub mod Inferring
 pub mod Defects
 pub mod Read
+-- What the contracts of inner calls and the proofs speak of.
+pub mod Cells
+pub mod Faults
 pub mod Gathered
 pub mod Labels

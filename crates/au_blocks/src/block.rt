@@ -2,13 +2,13 @@
 ghost use Rattle.std.specs.Prelude.{◌≡◌};
 ghost use Rattle.au_blocks.specs.Blocks.{IsBlock, choices};
 
-use crate::cells::Cells;
+use crate::alternative::Alternative;
 use std::marker::Model;
 
 /// Alternative rows, of which one holds, or none where the block is optional. One of these choices is the guess.
 #[derive(Drop)]
 pub struct Block {
-    alternatives: Vec<Cells>,
+    alternatives: Vec<Alternative>,
     optional: bool,
     guess: Option<usize>,
 }
@@ -25,7 +25,7 @@ impl Model for Block {
 
 impl Block {
     // The block of these alternatives.
-    pub(crate) fn of(alternatives: Vec<Cells>, optional: bool, guess: Option<usize>) -> Block
+    pub(crate) fn of(alternatives: Vec<Alternative>, optional: bool, guess: Option<usize>) -> Block
         requires { IsBlock (choices alternatives.items optional guess) }
         ensures { result ≡ choices alternatives.items optional guess }
     {
@@ -36,8 +36,8 @@ impl Block {
         }
     }
 
-    /// The alternative rows, of which there is at least one.
-    pub fn alternatives(&self) -> &[Cells]
+    /// The alternatives, of which there is at least one.
+    pub fn alternatives(&self) -> &[Alternative]
         ensures of { result.now ≡ self.now.alternatives }
         ensures is_block { IsBlock self.now }
     {

@@ -2,16 +2,21 @@
 ghost use Rattle.std.specs.Prelude.{◌≡◌, ◌⊎◌, ◌∷◌, [], true, false, map, Some, Ok, Err, IfErr, IfOk};
 ghost use Rattle.std.specs.List.{list_all};
 ghost use Rattle.au_blocks.specs.Defects.{blocks_defects};
+ghost use Rattle.au_blocks.specs.Blocks.{once};
+ghost use Rattle.au_blocks.specs.Headers.{has_blocks};
 ghost use Rattle.au_blocks.specs.Entries.{blocks_of, entry, has_role};
 ghost use Rattle.au_blocks.specs.Gathered.{all_finished};
 ghost use Rattle.au_blocks.specs.Read.{block_of, first, unless};
 
+use crate::alternative::Alternative;
 use crate::block::Block;
 use crate::builder::BlockBuilder;
 use crate::column::Column;
 use crate::faults::TableFault;
+use crate::format::Format;
 use crate::gather::gather;
 use crate::role::Role;
+use crate::times::Times;
 use crate::values::row;
 use au_csv::Rec;
 use au_value::NoMemory;
@@ -20,16 +25,16 @@ use std::alloc::Global;
 // The blocks of the records below a header with these columns, or the first defect of one.
 pub(crate) fn blocks(
     alloc: Global,
-    has_blocks: bool,
+    format: Format,
     columns: &[Column],
     rows: Vec<Rec>,
 ) -> Result<Vec<Block>, TableFault>
-    requires { has_blocks ≡ true → list_all has_role rows.items ≡ true }
-    ensures blocks { IfOk result (λ bs. unless (first (blocks_defects (blocks_of has_blocks rows.items))) (map (block_of (map (λ c. c.kind) columns.now)) (blocks_of has_blocks rows.items)) ≡ Ok bs.items) }
-    ensures fault { IfErr result (λ e. (e ≡ TableFault.NoMemory) ⊎ (first (blocks_defects (blocks_of has_blocks rows.items)) ≡ Some e)) }
+    requires { has_blocks format ≡ true → list_all has_role rows.items ≡ true }
+    ensures blocks { IfOk result (λ bs. unless (first (blocks_defects (blocks_of format rows.items))) (map (block_of (map (λ c. c.kind) columns.now)) (blocks_of format rows.items)) ≡ Ok bs.items) }
+    ensures fault { IfErr result (λ e. (e ≡ TableFault.NoMemory) ⊎ (first (blocks_defects (blocks_of format rows.items)) ≡ Some e)) }
 {
-    if has_blocks {
-        finish_all(alloc, gather(alloc, columns, rows)?)
+    if format.has_blocks() {
+        finish_all(alloc, gather(alloc, format, columns, rows)?)
     } else {
         Ok(plain_blocks(alloc, columns, rows)?)
     }
@@ -50,7 +55,7 @@ fn finish_all(alloc: Global, builders: Vec<BlockBuilder>) -> Result<Vec<Block>, 
 
 // Each record as a block of its own.
 fn plain_blocks(alloc: Global, columns: &[Column], rows: Vec<Rec>) -> Result<Vec<Block>, NoMemory>
-    ensures { IfOk result (λ bs. bs.items ≡ map (block_of (map (λ c. c.kind) columns.now)) (blocks_of false rows.items)) }
+    ensures { IfOk result (λ bs. bs.items ≡ map (block_of (map (λ c. c.kind) columns.now)) (blocks_of Format.Plain rows.items)) }
 {
     let mut blocks = Vec::new(alloc);
     for record in rows {
@@ -61,9 +66,10 @@ fn plain_blocks(alloc: Global, columns: &[Column], rows: Vec<Rec>) -> Result<Vec
 
 // The block of one marked alternative.
 fn certain(alloc: Global, columns: &[Column], record: Rec) -> Result<Block, NoMemory>
-    ensures { IfOk result (λ b. b ≡ block_of (map (λ c. c.kind) columns.now) (entry Role.Guess «record» ∷ [])) }
+    ensures { IfOk result (λ b. b ≡ block_of (map (λ c. c.kind) columns.now) (entry Role.Guess once «record» ∷ [])) }
 {
     let mut alternatives = Vec::new(alloc);
-    alternatives.push(row(alloc, columns, record.into_fields())?)?;
+    let cells = row(alloc, columns, record.into_fields())?;
+    alternatives.push(Alternative::of(cells, Times::once()))?;
     Ok(Block::of(alternatives, false, Some(0)))
 }

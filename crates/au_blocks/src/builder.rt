@@ -2,10 +2,10 @@
 ghost use Rattle.std.specs.Prelude.{◌≡◌, IfErr, IfOk, OnOk, Ok, Err};
 ghost use Rattle.au_blocks.specs.Gathered.{finished, nothing, with_absence, with_row};
 
+use crate::alternative::Alternative;
 use crate::block::Block;
-use crate::cells::Cells;
 use crate::faults::TableFault;
-use crate::times::Times;
+use crate::seen::Seen;
 use au_value::NoMemory;
 use std::alloc::Global;
 use std::marker::Model;
@@ -13,9 +13,9 @@ use std::marker::Model;
 /// What has been gathered of a block so far.
 #[derive(Drop)]
 pub(crate) struct BlockBuilder {
-    rows: Vec<Cells>,
-    marked: Times,
-    absent: Times,
+    rows: Vec<Alternative>,
+    marked: Seen,
+    absent: Seen,
     guess: Option<usize>,
 }
 
@@ -36,18 +36,18 @@ impl BlockBuilder {
     {
         BlockBuilder {
             rows: Vec::new(alloc),
-            marked: Times::Never,
-            absent: Times::Never,
+            marked: Seen::Never,
+            absent: Seen::Never,
             guess: None,
         }
     }
 
     /// One alternative more.
-    pub(crate) fn add_row(&mut self, marked: bool, cells: Cells) -> Result<(), NoMemory>
-        ensures { OnOk result (self.new ≡ with_row self.old marked cells) }
+    pub(crate) fn add_row(&mut self, marked: bool, alternative: Alternative) -> Result<(), NoMemory>
+        ensures { OnOk result (self.new ≡ with_row self.old marked alternative) }
     {
         let place = self.rows.len();
-        self.rows.push(cells)?;
+        self.rows.push(alternative)?;
         if marked {
             self.marked = self.marked.more();
             if self.guess.is_none() {

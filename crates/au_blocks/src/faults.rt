@@ -7,18 +7,18 @@ use std::alloc::{AllocError, AllocFailed};
 
 /// The first defect of a text that is no block table, with its place.
 ///
-/// Records are counted from 0, where record 0 is the header. Columns are counted from 0 behind `_block` and `_role`,
+/// Records are counted from 0, where record 0 is the header. Columns are counted from 0 behind `_block`, `_role` and `_times`,
 /// and blocks from 0 in the order of their first records. The defects are judged in this order: `NotText`; `NoHeader`;
 /// `TooManyColumns`; for each column `BadColumnName`, `UnknownKind`, `SameName`; for each further record `WrongWidth`,
-/// `BadRole`, `AbsentWithValues`, `BadField` by columns; for each block `TwoGuesses`, `NoGuess`, `OnlyAbsent`,
-/// `TwoAbsent`.
+/// `BadRole`, `AbsentWithValues`, `BadTimes`, `BadField` by columns; for each block `TwoGuesses`, `NoGuess`,
+/// `OnlyAbsent`, `TwoAbsent`.
 #[derive(Clone, Copy, Debug, PartialEq, Eq)]
 pub enum TableFault {
     /// There is no record.
     NoHeader,
     /// A field of this record isn't UTF-8.
     NotText(usize),
-    /// There are more than 64 columns, `_block` and `_role` not counted.
+    /// There are more than 64 columns, `_block`, `_role` and `_times` not counted.
     TooManyColumns,
     /// The name of this column is longer than 128 bytes.
     BadColumnName(usize),
@@ -30,7 +30,8 @@ pub enum TableFault {
     WrongWidth(usize),
     /// The role of this record is none of `guess`, `alt`, `absent` and `absent-guess`.
     BadRole(usize),
-    /// In this record, which isn't absent, the field of this column is no value of the column's written kind.
+    /// In this record, which isn't absent, the field of this column is no value of the column's written kind, and no range
+    /// of a written kind of numbers in a table with `_times`.
     BadField(usize, usize),
     /// More than one record of this block is marked as the guess.
     TwoGuesses(usize),
@@ -42,6 +43,8 @@ pub enum TableFault {
     TwoAbsent(usize),
     /// This absent record has a field behind its role that isn't empty.
     AbsentWithValues(usize),
+    /// In a table with `_times`, this record isn't absent, and its third field writes no numbers of copies.
+    BadTimes(usize),
     /// An allocation was refused.
     NoMemory,
 }

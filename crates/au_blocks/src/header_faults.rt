@@ -6,6 +6,7 @@ ghost use Rattle.au_blocks.specs.Headers.{column_names};
 ghost use Rattle.au_blocks.specs.Read.{first};
 
 use crate::faults::TableFault;
+use crate::format::Format;
 use crate::header::is_unknown;
 use au_value::Word;
 
@@ -16,15 +17,15 @@ const MAX_COLUMNS: usize = 64;
 const MAX_NAME: usize = 128;
 
 // The first defect of a header whose columns have these names and fields.
-pub(crate) fn header_fault(blocks: bool, names: &[Word], fields: &[Word]) -> Option<TableFault>
-    requires { names.now ≡ column_names blocks fields.now }
-    ensures { result ≡ first (header_defects blocks fields.now) }
+pub(crate) fn header_fault(format: Format, names: &[Word], fields: &[Word]) -> Option<TableFault>
+    requires { names.now ≡ column_names format fields.now }
+    ensures { result ≡ first (header_defects format fields.now) }
 {
     if fields.len() > MAX_COLUMNS {
         return Some(TableFault::TooManyColumns);
     }
     for place in 0..fields.len() {
-        if let Some(fault) = column_fault(blocks, names, place, fields[place].as_str()) {
+        if let Some(fault) = column_fault(format, names, place, fields[place].as_str()) {
             return Some(fault);
         }
     }
@@ -32,15 +33,15 @@ pub(crate) fn header_fault(blocks: bool, names: &[Word], fields: &[Word]) -> Opt
 }
 
 // The first defect of the column at a place, which has this header field.
-fn column_fault(blocks: bool, names: &[Word], place: usize, field: &str) -> Option<TableFault>
+fn column_fault(format: Format, names: &[Word], place: usize, field: &str) -> Option<TableFault>
     requires { place < length names.now }
-    ensures { result ≡ first (column_defects blocks names.now (place, slice_index_or names.now place [], field.now)) }
+    ensures { result ≡ first (column_defects format names.now (place, slice_index_or names.now place [], field.now)) }
 {
     let name = names[place].as_str();
     if name.len() > MAX_NAME {
         return Some(TableFault::BadColumnName(place));
     }
-    if is_unknown(blocks, field) {
+    if is_unknown(format, field) {
         return Some(TableFault::UnknownKind(place));
     }
     match same_name(&names[..place], name) {

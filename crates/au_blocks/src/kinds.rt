@@ -4,6 +4,7 @@ ghost use Rattle.std.specs.List.{list_all, list_any};
 ghost use Rattle.au_blocks.specs.Entries.{entries_of};
 ghost use Rattle.au_blocks.specs.Inferring.{column_kind as column_kind_of, holds_numeral as holds_numeral_of, inferred, is_alternative as is_alternative_of, kinds_of};
 
+use crate::format::Format;
 use crate::header::cells;
 use crate::row_faults::role;
 use au_csv::Rec;
@@ -13,71 +14,71 @@ use std::alloc::Global;
 // The kinds of columns with these written kinds, over the records below the header.
 pub(crate) fn kinds(
     alloc: Global,
-    blocks: bool,
+    format: Format,
     written: &[Option<Kind>],
     rows: &[Rec],
 ) -> Result<Vec<Kind>, NoMemory>
-    ensures { IfOk result (λ kinds. kinds.items ≡ kinds_of (entries_of blocks rows.now) written.now) }
+    ensures { IfOk result (λ kinds. kinds.items ≡ kinds_of (entries_of format rows.now) written.now) }
 {
     let kinds = written
         .iter()
         .enumerate()
-        .map(|(place, kind)| column_kind(blocks, place, *kind, rows));
+        .map(|(place, kind)| column_kind(format, place, *kind, rows));
     Ok(kinds.collect(alloc)?)
 }
 
 // The kind of the column at a place.
-fn column_kind(blocks: bool, place: usize, written: Option<Kind>, rows: &[Rec]) -> Kind
-    ensures { result ≡ column_kind_of (entries_of blocks rows.now) (place, written) }
+fn column_kind(format: Format, place: usize, written: Option<Kind>, rows: &[Rec]) -> Kind
+    ensures { result ≡ column_kind_of (entries_of format rows.now) (place, written) }
 {
     match written {
         Some(kind) => kind,
-        None => inferred_kind(blocks, place, rows),
+        None => inferred_kind(format, place, rows),
     }
 }
 
 // Whole numbers where there is an alternative and each has a numeral there, and texts elsewhere.
-fn inferred_kind(blocks: bool, place: usize, rows: &[Rec]) -> Kind
-    ensures { result ≡ inferred (list_any (is_alternative_of blocks) rows.now && list_all (holds_numeral_of blocks place) rows.now) }
+fn inferred_kind(format: Format, place: usize, rows: &[Rec]) -> Kind
+    ensures { result ≡ inferred (list_any (is_alternative_of format) rows.now && list_all (holds_numeral_of format place) rows.now) }
 {
-    if any_alternative(blocks, rows) && all_numerals(blocks, place, rows) {
+    if any_alternative(format, rows) && all_numerals(format, place, rows) {
         Kind::Int
     } else {
         Kind::Text
     }
 }
 
-fn any_alternative(blocks: bool, rows: &[Rec]) -> bool
-    ensures { result ≡ list_any (is_alternative_of blocks) rows.now }
+fn any_alternative(format: Format, rows: &[Rec]) -> bool
+    ensures { result ≡ list_any (is_alternative_of format) rows.now }
 {
     rows.iter()
-        .any(|record| is_alternative(blocks, record.fields()))
+        .any(|record| is_alternative(format, record.fields()))
 }
 
-fn all_numerals(blocks: bool, place: usize, rows: &[Rec]) -> bool
-    ensures { result ≡ list_all (holds_numeral_of blocks place) rows.now }
+fn all_numerals(format: Format, place: usize, rows: &[Rec]) -> bool
+    ensures { result ≡ list_all (holds_numeral_of format place) rows.now }
 {
     rows.iter()
-        .all(|record| holds_numeral(blocks, place, record.fields()))
+        .all(|record| holds_numeral(format, place, record.fields()))
 }
 
 // Whether a record is an alternative.
-fn is_alternative(blocks: bool, fields: &[Word]) -> bool
-    ensures { result ≡ is_alternative_of blocks fields.now }
+fn is_alternative(format: Format, fields: &[Word]) -> bool
+    ensures { result ≡ is_alternative_of format fields.now }
 {
-    match role(blocks, fields) {
+    match role(format, fields) {
         Some(role) => !role.is_absent(),
         None => false,
     }
 }
 
 // Whether a record is no alternative, or has a numeral at this place.
-fn holds_numeral(blocks: bool, place: usize, fields: &[Word]) -> bool
-    ensures { result ≡ holds_numeral_of blocks place fields.now }
+fn holds_numeral(format: Format, place: usize, fields: &[Word]) -> bool
+    ensures { result ≡ holds_numeral_of format place fields.now }
 {
-    if !is_alternative(blocks, fields) {
+    if !is_alternative(format, fields) {
         return true;
     }
-    let cells = cells(blocks, fields);
+    let cells = cells(format, fields);
     place < cells.len() && read_numeral(cells[place].as_str().as_bytes()).is_some()
 }

@@ -2,24 +2,27 @@
 //!
 //! [`read_table`] reads the bytes of a CSV file as a [`Table`], or names the first of their defects, a [`TableFault`].
 //! A table has columns and blocks: [`Table::columns`] and [`Table::blocks`] read it. A [`Block`] has at least one
-//! alternative row, may be optional, and marks one choice as the guess: [`Block::alternatives`], [`Block::optional`] and
-//! [`Block::guess`] read it.
+//! alternative, may be optional, and marks one choice as the guess: [`Block::alternatives`], [`Block::optional`] and
+//! [`Block::guess`] read it. An [`Alternative`] has a [`Cell`] for each column, a value or a range, and its [`Times`] say
+//! how many copies of it there are.
 //!
 //! ```text
 //! let table = read_table(alloc, bytes)?;
 //! for block in table.blocks() {
-//!     let rows = block.alternatives();
+//!     let alternatives = block.alternatives();
 //!     let guess = block.guess();
 //! }
 //! ```
 #![tactic(auto)]
 
+mod alternative;
 mod block;
 mod blocks;
 mod builder;
-mod cells;
+mod cell;
 mod column;
 mod faults;
+mod format;
 mod gather;
 mod header;
 mod header_faults;
@@ -28,13 +31,17 @@ mod read;
 mod role;
 mod row_faults;
 mod schema;
+mod seen;
+mod spellings;
 mod table;
 mod times;
 mod values;
 
+pub use alternative::Alternative;
 pub use block::Block;
-pub use cells::Cells;
+pub use cell::Cell;
 pub use column::{Column, copy_columns};
 pub use faults::TableFault;
 pub use read::read_table;
 pub use table::Table;
+pub use times::Times;

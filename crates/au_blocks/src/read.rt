@@ -5,7 +5,7 @@ ghost use Rattle.au_blocks.specs.Read.{contents, first, table_of, unless};
 
 use crate::blocks::blocks;
 use crate::faults::TableFault;
-use crate::header::has_blocks;
+use crate::format::Format;
 use crate::schema::schema;
 use crate::table::Table;
 use au_csv::{Rec, records};
@@ -15,8 +15,10 @@ use std::alloc::Global;
 /// The block table of the bytes of a table file.
 ///
 /// The first record is the header. Where it begins with `_block` and `_role`, each further record has a block's label and
-/// a role, and the records of one label form a block; elsewhere each record is a block of one alternative. A column has
-/// the kind that is written behind its name, or else `Int` where all of its fields are numerals, or `Text`.
+/// a role, and the records of one label form a block; elsewhere each record is a block of one alternative. Where it begins
+/// with `_block`, `_role` and `_times`, each alternative has numbers of copies besides, and a field of a column of numbers
+/// may be a range `lo..guess..hi`. A column has the kind that is written behind its name, or else `Int` where all of its
+/// fields are numerals, or `Text`. Values of a kind `Dec` are in units of its scale.
 ///
 /// The answer is a fault exactly where the bytes are no block table, and it is the first in the order that [`TableFault`]
 /// gives.
@@ -38,6 +40,7 @@ fn table_under(alloc: Global, header: &[Word], rows: Vec<Rec>) -> Result<Table, 
     ensures fault { IfErr result (λ e. (e ≡ TableFault.NoMemory) ⊎ (first (table_defects (header.now ∷ rows.items)) ≡ Some e)) }
 {
     let columns = schema(alloc, header, rows.as_slice())?;
-    let blocks = blocks(alloc, has_blocks(header), columns.as_slice(), rows)?;
+    let format = Format::of(header);
+    let blocks = blocks(alloc, format, columns.as_slice(), rows)?;
     Ok(Table::of(columns, blocks))
 }

@@ -1,27 +1,31 @@
 //! What makes a record no row of a block table.
-ghost use Rattle.std.specs.Prelude.{◌≡◌, is_some, length, nat_lt, option_map, unwrap_or};
+ghost use Rattle.std.specs.Prelude.{◌≡◌, Some, drop, is_some, length, nat_lt};
 ghost use Rattle.std.specs.List.{list_any};
-ghost use Rattle.au_blocks.specs.Defects.{bad_fields, field_value, flag_value, record_defects, role_defects, rows_defects};
-ghost use Rattle.au_blocks.specs.Entries.{role_of};
+ghost use Rattle.au_blocks.specs.Defects.{alternative_defects, bad_fields, is_field as is_field_of, record_defects, role_defects, rows_defects};
+ghost use Rattle.au_blocks.specs.Entries.{copies_in, role_of, written_copies};
+ghost use Rattle.au_blocks.specs.Spellings.{value_written};
 ghost use Rattle.au_blocks.specs.Read.{first};
 
 use crate::faults::TableFault;
+use crate::format::Format;
 use crate::header::cells;
 use crate::role::Role;
+use crate::spellings::{flag_written, number_written, range_written, times_written};
+use crate::times::Times;
 use au_csv::Rec;
-use au_value::{Kind, Value, Word, read_numeral};
+use au_value::{Kind, Word};
 
 // The first defect of the records below a header of this width, whose columns have these written kinds.
 pub(crate) fn row_fault(
-    blocks: bool,
+    format: Format,
     width: usize,
     written: &[Option<Kind>],
     rows: &[Rec],
 ) -> Option<TableFault>
-    ensures { result ≡ first (rows_defects blocks width written.now rows.now) }
+    ensures { result ≡ first (rows_defects format width written.now rows.now) }
 {
     for place in 0..rows.len() {
-        if let Some(fault) = record_fault(blocks, width, written, place + 1, rows[place].fields()) {
+        if let Some(fault) = record_fault(format, width, written, place + 1, rows[place].fields()) {
             return Some(fault);
         }
     }
@@ -30,29 +34,28 @@ pub(crate) fn row_fault(
 
 // The first defect of the record with this number.
 fn record_fault(
-    blocks: bool,
+    format: Format,
     width: usize,
     written: &[Option<Kind>],
     number: usize,
     fields: &[Word],
 ) -> Option<TableFault>
-    ensures { result ≡ first (record_defects blocks width written.now (number, fields.now)) }
+    ensures { result ≡ first (record_defects format width written.now (number, fields.now)) }
 {
     if fields.len() != width {
         return Some(TableFault::WrongWidth(number));
     }
-    let cells = cells(blocks, fields);
-    match role(blocks, fields) {
+    match role(format, fields) {
         None => Some(TableFault::BadRole(number)),
-        Some(role) => role_fault(number, written, cells, role),
+        Some(role) => role_fault(format, number, written, fields, role),
     }
 }
 
 // The role of a record: in a plain table each is a marked alternative.
-pub(crate) fn role(blocks: bool, fields: &[Word]) -> Option<Role>
-    ensures { result ≡ role_of blocks fields.now }
+pub(crate) fn role(format: Format, fields: &[Word]) -> Option<Role>
+    ensures { result ≡ role_of format fields.now }
 {
-    if !blocks {
+    if !format.has_blocks() {
         return Some(Role::Guess);
     }
     match fields {
@@ -61,63 +64,108 @@ pub(crate) fn role(blocks: bool, fields: &[Word]) -> Option<Role>
     }
 }
 
-// The first defect of the cells of a record with this role.
+// The first defect of a record with this role.
 fn role_fault(
+    format: Format,
     number: usize,
     written: &[Option<Kind>],
-    cells: &[Word],
+    fields: &[Word],
     role: Role,
 ) -> Option<TableFault>
-    ensures { result ≡ first (role_defects number written.now cells.now (Some role)) }
+    ensures { result ≡ first (role_defects format number written.now fields.now (Some role)) }
 {
     if !role.is_absent() {
-        return bad_field(number, written, cells);
+        return alternative_fault(format, number, written, fields);
     }
-    if has_value(cells) {
+    if has_value(fields) {
         return Some(TableFault::AbsentWithValues(number));
     }
     None
 }
 
-// Whether a cell isn't empty.
-fn has_value(cells: &[Word]) -> bool
-    ensures { result ≡ list_any (λ text. nat_lt 0 (length text)) cells.now }
+// Whether a field behind the label and the role isn't empty.
+fn has_value(fields: &[Word]) -> bool
+    ensures { result ≡ list_any (λ text. nat_lt 0 (length text)) (drop 2 fields.now) }
 {
-    cells.iter().any(|cell| cell.as_str().len() > 0)
+    cells(Format::Blocks, fields)
+        .iter()
+        .any(|field| field.as_str().len() > 0)
 }
 
-// The first cell that is no value of the written kind.
-fn bad_field(number: usize, written: &[Option<Kind>], cells: &[Word]) -> Option<TableFault>
-    ensures { result ≡ first (bad_fields number written.now cells.now) }
+// The first defect of an alternative.
+fn alternative_fault(
+    format: Format,
+    number: usize,
+    written: &[Option<Kind>],
+    fields: &[Word],
+) -> Option<TableFault>
+    ensures { result ≡ first (alternative_defects format number written.now fields.now) }
+{
+    if written_times(format, fields).is_none() {
+        return Some(TableFault::BadTimes(number));
+    }
+    bad_field(format, number, written, cells(format, fields))
+}
+
+// The numbers of copies that a record writes.
+fn written_times(format: Format, fields: &[Word]) -> Option<Times>
+    ensures { result ≡ written_copies format fields.now }
+{
+    if !format.has_copies() {
+        return Some(Times::once());
+    }
+    match fields {
+        [_, _, times, ..] => times_written(times.as_str()),
+        _ => None,
+    }
+}
+
+// The numbers of copies of a record.
+pub(crate) fn times_in(format: Format, fields: &[Word]) -> Times
+    ensures { result ≡ copies_in format fields.now }
+{
+    match written_times(format, fields) {
+        Some(times) => times,
+        None => Times::once(),
+    }
+}
+
+// The first cell that is no field of its column.
+fn bad_field(
+    format: Format,
+    number: usize,
+    written: &[Option<Kind>],
+    cells: &[Word],
+) -> Option<TableFault>
+    ensures { result ≡ first (bad_fields format number written.now cells.now) }
 {
     for place in 0..written.len().min(cells.len()) {
-        if !is_value(written[place], cells[place].as_str()) {
+        if !is_field(format, written[place], cells[place].as_str()) {
             return Some(TableFault::BadField(number, place));
         }
     }
     None
 }
 
-// Whether a text is a value of a kind, or of a kind that isn't written.
-fn is_value(kind: Option<Kind>, text: &str) -> bool
-    ensures { result ≡ is_some (field_value (unwrap_or kind Kind.Text) text.now) }
+// Whether a text is a field of a column of this kind, or of one that isn't written.
+fn is_field(format: Format, kind: Option<Kind>, text: &str) -> bool
+    ensures { result ≡ is_field_of format kind text.now }
 {
     match kind {
-        Some(Kind::Int) => read_numeral(text.as_bytes()).is_some(),
-        Some(Kind::Flag) => flag(text).is_some(),
-        Some(Kind::Text) | None => true,
+        None => true,
+        Some(kind) => {
+            is_value(kind, text) || format.has_copies() && range_written(kind, text).is_some()
+        }
     }
 }
 
-// The flag that a text writes.
-pub(crate) fn flag(text: &str) -> Option<bool>
-    ensures { option_map Value.Flag result ≡ flag_value text.now }
+// Whether a text is a value of a kind.
+fn is_value(kind: Kind, text: &str) -> bool
+    ensures { result ≡ is_some (value_written kind text.now) }
 {
-    if text == "true" {
-        Some(true)
-    } else if text == "false" {
-        Some(false)
-    } else {
-        None
+    match kind {
+        Kind::Int | Kind::Dec(_) => number_written(kind, text).is_some(),
+        Kind::Flag => flag_written(text).is_some(),
+        Kind::Text => true,
     }
 }

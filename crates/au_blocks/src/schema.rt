@@ -5,7 +5,8 @@ ghost use Rattle.au_blocks.specs.Read.{columns_of, first, header_columns};
 
 use crate::column::Column;
 use crate::faults::TableFault;
-use crate::header::{cells, column_names, has_blocks, written_kinds};
+use crate::format::Format;
+use crate::header::{cells, column_names, written_kinds};
 use crate::header_faults::header_fault;
 use crate::kinds::kinds;
 use crate::row_faults::row_fault;
@@ -23,17 +24,17 @@ pub(crate) fn schema(
     ensures columns { IfOk result (λ columns. columns.items ≡ header_columns header.now rows.now) }
     ensures fault { IfErr result (λ e. (e ≡ TableFault.NoMemory) ⊎ (first (schema_defects header.now rows.now) ≡ Some e)) }
 {
-    let blocks = has_blocks(header);
-    let fields = cells(blocks, header);
-    let names = column_names(alloc, blocks, fields)?;
-    if let Some(fault) = header_fault(blocks, names.as_slice(), fields) {
+    let format = Format::of(header);
+    let fields = cells(format, header);
+    let names = column_names(alloc, format, fields)?;
+    if let Some(fault) = header_fault(format, names.as_slice(), fields) {
         return Err(fault);
     }
     let written = written_kinds(alloc, fields)?;
-    if let Some(fault) = row_fault(blocks, header.len(), written.as_slice(), rows) {
+    if let Some(fault) = row_fault(format, header.len(), written.as_slice(), rows) {
         return Err(fault);
     }
-    let kinds = kinds(alloc, blocks, written.as_slice(), rows)?;
+    let kinds = kinds(alloc, format, written.as_slice(), rows)?;
     Ok(columns(alloc, names, kinds)?)
 }
 

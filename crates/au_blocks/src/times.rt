@@ -1,41 +1,70 @@
-//! How often something came.
+//! How often a row may stand in a table.
 ghost use Rattle.std.specs.Prelude.{◌≡◌};
-ghost use Rattle.au_blocks.specs.Gathered.{more as more_of, is_again as is_again_of, is_never as is_never_of};
+ghost use Rattle.au_blocks.specs.Blocks.{IsCopies, copies_of, once};
 
-/// How often something came: beyond once, it doesn't matter.
-#[derive(Clone, Copy)]
-pub(crate) enum Times {
-    Never,
-    Once,
-    Again,
+use std::marker::Model;
+
+/// How many copies of a row there are at least, by the guess and at most: least <= guess <= most <= 10^12.
+#[derive(Clone, Copy, Debug, PartialEq, Eq)]
+pub struct Times {
+    least: u64,
+    guess: u64,
+    most: u64,
+}
+
+impl Model for Times {
+    ghost use Rattle.au_blocks.specs.Blocks.{Copies, IsCopies, copies_of};
+
+    ghost Value = { Copies };
+
+    ghost view = { λ t. copies_of t.least t.guess t.most };
+
+    ghost invariant = { λ t. IsCopies (copies_of t.least t.guess t.most) };
+
+    ghost inverse = { λ t. record { least = t.least; guess = t.guess; most = t.most } };
 }
 
 impl Times {
-    /// Once more.
-    pub(crate) fn more(self) -> Times
-        ensures { result ≡ more_of self }
+    // These numbers.
+    pub(crate) fn of(least: u64, guess: u64, most: u64) -> Times
+        requires { IsCopies (copies_of least guess most) }
+        ensures { result ≡ copies_of least guess most }
     {
-        match self {
-            Times::Never => Times::Once,
-            Times::Once | Times::Again => Times::Again,
+        Times { least, guess, most }
+    }
+
+    // One copy.
+    pub(crate) fn once() -> Times
+        ensures { result ≡ once }
+    {
+        Times {
+            least: 1,
+            guess: 1,
+            most: 1,
         }
     }
 
-    pub(crate) fn is_never(self) -> bool
-        ensures { result ≡ is_never_of self }
+    /// The least number of copies.
+    pub fn least(&self) -> u64
+        ensures of { result ≡ self.now.least }
+        ensures copies { IsCopies self.now }
     {
-        match self {
-            Times::Never => true,
-            Times::Once | Times::Again => false,
-        }
+        self.least
     }
 
-    pub(crate) fn is_again(self) -> bool
-        ensures { result ≡ is_again_of self }
+    /// The guessed number of copies.
+    pub fn guess(&self) -> u64
+        ensures of { result ≡ self.now.guess }
+        ensures copies { IsCopies self.now }
     {
-        match self {
-            Times::Again => true,
-            Times::Never | Times::Once => false,
-        }
+        self.guess
+    }
+
+    /// The greatest number of copies.
+    pub fn most(&self) -> u64
+        ensures of { result ≡ self.now.most }
+        ensures copies { IsCopies self.now }
+    {
+        self.most
     }
 }

@@ -1,56 +1,75 @@
-//! Texts as values of their columns.
-ghost use Rattle.std.specs.Prelude.{◌≡◌, map, zip, IfOk};
-ghost use Rattle.au_blocks.specs.Read.{cell, row as row_of};
+//! Texts as cells of their columns.
+ghost use Rattle.std.specs.Prelude.{◌≡◌, map, true, unwrap_or, zip, IfOk};
+ghost use Rattle.au_blocks.specs.Read.{cell as cell_of, row as row_of};
+ghost use Rattle.au_blocks.specs.Spellings.{is_number_kind, range_written as range_written_of};
+ghost use Rattle.au_value.specs.Ranges.{certain};
 
-use crate::cells::Cells;
+use crate::cell::Cell;
 use crate::column::Column;
-use crate::row_faults::flag;
-use au_value::{Kind, NoMemory, Value, Word, read_numeral};
+use crate::spellings::{flag_written, number_written, range_written};
+use au_value::{Kind, NoMemory, Value, Word};
 use std::alloc::Global;
 
-// The row of these texts, one for each column. A text that is no value of its column's kind stays a text.
+// The row of these texts, one for each column.
 #[tactic(auto, using(crate::proofs::RowValues::row_by_columns))]
-pub(crate) fn row(alloc: Global, columns: &[Column], words: Vec<Word>) -> Result<Cells, NoMemory>
-    ensures { IfOk result (λ cells. cells ≡ row_of (map (λ c. c.kind) columns.now) words.items) }
+pub(crate) fn row(
+    alloc: Global,
+    columns: &[Column],
+    words: Vec<Word>,
+) -> Result<Vec<Cell>, NoMemory>
+    ensures { IfOk result (λ cells. cells.items ≡ row_of (map (λ c. c.kind) columns.now) words.items) }
 {
-    Ok(Cells::new(values(alloc, columns, words)?))
+    cells(alloc, columns, words)
 }
 
-// The values of these texts, one for each column.
-fn values(alloc: Global, columns: &[Column], words: Vec<Word>) -> Result<Vec<Value>, NoMemory>
-    ensures { IfOk result (λ values. values.items ≡ map (λ p. cell (p.0.kind, p.1)) (zip columns.now words.items)) }
+// The cells of these texts, one for each column.
+fn cells(alloc: Global, columns: &[Column], words: Vec<Word>) -> Result<Vec<Cell>, NoMemory>
+    ensures { IfOk result (λ cells. cells.items ≡ map (λ p. cell_of (p.0.kind, p.1)) (zip columns.now words.items)) }
 {
-    let values = columns
+    let cells = columns
         .iter()
         .zip(words)
-        .map(|(column, word)| value(column.kind, word));
-    Ok(values.collect(alloc)?)
+        .map(|(column, word)| cell(column.kind, word));
+    Ok(cells.collect(alloc)?)
 }
 
-fn value(kind: Kind, word: Word) -> Value
-    ensures { result ≡ cell (kind, word) }
+// The cell of a text: of the value that it writes, or else the range. Where it writes neither, it stays a text.
+fn cell(kind: Kind, word: Word) -> Cell
+    ensures { result ≡ cell_of (kind, word) }
 {
     match kind {
-        Kind::Int => number(word),
-        Kind::Text => Value::Text(word),
+        Kind::Text => Cell::certain(Value::Text(word)),
         Kind::Flag => truth(word),
+        Kind::Int | Kind::Dec(_) => number(kind, word),
     }
 }
 
-fn number(word: Word) -> Value
-    ensures { result ≡ cell (Kind.Int, word) }
+fn truth(word: Word) -> Cell
+    ensures { result ≡ cell_of (Kind.Flag, word) }
 {
-    match read_numeral(word.as_str().as_bytes()) {
-        Some(number) => Value::Int(number),
-        None => Value::Text(word),
+    match flag_written(word.as_str()) {
+        Some(truth) => Cell::certain(Value::Flag(truth)),
+        None => Cell::certain(Value::Text(word)),
     }
 }
 
-fn truth(word: Word) -> Value
-    ensures { result ≡ cell (Kind.Flag, word) }
+// The cell of a text in a column of numbers.
+fn number(kind: Kind, word: Word) -> Cell
+    requires { is_number_kind kind ≡ true }
+    ensures { result ≡ cell_of (kind, word) }
 {
-    match flag(word.as_str()) {
-        Some(truth) => Value::Flag(truth),
-        None => Value::Text(word),
+    match number_written(kind, word.as_str()) {
+        Some(number) => Cell::certain(Value::Int(number)),
+        None => ranged(kind, word),
+    }
+}
+
+// The cell of a text in a column of numbers that writes no number.
+fn ranged(kind: Kind, word: Word) -> Cell
+    ensures { result ≡ unwrap_or (range_written_of kind word) (certain (Value.Text word)) }
+{
+    match range_written(kind, word.as_str()) {
+        Some(range) => Cell::between(range),
+        None => Cell::certain(Value::Text(word)),
     }
 }

@@ -121,7 +121,7 @@ length_sum : {A : Type 0} (xs : List A) → sum_by (λ (x : A). 1) xs ≡ length
 length_sum [] = refl
 length_sum {A} (x ∷ xs) = omega (arith, length_sum xs, sum_by-cons (λ (y : A). 1) x xs)
 
-fewer : {A : Type 0} (test : A → Bool) (xs : List A) → length (filter test xs) ≤ length xs
+pub fewer : {A : Type 0} (test : A → Bool) (xs : List A) → length (filter test xs) ≤ length xs
 fewer {A} test xs = omega (arith, length_sum (filter test xs), length_sum xs, sum_of_some (λ (x : A). 1) test xs)
 
 module _ (f : Counts → ℕ) (is : IsComponent f) (few : (keys : List Span → List Span) (rows : Bounded) → OneAtMost rows → f (group_counts keys rows) ≤ length rows) where

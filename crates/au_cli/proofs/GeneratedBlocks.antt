@@ -12,11 +12,12 @@ use Rattle.au_value.specs.declared.kinds.Kind.TheVariants as kind
 use Rattle.au_value.specs.Numeral.{numeral_value}
 use Rattle.au_csv.specs.Texts.{Record, is_text}
 use Rattle.au_gen.specs.Generator.{draw}
+use Rattle.au_blocks.specs.Headers.{format_of}
 use Rattle.au_blocks.specs.Entries.{Entry, entries_of, distinct, label_of, labelled, blocks_of}
 use Rattle.au_blocks.specs.Defects.{record_defects, block_defects, blocks_defects}
 use Rattle.au_blocks.proofs.Distinct.{itself}
 use Rattle.au_cli.proofs.GeneratedDigits.{codes_utf8, decimal_utf8, lettered_utf8, decimal_numeral, decimal_apart}
-use Rattle.au_cli.proofs.GeneratedRecords.{guess_fields, alternative_fields, absent_fields, row_if, labelled_rows, block_rows, drawn_rows, rows_from}
+use Rattle.au_cli.proofs.GeneratedRecords.{header_fields, guess_fields, alternative_fields, absent_fields, row_if, labelled_rows, block_rows, drawn_rows, rows_from}
 
 -- ---- each record
 
@@ -27,7 +28,7 @@ written = Some kind.Int ∷ Some kind.Text ∷ Some kind.Int ∷ []
 -- a record is text, and has no defect at any place
 pub record IsSound (r : Record) : Type 0 where
   pub text : is_text r ≡ true
-  pub faults : (k : ℕ) → record_defects true 5 written (k, r) ≡ []
+  pub faults : (k : ℕ) → record_defects (format_of header_fields) 5 written (k, r) ≡ []
 
 guess_sound : (label group amount : List ℕ) (i n : ℤ) → is_utf8 label ≡ true → is_utf8 (codes "g" ++ group) ≡ true → is_utf8 amount ≡ true
     → numeral_value label ≡ Some i → numeral_value amount ≡ Some n → IsSound (guess_fields label group amount)
@@ -72,7 +73,7 @@ pub all_text : (rows : List Record) → AllByRecursion IsSound rows → list_all
 all_text [] h = refl
 all_text (r ∷ rows) h = rw (h.0.text) (all_text rows h.1)
 
-pub no_row_defects : (k : ℕ) (rows : List Record) → AllByRecursion IsSound rows → flat_map (record_defects true 5 written) (enumerate_from k rows) ≡ []
+pub no_row_defects : (k : ℕ) (rows : List Record) → AllByRecursion IsSound rows → flat_map (record_defects (format_of header_fields) 5 written) (enumerate_from k rows) ≡ []
 no_row_defects k [] h = refl
 no_row_defects k (r ∷ rows) h = rw (h.0.faults k) (no_row_defects (k + 1) rows h.1)
 
@@ -180,13 +181,13 @@ block_labelled start a (suc n) j from to few = elim (cases_lt a j) [
 abbrev pub IsFine : List Entry → Type 0
 IsFine es = (k : ℕ) → block_defects (k, es) ≡ []
 
-block_fine : (label group amount other more : List ℕ) (two absent : Bool) → IsFine (entries_of true (labelled_rows label group amount other more two absent))
+block_fine : (label group amount other more : List ℕ) (two absent : Bool) → IsFine (entries_of (format_of header_fields) (labelled_rows label group amount other more two absent))
 block_fine label group amount other more true true k = refl
 block_fine label group amount other more true false k = refl
 block_fine label group amount other more false true k = refl
 block_fine label group amount other more false false k = refl
 
-drawn_fine : (start j : ℕ) → IsFine (entries_of true (drawn_rows start j))
+drawn_fine : (start j : ℕ) → IsFine (entries_of (format_of header_fields) (drawn_rows start j))
 drawn_fine start j =
     let a = draw start (3 * j + 1) in
     let b = draw start (3 * j + 2) in
@@ -195,12 +196,12 @@ drawn_fine start j =
 
 -- the entries of a label
 abbrev entries_at : List Record → List ℕ → List Entry
-entries_at rows label = entries_of true (labelled label rows)
+entries_at rows label = entries_of (format_of header_fields) (labelled label rows)
 
 labels_fine : (start all a n : ℕ) → a + n ≤ all → all ≤ 100000 → AllByRecursion IsFine (map (entries_at (rows_from start 0 all)) (labels a n))
 labels_fine start all a zero fits few = tt
 labels_fine start all a (suc n) fits few = (
-  (λ k. ap (λ rows. block_defects (k, entries_of true rows)) (block_labelled start 0 all a (omega arith) (omega arith) (omega arith)) ∙ drawn_fine start a k),
+  (λ k. ap (λ rows. block_defects (k, entries_of (format_of header_fields) rows)) (block_labelled start 0 all a (omega arith) (omega arith) (omega arith)) ∙ drawn_fine start a k),
   labels_fine start all (a + 1) n (omega arith) few,
 )
 
@@ -212,15 +213,15 @@ length_labels : (a n : ℕ) → length (labels a n) ≡ n
 length_labels a zero = refl
 length_labels a (suc n) = let more : length (labels (a + 1) n) ≡ n = length_labels (a + 1) n in omega arith
 
-blocks_are : (start n : ℕ) → n ≤ 100000 → blocks_of true (rows_from start 0 n) ≡ map (entries_at (rows_from start 0 n)) (labels 0 n)
+blocks_are : (start n : ℕ) → n ≤ 100000 → blocks_of (format_of header_fields) (rows_from start 0 n) ≡ map (entries_at (rows_from start 0 n)) (labels 0 n)
 blocks_are start n few = ap (map (entries_at (rows_from start 0 n))) (distinct_labels start 0 n (omega arith))
 
 -- the blocks have no defect, and there is one for each number
-pub no_defects_of_blocks : (start n : ℕ) → n ≤ 100000 → blocks_defects (blocks_of true (rows_from start 0 n)) ≡ []
+pub no_defects_of_blocks : (start n : ℕ) → n ≤ 100000 → blocks_defects (blocks_of (format_of header_fields) (rows_from start 0 n)) ≡ []
 no_defects_of_blocks start n few =
     ap blocks_defects (blocks_are start n few)
     ∙ no_block_defects 0 (map (entries_at (rows_from start 0 n)) (labels 0 n)) (labels_fine start n 0 n (omega arith) few)
 
-pub count_of_blocks : (start n : ℕ) → n ≤ 100000 → length (blocks_of true (rows_from start 0 n)) ≡ n
+pub count_of_blocks : (start n : ℕ) → n ≤ 100000 → length (blocks_of (format_of header_fields) (rows_from start 0 n)) ≡ n
 count_of_blocks start n few =
     ap length (blocks_are start n few) ∙ length-map (labels 0 n) (entries_at (rows_from start 0 n)) ∙ length_labels 0 n

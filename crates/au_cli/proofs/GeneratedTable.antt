@@ -1,6 +1,7 @@
 -- The generated text is a block table of three columns, with a block for each number.
-use Rattle.std.proofs.Common.{◌≡◌, ℕ, ◌≤◌, true, List, [], ◌∷◌, length, None, Ok, refl, ap, ◌∙◌, arith, codes}
-use Rattle.std.specs.List.{list_all}
+use Rattle.std.proofs.Common.{◌≡◌, ℕ, ◌≤◌, true, List, [], ◌∷◌, length, map, Option, Some, None, Ok, refl, ap, ◌∙◌, arith, codes}
+use Rattle.std.specs.Prelude.{not, option_map}
+use Rattle.std.specs.List.{AllByRecursion, cons_option, list_all}
 use Rattle.std.proofs.lemmas.List.{length-map}
 use Rattle.au_value.specs.declared.kinds.Kind.{Kind}
 use Rattle.au_value.specs.declared.kinds.Kind.TheVariants as kind
@@ -9,10 +10,12 @@ use Rattle.au_csv.proofs.NotText.{position-none}
 use Rattle.au_gen.specs.Generator.{text}
 use Rattle.au_blocks.specs.declared.column.Column.{Column}
 use Rattle.au_blocks.specs.Tables.{BlockTable}
-use Rattle.au_blocks.specs.Headers.{has_blocks, cells_of, written_kinds}
-use Rattle.au_blocks.specs.Entries.{blocks_of}
+use Rattle.au_blocks.specs.Headers.{format_of, cells_of, written_kinds}
+use Rattle.au_blocks.specs.Blocks.{Choices, once}
+use Rattle.au_blocks.specs.Entries.{Entry, alternatives, blocks_of, copies_in, distinct, entries_of, entry, is_absent, label_of, labelled, role_of}
+use Rattle.au_algebra.proofs.Each.{all_filter}
 use Rattle.au_blocks.specs.Defects.{defects, header_defects, rows_defects, blocks_defects}
-use Rattle.au_blocks.specs.Read.{contents, first, unless, table_of, block_of, header_kinds}
+use Rattle.au_blocks.specs.Read.{candidate_of, contents, first, unless, table_of, block_of, header_kinds}
 use Rattle.au_cli.proofs.GeneratedDigits.{codes_utf8}
 use Rattle.au_cli.proofs.GeneratedRecords.{header_fields, rows_from, text_rows}
 use Rattle.au_cli.proofs.GeneratedBlocks.{written, rows_sound, all_text, no_row_defects, no_defects_of_blocks, count_of_blocks}
@@ -24,13 +27,10 @@ column_of name kind = record { name = name; kind = kind }
 abbrev pub generated_columns : List Column
 generated_columns = column_of (codes "id") kind.Int ∷ column_of (codes "grp") kind.Text ∷ column_of (codes "amount") kind.Int ∷ []
 
-header_blocks : has_blocks header_fields ≡ true
-header_blocks = refl
-
-header_written : written_kinds (cells_of true header_fields) ≡ written
+header_written : written_kinds (cells_of (format_of header_fields) header_fields) ≡ written
 header_written = refl
 
-header_sound : header_defects true (cells_of true header_fields) ≡ []
+header_sound : header_defects (format_of header_fields) (cells_of (format_of header_fields) header_fields) ≡ []
 header_sound = refl
 
 header_text : is_text header_fields ≡ true
@@ -43,20 +43,53 @@ header_text =
     rw (block, role, id, group, amount) refl
 
 -- records below this header, with no defect of their own
-no_defects : (rows : List Record) → not_text (header_fields ∷ rows) ≡ None → rows_defects true 5 written rows ≡ [] → blocks_defects (blocks_of true rows) ≡ [] → defects (header_fields ∷ rows) ≡ []
+no_defects : (rows : List Record) → not_text (header_fields ∷ rows) ≡ None → rows_defects (format_of header_fields) 5 written rows ≡ [] → blocks_defects (blocks_of (format_of header_fields) rows) ≡ [] → defects (header_fields ∷ rows) ≡ []
 no_defects rows text sound blocks = rw (text, sound, blocks) refl
 
 columns_are : (rows : List Record) → (contents (header_fields ∷ rows)).columns ≡ generated_columns
 columns_are rows = refl
 
-blocks_counted : (rows : List Record) → length (contents (header_fields ∷ rows)).blocks ≡ length (blocks_of true rows)
-blocks_counted rows = length-map (blocks_of true rows) (block_of (header_kinds header_fields rows))
+blocks_counted : (rows : List Record) → length (contents (header_fields ∷ rows)).blocks ≡ length (blocks_of (format_of header_fields) rows)
+blocks_counted rows = length-map (blocks_of (format_of header_fields) rows) (block_of (header_kinds header_fields rows))
 
--- a block table of these columns, with so many blocks
+-- ---- copies
+
+abbrev IsOnce : Entry → Type 0
+IsOnce e = e.copies ≡ once
+
+once_behind : {R : Type 0} (made : R → Entry) (role : Option R) (others : List Entry) → ((x : R) → IsOnce (made x)) → AllByRecursion IsOnce others
+    → AllByRecursion IsOnce (cons_option (option_map made role) others)
+once_behind made None others each h = h
+once_behind made (Some x) others each h = (each x, h)
+
+-- a record without numbers of copies stands for one
+entries_once : (rows : List Record) → AllByRecursion IsOnce (entries_of (format_of header_fields) rows)
+entries_once [] = tt
+entries_once (r ∷ rows) = once_behind (λ x. entry x (copies_in (format_of header_fields) r) (cells_of (format_of header_fields) r)) (role_of (format_of header_fields) r) (entries_of (format_of header_fields) rows)
+    (λ x. refl) (entries_once rows)
+
+-- each alternative stands for one copy
+abbrev pub AllOnce : List Choices → Type 0
+AllOnce bs = AllByRecursion (λ b. AllByRecursion (λ a. a.copies ≡ once) b.alternatives) bs
+
+candidates_once : (kinds : List Kind) (es : List Entry) → AllByRecursion IsOnce es → AllByRecursion (λ a. a.copies ≡ once) (map (candidate_of kinds) es)
+candidates_once kinds [] h = tt
+candidates_once kinds (e ∷ es) h = (h.0, candidates_once kinds es h.1)
+
+block_once : (kinds : List Kind) (rows : List Record) → AllByRecursion (λ a. a.copies ≡ once) (block_of kinds (entries_of (format_of header_fields) rows)).alternatives
+block_once kinds rows =
+    candidates_once kinds (alternatives (entries_of (format_of header_fields) rows)) (all_filter IsOnce (λ e. not (is_absent e.role)) (entries_of (format_of header_fields) rows) (entries_once rows))
+
+labels_once : (kinds : List Kind) (rows : List Record) (labels : List (List ℕ)) → AllOnce (map (block_of kinds) (map (λ label. entries_of (format_of header_fields) (labelled label rows)) labels))
+labels_once kinds rows [] = tt
+labels_once kinds rows (label ∷ labels) = (block_once kinds (labelled label rows), labels_once kinds rows labels)
+
+-- a block table of these columns, with so many blocks, whose rows stand for one copy each
 pub record IsGenerated (bytes : List ℕ) (n : ℕ) (t : BlockTable) : Type 0 where
   pub read : table_of bytes ≡ Ok t
   pub columns : t.columns ≡ generated_columns
   pub count : length t.blocks ≡ n
+  pub copies : AllOnce t.blocks
 
 -- records without a defect are a table
 table_is : (bytes : List ℕ) (rs : List Record) → records_of bytes ≡ rs → defects rs ≡ [] → table_of bytes ≡ Ok (contents rs)
@@ -73,5 +106,6 @@ generated start n few =
         read = table_is (text start n) (header_fields ∷ rows) (text_rows start n few) none;
         columns = columns_are rows;
         count = blocks_counted rows ∙ count_of_blocks start n few;
+        copies = labels_once (header_kinds header_fields rows) rows (distinct (map label_of rows));
       },
     )

@@ -1,5 +1,6 @@
+mod AnswerColumns
+mod AskedNumbers
 mod DemoLaws
-mod DemoNumbers
 mod DemoQuery
 mod DemoSums
 mod Endings

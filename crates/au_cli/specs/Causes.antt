@@ -149,13 +149,15 @@ DemoText ts s = demo_text (answer_rows false ts s)
 abbrev pub IsAskedText : Result Asked UsageFault → Option (List File) → List ℕ → Type 0
 IsAskedText (Err fault) told text = ⊥
 IsAskedText (Ok (words.query r)) told text = IsRead r × Gives told r (IsAnswer r text)
-IsAskedText (Ok (words.demo start blocks)) told text = Demonstrates start blocks (λ ts s. text ≡ DemoText ts s)
+IsAskedText (Ok (words.demo start blocks workers)) told text = Demonstrates start blocks (λ ts s. text ≡ DemoText ts s)
+IsAskedText (Ok _) told text = ⊥
 
 -- why what the words ask for is not made
 abbrev pub AskedCause : Result Asked UsageFault → Option (List File) → ℕ → ℕ → ℕ → ℕ → Outcome → Type 0
 AskedCause (Err fault) told faults faults_now absences absences_now o = (o ≡ outcome.Usage fault) ⊎ (o ≡ outcome.NoMemory)
 AskedCause (Ok (words.query r)) told faults faults_now absences absences_now o = RequestCause r told faults faults_now absences absences_now o
-AskedCause (Ok (words.demo start blocks)) told faults faults_now absences absences_now o = DemoCause start blocks o
+AskedCause (Ok (words.demo start blocks workers)) told faults faults_now absences absences_now o = DemoCause start blocks o
+AskedCause (Ok _) told faults faults_now absences absences_now o = o ≡ outcome.NoMemory
 
 -- the words ask for `ua`, and its statement is not positive at this place
 abbrev pub AskedNotPositive : Result Asked UsageFault → ℕ → Type 0
@@ -166,12 +168,14 @@ AskedNotPositive _ at = ⊥
 abbrev pub PrintsAsked : Result Asked UsageFault → Option (List File) → Option (List ℕ) → Option (List ℕ) → Type 0
 PrintsAsked (Err fault) told old new = ⊥
 PrintsAsked (Ok (words.query r)) told old new = IsRead r × Gives told r (Prints r old new)
-PrintsAsked (Ok (words.demo start blocks)) told old new = Demonstrates start blocks (λ ts s. Appends old new (DemoText ts s))
+PrintsAsked (Ok (words.demo start blocks workers)) told old new = Demonstrates start blocks (λ ts s. Appends old new (DemoText ts s))
+PrintsAsked (Ok _) told old new = ⊥
 
 abbrev pub PrintsAskedFront : Result Asked UsageFault → Option (List File) → Option (List ℕ) → Option (List ℕ) → Type 0
 PrintsAskedFront (Err fault) told old new = ⊥
 PrintsAskedFront (Ok (words.query r)) told old new = IsRead r × Gives told r (PrintsFront r old new)
-PrintsAskedFront (Ok (words.demo start blocks)) told old new = Demonstrates start blocks (λ ts s. AppendsFront old new (DemoText ts s))
+PrintsAskedFront (Ok (words.demo start blocks workers)) told old new = Demonstrates start blocks (λ ts s. AppendsFront old new (DemoText ts s))
+PrintsAskedFront (Ok _) told old new = ⊥
 
 -- what became of a text that was put by one call
 abbrev pub TextPut : ℕ → ℕ → Option (List ℕ) → Option (List ℕ) → List ℕ → Outcome → Type 0

@@ -75,6 +75,7 @@ table_text (table.NoGuess b) = codes "no guess in block " ++ decimal b
 table_text (table.OnlyAbsent b) = codes "no alternative in block " ++ decimal b
 table_text (table.TwoAbsent b) = codes "two absent records in block " ++ decimal b
 table_text (table.AbsentWithValues r) = codes "values in absent record " ++ decimal r
+table_text (table.BadTimes r) = codes "bad number of copies in record " ++ decimal r
 table_text table.NoMemory = codes "out of memory"
 
 -- what the line says of an outcome

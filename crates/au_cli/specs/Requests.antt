@@ -6,6 +6,7 @@ use Rattle.au_io.specs.Files.{AppendsFront, File}
 use Rattle.au_lex.specs.Tokens.{tokens_of}
 use Rattle.au_parse.specs.Tree.{QueryTree}
 use Rattle.au_typing.specs.declared.fault.TypingFault.{TypingFault}
+use Rattle.au_value.specs.declared.kinds.Kind.{Kind}
 use Rattle.au_algebra.specs.Bounded.{Bounded}
 use Rattle.au_print.specs.Texts.{csv_text}
 use Rattle.au_print.specs.Tables.{table_text}
@@ -18,11 +19,11 @@ use Rattle.au_engine.specs.declared.faults.LimitFault.TheVariants as limit
 use Rattle.au_engine.specs.declared.faults.QueryFault.TheVariants as query
 use Rattle.au_engine.specs.Reading as reading
 use Rattle.au_engine.specs.Reading.{PlaceIn, refused_text, statement_of}
-use Rattle.au_engine.specs.Answers.{IsDefect, Named, RowsHold, answer_fits, answer_names, answer_rows, guess_answer, guess_answer_fits, statement_defects}
+use Rattle.au_engine.specs.Answers.{IsDefect, Named, RowsHold, answer_fits, answer_kinds, answer_names, answer_rows, asked_fits, asked_rows, guess_answer, guess_answer_fits, statement_defects}
 use Rattle.au_engine.specs.Certainty.{UaHolds, ua_answer_fits, ua_rows}
 use Rattle.au_words.specs.Words.{Request}
 use Rattle.au_words.specs.declared.words.Command.{Command}
-use Rattle.au_words.specs.declared.words.Command.TheVariants.{Answer, Guess, Ua}
+use Rattle.au_words.specs.declared.words.Command.TheVariants.{Answer, Direct, Guess, Ua}
 use Rattle.au_cli.specs.declared.outcome.Outcome.{Outcome}
 use Rattle.au_cli.specs.declared.outcome.Outcome.TheVariants as outcome
 use Rattle.au_cli.specs.Files.{Text, tables_of}
@@ -103,16 +104,17 @@ given_of r files = unless_refused r files (refused_request r)
 
 -- ---- what is printed
 
-abbrev pub rows_text : Bool → List (List ℕ) → Bounded → List ℕ
-rows_text false names rows = csv_text names rows
-rows_text true names rows = table_text names rows
+abbrev pub rows_text : Bool → List (List ℕ) → List Kind → Bounded → List ℕ
+rows_text false names kinds rows = csv_text names kinds rows
+rows_text true names kinds rows = table_text names kinds rows
 
--- the text that is printed: the bounded answer's, or that of the ordinary answer in the guess world, or that of its rows
--- with how often each is certain
+-- the text that is printed: the bounded answer's, with `answer` from compressed products where that is asked for, or that
+-- of the ordinary answer in the guess world, or that of its rows with how often each is certain
 abbrev pub text_by : Command → Request → List Named → QueryTree → List ℕ
-text_by Guess r ts s = world_text (answer_names ts s) (guess_answer ts s)
-text_by Ua r ts s = ua_text (answer_names ts s) (ua_rows ts s)
-text_by _ r ts s = rows_text r.table (answer_names ts s) (answer_rows r.combine ts s)
+text_by Answer r ts s = rows_text r.table (answer_names ts s) (answer_kinds ts s) (asked_rows r.compress r.combine ts s)
+text_by Direct r ts s = rows_text r.table (answer_names ts s) (answer_kinds ts s) (answer_rows r.combine ts s)
+text_by Guess r ts s = world_text (answer_names ts s) (answer_kinds ts s) (guess_answer ts s)
+text_by Ua r ts s = ua_text (answer_names ts s) (answer_kinds ts s) (ua_rows ts s)
 
 abbrev pub answer_text : Request → List Named → QueryTree → List ℕ
 answer_text r ts s = text_by r.command r ts s
@@ -120,9 +122,10 @@ answer_text r ts s = text_by r.command r ts s
 -- whether each number of the answer lies in 128 bits, the printed counts among them: with `ua`, each number of the ordinary
 -- answer in the guess world
 abbrev pub fit_by : Command → Request → List Named → QueryTree → Bool
+fit_by Answer r ts s = asked_fits r.compress r.combine ts s
+fit_by Direct r ts s = answer_fits r.combine ts s
 fit_by Guess r ts s = guess_answer_fits ts s && counts_fit (world_rows (guess_answer ts s))
 fit_by Ua r ts s = ua_answer_fits ts s
-fit_by _ r ts s = answer_fits r.combine ts s
 
 abbrev pub numbers_fit : Request → List Named → QueryTree → Bool
 numbers_fit r ts s = fit_by r.command r ts s
@@ -130,9 +133,10 @@ numbers_fit r ts s = fit_by r.command r ts s
 -- The printed rows hold in every possible world, and their guesses are the answer in the guess world. With `ua` there are
 -- in every world as many copies of each row as are certain, and in the guess world as many as are guessed.
 abbrev pub HoldsBy : Command → Request → List Named → QueryTree → Type 0
+HoldsBy Answer r ts s = RowsHold ts s (asked_rows r.compress r.combine ts s)
+HoldsBy Direct r ts s = RowsHold ts s (answer_rows r.combine ts s)
 HoldsBy Guess r ts s = ⊤
 HoldsBy Ua r ts s = UaHolds ts s
-HoldsBy _ r ts s = RowsHold ts s (answer_rows r.combine ts s)
 
 -- the plan of `answer` may pass over a number that leaves 128 bits, and `ua` makes numbers of its own
 abbrev pub FitsBy : Command → Bool → Type 0

@@ -1,12 +1,13 @@
 //! The text of the answer of a statement over tables.
-ghost use Rattle.std.specs.Prelude.{◌≡◌, ◌&&◌, length, None, OnOk, IfOk, IfErr, [], true};
+ghost use Rattle.std.specs.Prelude.{◌≡◌, ◌≤◌, ◌&&◌, length, None, OnOk, IfOk, IfErr, [], true};
 ghost use Rattle.std.specs.List.{AllByRecursion};
 ghost use Rattle.au_parse.specs.Views.{statement_tree};
 ghost use Rattle.au_parse.specs.Whole.{WholeQuery};
 ghost use Rattle.au_print.specs.GuessTexts.{counts_fit, world_rows, world_text};
 ghost use Rattle.au_ua.specs.NotPositive.{not_positive};
 ghost use Rattle.au_ua.specs.UaTexts.{ua_text as ua_text_of};
-ghost use Rattle.au_engine.specs.Answers.{AnswerCause, RowsHold, answer_fits, answer_names, answer_rows, guess_answer as guess_answer_of, guess_answer_fits, statement_defects};
+ghost use Rattle.au_engine.specs.Answers.{AnswerCause, RowsHold, answer_fits, answer_kinds, answer_names, answer_rows, asked_fits, asked_rows, guess_answer as guess_answer_of, guess_answer_fits, statement_defects};
+ghost use Rattle.au_engine.specs.Compressing.{IsCompression};
 ghost use Rattle.au_engine.specs.Certainty.{UaHolds, ua_answer_fits, ua_rows};
 ghost use Rattle.au_cli.specs.Requests.{HoldsBy, FitsBy, fit_by, refused_place, rows_text, text_by};
 ghost use Rattle.au_words.specs.CommandLine.{seen_request};
@@ -14,20 +15,26 @@ ghost use Rattle.au_words.specs.CommandLine.{seen_request};
 use au_blocks::Table;
 use au_engine::{EngineFault, Options, answer, answer_directly, guess_answer, ua_answer};
 use au_expr::EvalFault;
+use au_par::Gate;
 use au_parse::Statement;
 use au_print::{Answer, csv_text, guess_text, table_text};
 use au_ua::ua_text;
 use au_value::{NoMemory, Word};
 use au_words::{Command, Request};
 use std::alloc::Global;
+use std::thread::Threads;
 
 /// The text of what a request asks for, over its tables.
-pub(crate) fn answer_text(
+pub(crate) fn answer_text<R: Threads + Sync, G: Gate + Sync>(
+    rt: &R,
     alloc: Global,
     request: &Request<'_>,
     statement: &Statement,
     tables: &[(Word, Table)],
+    gate: G,
 ) -> Result<Vec<u8>, EngineFault>
+    requires workers { (1 ≤ request.now.workers) × (request.now.workers ≤ 64) }
+    requires compression { IsCompression request.now.compress }
     requires whole { WholeQuery (statement_tree statement.now) }
     requires taken { refused_place request.now.command (statement_tree statement.now) ≡ None }
     ensures typed { OnOk result (statement_defects tables.now (statement_tree statement.now) ≡ []) }
@@ -36,32 +43,40 @@ pub(crate) fn answer_text(
     ensures fits { OnOk result (FitsBy request.now.command (fit_by request.now.command (seen_request request.now) tables.now (statement_tree statement.now))) }
     ensures refused { IfErr result (AnswerCause (statement_defects tables.now (statement_tree statement.now)) (fit_by request.now.command (seen_request request.now) tables.now (statement_tree statement.now))) }
 {
-    let options = Options {
-        combine: request.combine,
-    };
     match request.command {
-        Command::Answer => planned_text(alloc, statement, tables, options, request.table),
-        Command::Direct => direct_text(alloc, statement, tables, options, request.table),
+        Command::Answer => {
+            let options = Options {
+                combine: request.combine,
+                workers: request.workers,
+                compress: request.compress,
+            };
+            planned_text(rt, alloc, statement, tables, options, request.table, gate)
+        }
+        Command::Direct => direct_text(alloc, statement, tables, request.combine, request.table),
         Command::Guess => guess_world_text(alloc, statement, tables),
         Command::Ua => certain_text(alloc, statement, tables),
     }
 }
 
 // The text of the bounded answer.
-fn planned_text(
+fn planned_text<R: Threads + Sync, G: Gate + Sync>(
+    rt: &R,
     alloc: Global,
     statement: &Statement,
     tables: &[(Word, Table)],
     options: Options,
     table: bool,
+    gate: G,
 ) -> Result<Vec<u8>, EngineFault>
-    requires { WholeQuery (statement_tree statement.now) }
+    requires whole { WholeQuery (statement_tree statement.now) }
+    requires workers { (1 ≤ options.workers) × (options.workers ≤ 64) }
+    requires compression { IsCompression options.compress }
     ensures typed { OnOk result (statement_defects tables.now (statement_tree statement.now) ≡ []) }
-    ensures text { IfOk result (λ t. t.items ≡ rows_text table (answer_names tables.now (statement_tree statement.now)) (answer_rows options.combine tables.now (statement_tree statement.now))) }
-    ensures holds { OnOk result (RowsHold tables.now (statement_tree statement.now) (answer_rows options.combine tables.now (statement_tree statement.now))) }
-    ensures refused { IfErr result (AnswerCause (statement_defects tables.now (statement_tree statement.now)) (answer_fits options.combine tables.now (statement_tree statement.now))) }
+    ensures text { IfOk result (λ t. t.items ≡ rows_text table (answer_names tables.now (statement_tree statement.now)) (answer_kinds tables.now (statement_tree statement.now)) (asked_rows options.compress options.combine tables.now (statement_tree statement.now))) }
+    ensures holds { OnOk result (RowsHold tables.now (statement_tree statement.now) (asked_rows options.compress options.combine tables.now (statement_tree statement.now))) }
+    ensures refused { IfErr result (AnswerCause (statement_defects tables.now (statement_tree statement.now)) (asked_fits options.compress options.combine tables.now (statement_tree statement.now))) }
 {
-    match answer(alloc, statement, tables, options) {
+    match answer(rt, alloc, statement, tables, options, gate) {
         Ok(answer) => match rows_text(alloc, &answer, table) {
             Ok(text) => Ok(text),
             Err(NoMemory) => Err(EngineFault::NoMemory),
@@ -75,17 +90,17 @@ fn direct_text(
     alloc: Global,
     statement: &Statement,
     tables: &[(Word, Table)],
-    options: Options,
+    combine: bool,
     table: bool,
 ) -> Result<Vec<u8>, EngineFault>
     requires { WholeQuery (statement_tree statement.now) }
     ensures typed { OnOk result (statement_defects tables.now (statement_tree statement.now) ≡ []) }
-    ensures text { IfOk result (λ t. t.items ≡ rows_text table (answer_names tables.now (statement_tree statement.now)) (answer_rows options.combine tables.now (statement_tree statement.now))) }
-    ensures holds { OnOk result (RowsHold tables.now (statement_tree statement.now) (answer_rows options.combine tables.now (statement_tree statement.now))) }
-    ensures fits { OnOk result (answer_fits options.combine tables.now (statement_tree statement.now) ≡ true) }
-    ensures refused { IfErr result (AnswerCause (statement_defects tables.now (statement_tree statement.now)) (answer_fits options.combine tables.now (statement_tree statement.now))) }
+    ensures text { IfOk result (λ t. t.items ≡ rows_text table (answer_names tables.now (statement_tree statement.now)) (answer_kinds tables.now (statement_tree statement.now)) (answer_rows combine tables.now (statement_tree statement.now))) }
+    ensures holds { OnOk result (RowsHold tables.now (statement_tree statement.now) (answer_rows combine tables.now (statement_tree statement.now))) }
+    ensures fits { OnOk result (answer_fits combine tables.now (statement_tree statement.now) ≡ true) }
+    ensures refused { IfErr result (AnswerCause (statement_defects tables.now (statement_tree statement.now)) (answer_fits combine tables.now (statement_tree statement.now))) }
 {
-    match answer_directly(alloc, statement, tables, options) {
+    match answer_directly(alloc, statement, tables, combine) {
         Ok(answer) => match rows_text(alloc, &answer, table) {
             Ok(text) => Ok(text),
             Err(NoMemory) => Err(EngineFault::NoMemory),
@@ -96,8 +111,9 @@ fn direct_text(
 
 // An answer as a table for the eye, or as CSV.
 fn rows_text(alloc: Global, answer: &Answer, table: bool) -> Result<Vec<u8>, NoMemory>
-    requires { AllByRecursion (λ r. length r.cells ≡ length answer.now.names.items) answer.now.rows }
-    ensures { IfOk result (λ t. t.items ≡ rows_text table answer.now.names.items answer.now.rows) }
+    requires columns { length answer.now.kinds.items ≡ length answer.now.names.items }
+    requires rows { AllByRecursion (λ r. length r.cells ≡ length answer.now.names.items) answer.now.rows }
+    ensures { IfOk result (λ t. t.items ≡ rows_text table answer.now.names.items answer.now.kinds.items answer.now.rows) }
 {
     if table {
         table_text(alloc, answer)
@@ -114,7 +130,7 @@ fn guess_world_text(
 ) -> Result<Vec<u8>, EngineFault>
     requires { WholeQuery (statement_tree statement.now) }
     ensures typed { OnOk result (statement_defects tables.now (statement_tree statement.now) ≡ []) }
-    ensures text { IfOk result (λ t. t.items ≡ world_text (answer_names tables.now (statement_tree statement.now)) (guess_answer_of tables.now (statement_tree statement.now))) }
+    ensures text { IfOk result (λ t. t.items ≡ world_text (answer_names tables.now (statement_tree statement.now)) (answer_kinds tables.now (statement_tree statement.now)) (guess_answer_of tables.now (statement_tree statement.now))) }
     ensures fits { OnOk result ((guess_answer_fits tables.now (statement_tree statement.now) && counts_fit (world_rows (guess_answer_of tables.now (statement_tree statement.now)))) ≡ true) }
     ensures refused { IfErr result (AnswerCause (statement_defects tables.now (statement_tree statement.now)) (guess_answer_fits tables.now (statement_tree statement.now) && counts_fit (world_rows (guess_answer_of tables.now (statement_tree statement.now))))) }
 {
@@ -122,7 +138,12 @@ fn guess_world_text(
         Ok(guess) => guess,
         Err(fault) => return Err(fault),
     };
-    match guess_text(alloc, guess.names.as_slice(), &guess.rows) {
+    match guess_text(
+        alloc,
+        guess.names.as_slice(),
+        guess.kinds.as_slice(),
+        &guess.rows,
+    ) {
         Ok(text) => Ok(text),
         Err(EvalFault::Overflow) => Err(EngineFault::Overflow),
         Err(EvalFault::NoMemory) => Err(EngineFault::NoMemory),
@@ -138,7 +159,7 @@ fn certain_text(
     requires whole { WholeQuery (statement_tree statement.now) }
     requires positive { not_positive (statement_tree statement.now) ≡ None }
     ensures typed { OnOk result (statement_defects tables.now (statement_tree statement.now) ≡ []) }
-    ensures text { IfOk result (λ t. t.items ≡ ua_text_of (answer_names tables.now (statement_tree statement.now)) (ua_rows tables.now (statement_tree statement.now))) }
+    ensures text { IfOk result (λ t. t.items ≡ ua_text_of (answer_names tables.now (statement_tree statement.now)) (answer_kinds tables.now (statement_tree statement.now)) (ua_rows tables.now (statement_tree statement.now))) }
     ensures holds { OnOk result (UaHolds tables.now (statement_tree statement.now)) }
     ensures refused { IfErr result (AnswerCause (statement_defects tables.now (statement_tree statement.now)) (ua_answer_fits tables.now (statement_tree statement.now))) }
 {
@@ -146,7 +167,12 @@ fn certain_text(
         Ok(answer) => answer,
         Err(fault) => return Err(fault),
     };
-    match ua_text(alloc, answer.names.as_slice(), &answer.rows) {
+    match ua_text(
+        alloc,
+        answer.names.as_slice(),
+        answer.kinds.as_slice(),
+        &answer.rows,
+    ) {
         Ok(text) => Ok(text),
         Err(EvalFault::Overflow) => Err(EngineFault::Overflow),
         Err(EvalFault::NoMemory) => Err(EngineFault::NoMemory),

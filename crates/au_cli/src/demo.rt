@@ -13,10 +13,12 @@ use au_blocks::{Table, TableFault, read_table};
 use au_engine::{EngineFault, Options, answer, read_query};
 use au_expr::EvalFault;
 use au_gen::table_text;
+use au_par::Gate;
 use au_parse::Statement;
 use au_print::{Answer, demo_text};
 use au_value::{NoMemory, Word};
 use std::alloc::Global;
+use std::thread::Threads;
 
 const NAME: &str = "demo";
 
@@ -82,7 +84,15 @@ fn answer_fault(fault: EngineFault) -> EvalFault
 }
 
 // The answer of a statement without a defect over the table.
-fn answered(alloc: Global, table: Table, statement: &Statement) -> Result<Answer, EvalFault>
+fn answered<R: Threads + Sync, G: Gate + Sync>(
+    rt: &R,
+    alloc: Global,
+    table: Table,
+    statement: &Statement,
+    workers: usize,
+    gate: G,
+) -> Result<Answer, EvalFault>
+    requires workers { (1 ≤ workers) × (workers ≤ 64) }
     requires whole { WholeQuery (statement_tree statement.now) }
     requires typed { statement_defects ((demo_name, table) ∷ []) (statement_tree statement.now) ≡ [] }
     ensures rows { IfOk result (λ a. a.rows ≡ answer_rows false ((demo_name, table) ∷ []) (statement_tree statement.now)) }
@@ -93,12 +103,12 @@ fn answered(alloc: Global, table: Table, statement: &Statement) -> Result<Answer
         Ok(tables) => tables,
         Err(NoMemory) => return Err(EvalFault::NoMemory),
     };
-    match answer(
-        alloc,
-        statement,
-        tables.as_slice(),
-        Options { combine: false },
-    ) {
+    let options = Options {
+        combine: false,
+        workers,
+        compress: None,
+    };
+    match answer(rt, alloc, statement, tables.as_slice(), options, gate) {
         Ok(answer) => Ok(answer),
         Err(fault) => Err(answer_fault(fault)),
     }
@@ -108,9 +118,17 @@ fn answered(alloc: Global, table: Table, statement: &Statement) -> Result<Answer
 /// give.
 ///
 /// `Overflow` comes only where a number of the answer leaves 128 bits.
-pub(crate) fn demonstration(alloc: Global, start: u32, blocks: u32) -> Result<Vec<u8>, EvalFault>
+pub(crate) fn demonstration<R: Threads + Sync, G: Gate + Sync>(
+    rt: &R,
+    alloc: Global,
+    start: u32,
+    blocks: u32,
+    workers: usize,
+    gate: G,
+) -> Result<Vec<u8>, EvalFault>
     requires some { 1 ≤ blocks }
     requires few { blocks ≤ 100000 }
+    requires workers { (1 ≤ workers) × (workers ≤ 64) }
     ensures text { IfOk result (λ v. Demonstrates start blocks (λ ts s. v.items ≡ lines_of (answer_rows false ts s))) }
     ensures holds { OnOk result (Demonstrates start blocks (λ ts s. RowsHold ts s (answer_rows false ts s))) }
     ensures overflow { result ≡ Err EvalFault.Overflow → Demonstrates start blocks (λ ts s. answer_fits false ts s ≡ false) }
@@ -123,7 +141,7 @@ pub(crate) fn demonstration(alloc: Global, start: u32, blocks: u32) -> Result<Ve
         Ok(table) => table,
         Err(NoMemory) => return Err(EvalFault::NoMemory),
     };
-    let answer = match answered(alloc, table, &statement) {
+    let answer = match answered(rt, alloc, table, &statement, workers, gate) {
         Ok(answer) => answer,
         Err(fault) => return Err(fault),
     };

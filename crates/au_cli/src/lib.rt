@@ -4,7 +4,7 @@
 //! `Outcome`. `Outcome::code` is the exit status.
 //!
 //! ```text
-//! let outcome = run(alloc, words.as_slice(), &mut shelf, &mut out, &mut err);
+//! let outcome = run(&rt, alloc, words.as_slice(), &mut shelf, &mut out, &mut err, NoGate);
 //! outcome.code()
 //! ```
 #![tactic(auto)]

@@ -134,6 +134,7 @@ impl fmt::Display for TableText {
             TableFault::AbsentWithValues(record) => {
                 write!(f, "values in absent record {record}")
             }
+            TableFault::BadTimes(record) => write!(f, "bad number of copies in record {record}"),
             TableFault::NoMemory => f.write_str("out of memory"),
         }
     }

@@ -2,6 +2,7 @@
 ghost use Rattle.std.specs.Prelude.{◌≡◌, ◌≤◌, None, Some, map, Ok, IfOk, IfErr, IfSome};
 ghost use Rattle.au_parse.specs.Views.{statement_tree};
 ghost use Rattle.au_parse.specs.Whole.{WholeQuery};
+ghost use Rattle.au_engine.specs.Compressing.{IsCompression};
 ghost use Rattle.au_engine.specs.Reading.{TextCause, refused_text, statement_of};
 ghost use Rattle.au_words.specs.CommandLine.{seen_request};
 ghost use Rattle.au_cli.specs.Causes.{Gives, IsRead, IsRefusedBefore, RequestCause, StatementCause};
@@ -12,27 +13,33 @@ use crate::files::read_tables;
 use crate::outcome::Outcome;
 use au_engine::{EngineFault, LimitFault, QueryFault, read_query};
 use au_io::Shelf;
+use au_par::Gate;
 use au_parse::Statement;
 use au_ua::not_positive;
 use au_words::{Command, Request};
 use std::alloc::Global;
+use std::thread::Threads;
 
 // The greatest number of table words.
 const MAX_FILES: usize = 8;
 
 /// The text of what a request asks for, or the outcome that is in its place.
-pub(crate) fn request_text<S: Shelf>(
+pub(crate) fn request_text<R: Threads + Sync, S: Shelf, G: Gate + Sync>(
+    rt: &R,
     alloc: Global,
     shelf: &mut S,
     request: &Request<'_>,
+    gate: G,
 ) -> Result<Vec<u8>, Outcome>
+    requires workers { (1 ≤ request.now.workers) × (request.now.workers ≤ 64) }
+    requires compression { IsCompression request.now.compress }
     ensures text { IfOk result (λ t. IsRead (seen_request request.now) × Gives (S.files shelf.old) (seen_request request.now) (IsAnswer (seen_request request.now) t.items)) }
     ensures refused { IfErr result (RequestCause (seen_request request.now) (S.files shelf.old) (S.faults shelf.old) (S.faults shelf.new) (S.absences shelf.old) (S.absences shelf.new)) }
     ensures files { S.files shelf.new ≡ S.files shelf.old }
     ensures counts { (S.faults shelf.old ≤ S.faults shelf.new) × (S.absences shelf.old ≤ S.absences shelf.new) }
 {
     match read_statement(alloc, request) {
-        Ok(statement) => statement_text(alloc, shelf, request, &statement),
+        Ok(statement) => statement_text(rt, alloc, shelf, request, &statement, gate),
         Err(outcome) => Err(outcome),
     }
 }
@@ -69,12 +76,16 @@ fn refused_place(command: Command, statement: &Statement) -> Option<usize>
 }
 
 // The text over the files of a request that is read.
-fn statement_text<S: Shelf>(
+fn statement_text<R: Threads + Sync, S: Shelf, G: Gate + Sync>(
+    rt: &R,
     alloc: Global,
     shelf: &mut S,
     request: &Request<'_>,
     statement: &Statement,
+    gate: G,
 ) -> Result<Vec<u8>, Outcome>
+    requires workers { (1 ≤ request.now.workers) × (request.now.workers ≤ 64) }
+    requires compression { IsCompression request.now.compress }
     requires whole { WholeQuery (statement_tree statement.now) }
     requires allowed { refused_request (seen_request request.now) ≡ None }
     requires tree { statement_of request.now.query.now ≡ Some (statement_tree statement.now) }
@@ -88,7 +99,7 @@ fn statement_text<S: Shelf>(
         Ok(tables) => tables,
         Err(outcome) => return Err(outcome),
     };
-    match answer_text(alloc, request, statement, tables.as_slice()) {
+    match answer_text(rt, alloc, request, statement, tables.as_slice(), gate) {
         Ok(text) => Ok(text),
         Err(fault) => Err(ended(fault)),
     }

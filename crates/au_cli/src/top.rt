@@ -18,18 +18,25 @@ use crate::outcome::Outcome;
 use crate::requests::request_text;
 use au_expr::EvalFault;
 use au_io::{PutFault, Shelf, Sink};
+use au_par::Gate;
 use au_value::{NoMemory, Word};
 use au_words::{Asked, CommandLine, WordsFault};
 use std::alloc::Global;
+use std::thread::Threads;
 
 /// Does all that the program does with these words: reads the tables' files from the shelf, puts the answer on `out`,
 /// and on an outcome other than `Done` one line on `err`.
-pub fn run<S: Shelf, O: Sink, E: Sink>(
+///
+/// The gate is told of each piece that the workers of the answer begin; the program hands in `NoGate`. All clauses hold
+/// for every gate.
+pub fn run<R: Threads + Sync, S: Shelf, O: Sink, E: Sink, G: Gate + Sync>(
+    rt: &R,
     alloc: Global,
     words: &[Word],
     shelf: &mut S,
     out: &mut O,
     err: &mut E,
+    gate: G,
 ) -> Outcome
     // The words and the query, whatever the shelf holds.
     ensures usage_cause { (f : UsageFault) → result ≡ Outcome.Usage f → first_usage_fault words.now ≡ Some f }
@@ -60,25 +67,38 @@ pub fn run<S: Shelf, O: Sink, E: Sink>(
     ensures files { S.files shelf.new ≡ S.files shelf.old }
     ensures counts { (S.faults shelf.old ≤ S.faults shelf.new) × (S.absences shelf.old ≤ S.absences shelf.new) × (O.faults out.old ≤ O.faults out.new) × (E.faults err.old ≤ E.faults err.new) }
 {
-    let outcome = answer(alloc, words, shelf, out);
+    let outcome = answer(rt, alloc, words, shelf, out, gate);
     report(alloc, err, &outcome);
     outcome
 }
 
 // Makes the text that is asked for and puts it.
-fn answer<S: Shelf, O: Sink>(alloc: Global, words: &[Word], shelf: &mut S, out: &mut O) -> Outcome
+fn answer<R: Threads + Sync, S: Shelf, O: Sink, G: Gate + Sync>(
+    rt: &R,
+    alloc: Global,
+    words: &[Word],
+    shelf: &mut S,
+    out: &mut O,
+    gate: G,
+) -> Outcome
     ensures ends { Ends (asked_of words.now) (S.files shelf.old) (S.faults shelf.old) (S.faults shelf.new) (S.absences shelf.old) (S.absences shelf.new) (O.faults out.old) (O.faults out.new) (O.written out.old) (O.written out.new) result }
     ensures files { S.files shelf.new ≡ S.files shelf.old }
     ensures counts { (S.faults shelf.old ≤ S.faults shelf.new) × (S.absences shelf.old ≤ S.absences shelf.new) × (O.faults out.old ≤ O.faults out.new) }
 {
-    match text(alloc, words, shelf) {
+    match text(rt, alloc, words, shelf, gate) {
         Ok(text) => put(out, text.as_slice()),
         Err(outcome) => outcome,
     }
 }
 
 // The text to be put, or the outcome that is in its place.
-fn text<S: Shelf>(alloc: Global, words: &[Word], shelf: &mut S) -> Result<Vec<u8>, Outcome>
+fn text<R: Threads + Sync, S: Shelf, G: Gate + Sync>(
+    rt: &R,
+    alloc: Global,
+    words: &[Word],
+    shelf: &mut S,
+    gate: G,
+) -> Result<Vec<u8>, Outcome>
     ensures text { IfOk result (λ text. IsAskedText (asked_of words.now) (S.files shelf.old) text.items) }
     ensures refused { IfErr result (AskedCause (asked_of words.now) (S.files shelf.old) (S.faults shelf.old) (S.faults shelf.new) (S.absences shelf.old) (S.absences shelf.new)) }
     ensures files { S.files shelf.new ≡ S.files shelf.old }
@@ -87,14 +107,16 @@ fn text<S: Shelf>(alloc: Global, words: &[Word], shelf: &mut S) -> Result<Vec<u8
     let Ok(line) = CommandLine::of(alloc, words) else {
         return Err(Outcome::NoMemory);
     };
-    line_text(alloc, &line, shelf)
+    line_text(rt, alloc, &line, shelf, gate)
 }
 
 // The text that a command line asks for.
-fn line_text<S: Shelf>(
+fn line_text<R: Threads + Sync, S: Shelf, G: Gate + Sync>(
+    rt: &R,
     alloc: Global,
     line: &CommandLine<'_>,
     shelf: &mut S,
+    gate: G,
 ) -> Result<Vec<u8>, Outcome>
     ensures text { IfOk result (λ text. IsAskedText (asked_of line.now) (S.files shelf.old) text.items) }
     ensures refused { IfErr result (AskedCause (asked_of line.now) (S.files shelf.old) (S.faults shelf.old) (S.faults shelf.new) (S.absences shelf.old) (S.absences shelf.new)) }
@@ -102,21 +124,38 @@ fn line_text<S: Shelf>(
     ensures counts { (S.faults shelf.old ≤ S.faults shelf.new) × (S.absences shelf.old ≤ S.absences shelf.new) }
 {
     match line.read(alloc) {
-        Ok(Asked::Query(request)) => request_text(alloc, shelf, &request),
-        Ok(Asked::Demo { start, blocks }) => demo_text(alloc, start, blocks),
+        Ok(Asked::Query(request)) => request_text(rt, alloc, shelf, &request, gate),
+        Ok(
+            Asked::Demo {
+                start,
+                blocks,
+                workers,
+            },
+        ) => demo_text(rt, alloc, start, blocks, workers, gate),
+        Ok(Asked::Rewrite { .. }) => Err(Outcome::NoMemory),
+        Ok(Asked::Encode(_)) => Err(Outcome::NoMemory),
+        Ok(Asked::Plain { .. }) => Err(Outcome::NoMemory),
         Err(WordsFault::Usage(fault)) => Err(Outcome::Usage(fault)),
         Err(WordsFault::NoMemory) => Err(Outcome::NoMemory),
     }
 }
 
 // The text of a demonstration.
-fn demo_text(alloc: Global, start: u32, blocks: u32) -> Result<Vec<u8>, Outcome>
+fn demo_text<R: Threads + Sync, G: Gate + Sync>(
+    rt: &R,
+    alloc: Global,
+    start: u32,
+    blocks: u32,
+    workers: usize,
+    gate: G,
+) -> Result<Vec<u8>, Outcome>
     requires some { 1 ≤ blocks }
     requires few { blocks ≤ 100000 }
+    requires workers { (1 ≤ workers) × (workers ≤ 64) }
     ensures text { IfOk result (λ text. Demonstrates start blocks (λ ts s. text.items ≡ DemoText ts s)) }
     ensures refused { IfErr result (DemoCause start blocks) }
 {
-    match demonstration(alloc, start, blocks) {
+    match demonstration(rt, alloc, start, blocks, workers, gate) {
         Ok(text) => Ok(text),
         Err(EvalFault::Overflow) => Err(Outcome::Overflow),
         Err(EvalFault::NoMemory) => Err(Outcome::NoMemory),

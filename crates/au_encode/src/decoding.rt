@@ -32,8 +32,12 @@ pub fn decode(
     Ok(rel)
 }
 
-// The ranges and the triple that a row encodes.
-fn decode_row(alloc: Global, row: PRow, columns: usize) -> Result<(Vec<Range>, Triple), NoMemory>
+/// The ranges and the triple that a row encodes.
+pub(crate) fn decode_row(
+    alloc: Global,
+    row: PRow,
+    columns: usize,
+) -> Result<(Vec<Range>, Triple), NoMemory>
     requires { IsEncoded columns row.items }
     ensures { IfOk result (λ r. entry r.0.items r.1 ≡ decoded_row columns row.items) }
 {

@@ -1,7 +1,8 @@
 //! Rows of ranges with a triple as plain rows, and back.
 //!
 //! An encoded row has `lo`, `sg` and `hi` of each column, then least, guess and most as numbers (see docs/FORMATS.md).
-//! [`encode`] gives the plain rows of a relation, and [`decode`] the relation that plain rows encode.
+//! [`encode`] gives the plain rows of a relation, and [`decode`] the relation that plain rows encode; [`decode_rows`] gives
+//! the same of rows that are lent, in several threads.
 //!
 //! ```text
 //! let mut rel = Rel::new(alloc);
@@ -13,7 +14,9 @@
 #![tactic(auto)]
 
 mod decoding;
+mod decoding_rows;
 mod encoding;
 
 pub use decoding::decode;
+pub use decoding_rows::decode_rows;
 pub use encoding::encode;

@@ -1,79 +1,116 @@
 -- The tables' rows in the guess world: what they stand for, and that they have the columns' kinds.
-use Rattle.std.specs.Prelude.{◌≡◌, ℕ, zero, suc, true, List, [], ◌∷◌, ◌++◌, length, map, Option, Some, None, option_to_list, slice_get, is_some}
-use Rattle.std.specs.List.{AllByRecursion, AllZip, list_all}
+use Rattle.std.specs.Prelude.{◌≡◌, ℕ, zero, suc, ◌+◌, ◌==◌, not, cond, Bool, true, false, List, [], ◌∷◌, ◌++◌, length, map, filter_map, Option, Some, None, option_and_then, option_map, slice_get, is_some}
+use Rattle.std.specs.List.{AllByRecursion, AllZip, cons_option, list_all}
 use Rattle.std.proofs.Common.{refl, sym, ◌∙◌, ap, subst}
 use Rattle.std.proofs.lemmas.Bool.{and_parts}
 use Rattle.std.proofs.lemmas.List.{length-map}
 use Rattle.au_value.specs.declared.kinds.Kind.{Kind}
 use Rattle.au_value.specs.declared.value.Value.{Value}
-use Rattle.au_value.specs.Order.{kind_of, kind_eq}
+use Rattle.au_value.specs.Order.{data_kind}
+use Rattle.au_value.specs.Ranges.{Span, guesses}
 use Rattle.au_expr.specs.Ordinary.{IsKind}
-use Rattle.au_expr.proofs.Along.{kind_eq_is}
-use Rattle.au_algebra.specs.Counted.{CountedRow, StandsFor, ones}
+use Rattle.au_algebra.specs.Counted.{CountedRow, StandsFor, occurring}
+use Rattle.au_algebra.specs.Entries.{entry}
+use Rattle.au_algebra.specs.Fits.{certain_rows, numbers}
+use Rattle.au_algebra.specs.Lists.{copies}
 use Rattle.au_algebra.specs.Ordinary.{Rows}
 use Rattle.au_algebra.specs.Trees.{Tree}
 use Rattle.au_algebra.specs.Typing.{kinds_of}
-use Rattle.au_algebra.proofs.Counted.{ones_stand}
-use Rattle.au_blocks.specs.Blocks.{Choices}
-use Rattle.au_blocks.specs.Tables.{BlockTable, IsBlockTable, column_kinds, fits_kinds}
-use Rattle.au_blocks.specs.Worlds.{chosen, guess_world, rows_in, tables_in}
-use Rattle.au_translate.specs.Translate.{guess_choices, guessed_table}
+use Rattle.au_algebra.proofs.Copies.{copies-append}
+use Rattle.au_algebra.proofs.Counted.{count_of-if}
+use Rattle.au_blocks.specs.Blocks.{Candidate, Choices}
+use Rattle.au_blocks.specs.Tables.{BlockTable, IsBlockTable, column_kinds, fits_kinds, is_range_of}
+use Rattle.au_blocks.specs.Worlds.{Taken, chosen, guess_choice, guess_world, rows_in, taken, tables_in}
+use Rattle.au_translate.specs.Translate.{counted_row, guessed_blocks, guessed_table}
+use Rattle.au_translate.proofs.Alternatives.{is_of}
+use Rattle.au_translate.proofs.BlockRelation.{copies_repeated}
 use Rattle.au_keval.specs.Reading as reading
+use Rattle.au_kfull.specs.Embedding.{embedded}
 use Rattle.au_kfull.specs.Typed.{HasValueKinds, IsTypedOverValues}
 use Rattle.au_blocks.specs.declared.column.Column.{Column}
 
 -- ---- what the rows stand for
 
-pub all_stand : (ws : List Rows) → AllZip StandsFor (map ones ws) ws
-all_stand [] = tt
-all_stand (w ∷ ws) = (ones_stand w, all_stand ws)
+-- one choice more
+stand_one : (o : Option Taken) (rest : List CountedRow) (world : Rows) → StandsFor (occurring rest) world → StandsFor (occurring (cons_option (counted_row o) rest)) (chosen o ++ world)
+stand_one None rest world h v = h v
+stand_one (Some t) rest world h v =
+    copies-append v (chosen (Some t)) world ∙ ap (λ n. n + copies v world) (copies_repeated v t.row t.count)
+    ∙ sym (count_of-if (t.count == 0) v (entry t.row t.count) (occurring rest) (copies v world) refl (sym (h v)))
 
-pub are_ones : (ts : List BlockTable) → map guessed_table ts ≡ map ones (tables_in ts (guess_world ts))
-are_ones [] = refl
-are_ones (t ∷ ts) = ap (λ rows. guessed_table t ∷ rows) (are_ones ts)
+blocks_stand : (bs : List Choices) → StandsFor (guessed_blocks bs) (rows_in bs (map guess_choice bs))
+blocks_stand [] v = refl
+blocks_stand (b ∷ bs) v = stand_one (guess_choice b) (filter_map (λ c. counted_row (guess_choice c)) bs) (rows_in bs (map guess_choice bs)) (blocks_stand bs) v
+
+pub all_stand : (ts : List BlockTable) → AllZip StandsFor (map guessed_table ts) (tables_in ts (guess_world ts))
+all_stand [] = tt
+all_stand (t ∷ ts) = (blocks_stand t.blocks, all_stand ts)
+
+-- ---- no row without a copy
+
+row_again : (b : Bool) (r : CountedRow) (rows : List CountedRow) → not (r.annot == 0) ≡ b → occurring rows ≡ rows → occurring (cond b (r ∷ rows) rows) ≡ cond b (r ∷ rows) rows
+row_again true r rows e h = rw (e, h) refl
+row_again false r rows e h = h
+
+occurring_again : (rows : List CountedRow) → occurring (occurring rows) ≡ occurring rows
+occurring_again [] = refl
+occurring_again (r ∷ rows) = row_again (not (r.annot == 0)) r (occurring rows) refl (occurring_again rows)
+
+are_present : (ts : List BlockTable) → map occurring (map guessed_table ts) ≡ map guessed_table ts
+are_present [] = refl
+are_present (t ∷ ts) = λ i. occurring_again (filter_map (λ b. counted_row (guess_choice b)) t.blocks) i ∷ are_present ts i
+
+-- the numbers of a tree over them
+pub present_numbers : (q : Tree) (ts : List BlockTable) (rows : List (List CountedRow)) → rows ≡ map guessed_table ts
+    → (map occurring rows ≡ rows → numbers q (map embedded rows) ≡ numbers q (map certain_rows rows)) → numbers q (map embedded rows) ≡ numbers q (map certain_rows (map guessed_table ts))
+present_numbers q ts rows same h = h (ap (map occurring) same ∙ are_present ts ∙ sym same) ∙ ap (λ given. numbers q (map certain_rows given)) same
 
 -- ---- their kinds
 
-row_kinds : (ks : List Kind) (row : List Value) → fits_kinds ks row ≡ true → AllZip IsKind ks row
+row_kinds : (ks : List Kind) (cells : List Span) → fits_kinds ks cells ≡ true → AllZip IsKind ks (guesses cells)
 row_kinds [] [] h = tt
-row_kinds [] (v ∷ row) h = cc
+row_kinds [] (r ∷ cells) h = cc
 row_kinds (k ∷ ks) [] h = cc
-row_kinds (k ∷ ks) (v ∷ row) h =
-    let p = and_parts (kind_eq k (kind_of v)) (fits_kinds ks row) h in
-    (sym (kind_eq_is k (kind_of v) p.0), row_kinds ks row p.1)
-
-abbrev Fits : List Kind → Rows → Type 0
-Fits ks rows = AllByRecursion (AllZip IsKind ks) rows
-
-one_fits : (ks : List Kind) (rows : Rows) (i : ℕ) → list_all (fits_kinds ks) rows ≡ true → Fits ks (option_to_list (slice_get rows i))
-one_fits ks [] i h = tt
-one_fits ks (row ∷ rows) zero h = (row_kinds ks row (and_parts (fits_kinds ks row) (list_all (fits_kinds ks) rows) h).0, tt)
-one_fits ks (row ∷ rows) (suc i) h = one_fits ks rows i (and_parts (fits_kinds ks row) (list_all (fits_kinds ks) rows) h).1
-
-chosen_fits : (ks : List Kind) (b : Choices) (choice : Option ℕ) → list_all (fits_kinds ks) b.alternatives ≡ true → Fits ks (chosen b choice)
-chosen_fits ks b None h = tt
-chosen_fits ks b (Some i) h = one_fits ks b.alternatives i h
-
-append_fits : (ks : List Kind) (xs ys : Rows) → Fits ks xs → Fits ks ys → Fits ks (xs ++ ys)
-append_fits ks [] ys h k = k
-append_fits ks (x ∷ xs) ys h k = (h.0, append_fits ks xs ys h.1 k)
-
-rows_fit : (ks : List Kind) (bs : List Choices) → list_all (λ b. list_all (fits_kinds ks) b.alternatives) bs ≡ true → Fits ks (rows_in bs (map (λ b. b.guess) bs))
-rows_fit ks [] h = tt
-rows_fit ks (b ∷ bs) h =
-    let p = and_parts (list_all (fits_kinds ks) b.alternatives) (list_all (λ c. list_all (fits_kinds ks) c.alternatives) bs) h in
-    append_fits ks (chosen b b.guess) (rows_in bs (map (λ c. c.guess) bs)) (chosen_fits ks b b.guess p.0) (rows_fit ks bs p.1)
+row_kinds (k ∷ ks) (r ∷ cells) h =
+    let p = and_parts (is_range_of k r) (fits_kinds ks cells) h in
+    ((is_of k r p.0).sg, row_kinds ks cells p.1)
 
 abbrev IsValues : List Kind → List CountedRow → Type 0
 IsValues ks rows = reading.IsRelation IsKind (λ n. Unit {0}) ks rows
 
-ones_kinds : (ks : List Kind) (w : Rows) → Fits ks w → IsValues ks (ones w)
-ones_kinds ks [] h = tt
-ones_kinds ks (row ∷ w) h = (record { cells = h.0; annot = tt }, ones_kinds ks w h.1)
+-- what is guessed of a block has the kinds
+abbrev ValuesIn : List Kind → Option CountedRow → Type 0
+ValuesIn ks None = Unit {0}
+ValuesIn ks (Some r) = AllZip IsKind ks r.cells
+
+picked_kinds : (ks : List Kind) (cs : List Candidate) → list_all (λ a. fits_kinds ks a.cells) cs ≡ true → (i : ℕ) (n : ℕ)
+    → ValuesIn ks (counted_row (option_map (λ a. taken n (guesses a.cells) a.copies.guess) (slice_get cs i)))
+picked_kinds ks [] h i n = tt
+picked_kinds ks (a ∷ cs) h zero n = row_kinds ks a.cells (and_parts (fits_kinds ks a.cells) (list_all (λ c. fits_kinds ks c.cells) cs) h).0
+picked_kinds ks (a ∷ cs) h (suc i) n = picked_kinds ks cs (and_parts (fits_kinds ks a.cells) (list_all (λ c. fits_kinds ks c.cells) cs) h).1 i n
+
+marked_kinds : (ks : List Kind) (cs : List Candidate) (guess : Option ℕ) → list_all (λ a. fits_kinds ks a.cells) cs ≡ true
+    → ValuesIn ks (counted_row (option_and_then (λ i. option_map (λ a. taken i (guesses a.cells) a.copies.guess) (slice_get cs i)) guess))
+marked_kinds ks cs None h = tt
+marked_kinds ks cs (Some i) h = picked_kinds ks cs h i i
+
+row_more : (ks : List Kind) (r : CountedRow) (b : Bool) (rows : List CountedRow) → AllZip IsKind ks r.cells → IsValues ks rows → IsValues ks (cond b (r ∷ rows) rows)
+row_more ks r true rows own rest = (record { cells = own; annot = tt }, rest)
+row_more ks r false rows own rest = rest
+
+values_more : (ks : List Kind) (o : Option CountedRow) (rows : List CountedRow) → ValuesIn ks o → IsValues ks (occurring rows) → IsValues ks (occurring (cons_option o rows))
+values_more ks None rows own rest = rest
+values_more ks (Some r) rows own rest = row_more ks r (not (r.annot == 0)) (occurring rows) own rest
+
+blocks_kinds : (ks : List Kind) (bs : List Choices) → list_all (λ b. list_all (λ a. fits_kinds ks a.cells) b.alternatives) bs ≡ true → IsValues ks (guessed_blocks bs)
+blocks_kinds ks [] h = tt
+blocks_kinds ks (b ∷ bs) h =
+    let p = and_parts (list_all (λ a. fits_kinds ks a.cells) b.alternatives) (list_all (λ c. list_all (λ a. fits_kinds ks a.cells) c.alternatives) bs) h in
+    values_more ks (counted_row (guess_choice b)) (filter_map (λ c. counted_row (guess_choice c)) bs) (marked_kinds ks b.alternatives b.guess p.0) (blocks_kinds ks bs p.1)
 
 tables_kinds : (ts : List BlockTable) → AllByRecursion IsBlockTable ts → AllZip IsValues (map column_kinds ts) (map guessed_table ts)
 tables_kinds [] h = tt
-tables_kinds (t ∷ ts) h = (ones_kinds (column_kinds t) (rows_in t.blocks (guess_choices t)) (rows_fit (column_kinds t) t.blocks h.0.table.rows), tables_kinds ts h.1)
+tables_kinds (t ∷ ts) h = (blocks_kinds (column_kinds t) t.blocks h.0.table.rows, tables_kinds ts h.1)
 
 pub can_guess : (ts : List BlockTable) (q : Tree) (ks : List Kind) (rows : List (List CountedRow)) → kinds_of (map column_kinds ts) q ≡ Some ks
     → rows ≡ map guessed_table ts → AllByRecursion IsBlockTable ts → IsTypedOverValues q rows
@@ -93,9 +130,9 @@ widths ks n (r ∷ rows) e h = (same_length ks r.cells h.0.cells ∙ e, widths k
 
 pub guess_widths : (ts : List BlockTable) (q : Tree) (ks : List Kind) (given : List (List CountedRow)) (found : List CountedRow) (names : List (List ℕ)) (columns : List Column)
     → kinds_of (map column_kinds ts) q ≡ Some ks → given ≡ map guessed_table ts → AllByRecursion IsBlockTable ts → HasValueKinds q given found
-    → names ≡ map (λ c. c.name) columns → ks ≡ map (λ c. c.kind) columns → AllByRecursion (λ r. length r.cells ≡ length names) found
+    → names ≡ map (λ c. c.name) columns → ks ≡ map data_kind (map (λ c. c.kind) columns) → AllByRecursion (λ r. length r.cells ≡ length names) found
 guess_widths ts q ks given found names columns typed e ok has named kinds =
     let held : AllZip IsValues (map column_kinds ts) given = subst (AllZip IsValues (map column_kinds ts)) (sym e) (tables_kinds ts ok) in
     widths ks (length names) found
-    (ap length kinds ∙ length-map columns (λ c. c.kind) ∙ sym (ap length named ∙ length-map columns (λ c. c.name)))
+    (ap length kinds ∙ length-map (map (λ c. c.kind) columns) data_kind ∙ length-map columns (λ c. c.kind) ∙ sym (ap length named ∙ length-map columns (λ c. c.name)))
     (has (map column_kinds ts) ks held typed)

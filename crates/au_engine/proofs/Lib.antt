@@ -1,6 +1,9 @@
+mod AskedAnswers
+mod CompressedPairs
 mod GuessTables
 mod HeldRows
 mod Materialized
+mod Operators
 mod OtherTables
 pub mod PairTables
 mod PlanRuns
@@ -11,4 +14,7 @@ mod Reordered
 mod Shown
 mod StageRuns
 mod StageSteps
+mod Told
 mod TableRelations
+mod TypedWidths
+mod WholePlans

@@ -14,6 +14,7 @@ use Rattle.au_plain.specs.PlanKinds.{FitRows}
 use Rattle.au_plain.specs.Plans.{PlanTree, Scan}
 use Rattle.au_combine.specs.Gives.{Combines}
 use Rattle.au_encode.specs.Encode.{encode}
+use Rattle.au_value.specs.Order.{data_kind}
 use Rattle.au_engine.specs.Stages.{Adds, AddsTable, CanRun, Finds, LeavesRange, LeavesRangeCombined, Materializes, MaterializesCombined}
 use Rattle.au_engine.proofs.StageRuns.{adds_relation}
 use Rattle.au_engine.proofs.StageSteps.{one_adds, scan_adds}
@@ -23,7 +24,7 @@ pub adds_table :
     (t : BlockTable) (columns : ℕ) (found : Rows) (old new : List Rows) (q : PlanTree) (d : ℕ) → IsBlockTable t → columns ≡ length t.columns → found ≡ encode (bounded_table t) → FitRows found →
     new ≡ old ++ found ∷ [] → d ≡ columns → q ≡ Scan (length old) (3 * columns + 3) → AddsTable t old new q d
 adds_table t columns found old new q d ok counted is fits behind wide scan ns =
-    let long : length (column_kinds t) ≡ columns = length-map t.columns (λ c. c.kind) ∙ sym counted in
+    let long : length (column_kinds t) ≡ columns = length-map t.columns (λ c. data_kind c.kind) ∙ sym counted in
     subst (λ n. Adds old new q n (column_kinds t) (bounded_table t) ns) (sym wide)
     (scan_adds old new found behind columns (column_kinds t) (bounded_table t) long (table_relation t ok.table ok.blocks) (subst FitRows is fits) (λ v. ap (copies v) is) q scan ns)
 

@@ -6,6 +6,7 @@ use Rattle.std.proofs.lemmas.Bool.{true≢false}
 use Rattle.std.proofs.lemmas.List.{length-map}
 use Rattle.au_value.specs.declared.kinds.Kind.{Kind}
 use Rattle.au_value.specs.declared.value.Value.{Value}
+use Rattle.au_value.specs.Order.{data_kind}
 use Rattle.au_annot.specs.Pairs.{IsPair}
 use Rattle.au_expr.specs.Ordinary.{IsKind}
 use Rattle.au_algebra.specs.Positive.{is_positive}
@@ -48,10 +49,10 @@ widths ks n (r ∷ rows) e h = (same_length ks r.cells h.0.cells ∙ e, widths k
 
 pub pair_widths : (ts : List BlockTable) (q : Tree) (ks : List Kind) (given : List (List PairRow)) (found : List PairRow) (names : List (List ℕ)) (columns : List Column)
     → kinds_of (map column_kinds ts) q ≡ Some ks → given ≡ map ua_table ts → AllByRecursion IsBlockTable ts → HasRows IsKind IsPair q given found
-    → names ≡ map (λ c. c.name) columns → ks ≡ map (λ c. c.kind) columns → AllByRecursion (λ r. length r.cells ≡ length names) found
+    → names ≡ map (λ c. c.name) columns → ks ≡ map data_kind (map (λ c. c.kind) columns) → AllByRecursion (λ r. length r.cells ≡ length names) found
 pair_widths ts q ks given found names columns typed e ok has named kinds =
     widths ks (length names) found
-    (ap length kinds ∙ length-map columns (λ c. c.kind) ∙ sym (ap length named ∙ length-map columns (λ c. c.name)))
+    (ap length kinds ∙ length-map (map (λ c. c.kind) columns) data_kind ∙ length-map columns (λ c. c.kind) ∙ sym (ap length named ∙ length-map columns (λ c. c.name)))
     (has (map column_kinds ts) ks (held ts given e ok) typed)
 
 -- ---- numbers

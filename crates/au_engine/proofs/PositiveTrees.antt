@@ -1,14 +1,15 @@
 -- The tree of a statement that is positive has tables and the four positive operators alone.
-use Rattle.std.specs.Prelude.{◌≡◌, ℕ, ◌||◌, Bool, not, true, false, List, [], ◌∷◌, ◌++◌, map, Option, Some, None, is_some}
+use Rattle.std.specs.Prelude.{◌≡◌, ℕ, ◌||◌, Bool, not, true, false, List, [], ◌∷◌, ◌++◌, map, Option, Some, None, is_some, if◌then◌else◌}
 use Rattle.std.specs.List.{list_any, AllByRecursion}
 use Rattle.std.proofs.Common.{refl, sym, ◌∙◌, ap}
 use Rattle.std.proofs.lemmas.Bool.{and_from, or_parts, true≢false}
 use Rattle.au_algebra.specs.Positive.{is_positive}
 use Rattle.au_algebra.specs.Trees.{Tree as Query, Table, Product, Project}
+use Rattle.au_blocks.specs.declared.column.Column.{Column}
 use Rattle.au_parse.specs.Tree.{Tree, ItemTree, QueryTree, SetWord, Sources}
 use Rattle.au_typing.specs.Aggregates.{written}
 use Rattle.au_typing.specs.Items.{items_written, item_written}
-use Rattle.au_typing.specs.Queries.{Relation, from_items, table_of, table_typing, tree_of, typing, set_tree}
+use Rattle.au_typing.specs.Queries.{Relation, brought_from, from_items, is_narrower, set_columns, side_tree, table_of, table_typing, tree_of, typing, set_tree}
 use Rattle.au_typing.specs.Scopes.{Scope}
 use Rattle.au_typing.specs.Selects.{Clauses, FromItem, distinct_if, is_grouped, is_join, joined, product, scope_of, select, select_under, selected, setting_of}
 use Rattle.au_typing.specs.Terms.{Setting, rows, groups}
@@ -41,6 +42,7 @@ both_written xs ys e f = rw (e, f) refl
 none_written : (e : Tree) → has_aggregate e ≡ false → written e ≡ []
 none_written (Tree.column name) h = refl
 none_written (Tree.number at n) h = refl
+none_written (Tree.decimal at n digits) h = refl
 none_written (Tree.text at t) h = refl
 none_written (Tree.flag at b) h = refl
 none_written (Tree.binary at o left right) h =
@@ -122,6 +124,13 @@ select_positive c from plain all =
 
 -- ---- a set word
 
+side_positive : (columns own : List Column) (q : Query) → Positive q → Positive (side_tree columns own q)
+side_positive columns own q h = by_test (is_narrower own columns)
+  where
+    by_test : (b : Bool) → Positive (if b then Project (brought_from 0 own columns) q else q)
+    by_test true = h
+    by_test false = h
+
 union_positive : (all : Bool) (at : ℕ) (left right : Query) → place_if (not all) at ≡ [] → Positive left → Positive right → Positive (set_tree SetWord.union all left right)
 union_positive true at left right e l r = and_from (is_positive left) (is_positive right) l r
 union_positive false at left right e l r = cc
@@ -140,7 +149,11 @@ module _ (tables : List Relation) where
     typing_positive (QueryTree.set SetWord.union all at left right) e =
         let parts = no_places (place_if (not all) at) (places left ++ places right) e in
         let sides = no_places (places left) (places right) parts.1 in
-        union_positive all at (typing tables left).tree (typing tables right).tree parts.0 (typing_positive left sides.0) (typing_positive right sides.1)
+        let l = typing tables left in
+        let r = typing tables right in
+        let columns = set_columns l.columns r.columns in
+        union_positive all at (side_tree columns l.columns l.tree) (side_tree columns r.columns r.tree) parts.0
+        (side_positive columns l.columns l.tree (typing_positive left sides.0)) (side_positive columns r.columns r.tree (typing_positive right sides.1))
     typing_positive (QueryTree.set SetWord.except all at left right) e = cc
 
     items_positive : (sources : Sources) → source_places sources ≡ [] → Froms (from_items tables sources)

@@ -1,17 +1,15 @@
 -- Rows in another order decode to rows with the same normal form.
 use Rattle.std.specs.Prelude.{◌≡◌, ℕ, ◌<◌, Bool, true, false, cond, List, [], ◌∷◌}
 use Rattle.std.specs.List.Sorted.{IsPermutation}
-use Rattle.std.proofs.Common.{arith, refl, sym, ◌∙◌, subst}
+use Rattle.std.proofs.Common.{arith, refl, sym, subst}
 use Rattle.std.proofs.lemmas.List.Sorted.{IsPermutation-refl, IsPermutation-trans, IsPermutation-cons, IsPermutation-middle, IsPermutation-map, IsPermutation-sym}
 use Rattle.au_value.specs.declared.value.Value.{Value}
-use Rattle.au_algebra.specs.Bounded.{Bounded, normal}
+use Rattle.au_algebra.specs.Bounded.{normal}
 use Rattle.au_algebra.specs.Lists.{copies, same_row, without}
 use Rattle.au_algebra.specs.Ordinary.{Rows}
 use Rattle.au_algebra.proofs.Copies.{copies-cons, counted_other, same_row_is, without_copies}
-use Rattle.au_algebra.proofs.NormalRows.{normal_rises, normal_tally}
 use Rattle.au_algebra.proofs.Occurring.{SameCopies, first_occurs}
-use Rattle.au_algebra.proofs.Rising.{rising_is}
-use Rattle.au_algebra.proofs.Tallies.{summed_same}
+use Rattle.au_compress.proofs.AnyOrder.{normal_same as normal_permuted}
 use Rattle.au_encode.specs.Encode.{decode, decode_row}
 
 -- a row that occurs may stand first
@@ -38,11 +36,10 @@ permuted (x ∷ xs) ys same =
     let rest = permuted xs others (λ v. omega (arith, same v, copies-cons v x xs, without_copies x v ys)) in
     IsPermutation-trans (x ∷ xs) (x ∷ others) ys (IsPermutation-cons x xs others rest) (drawn x ys (omega (arith, same x, first_occurs x xs)))
 
+-- rows in another order decode to rows in another order
+pub decoded_same : (c : ℕ) (xs ys : Rows) → SameCopies xs ys → IsPermutation (decode c xs) (decode c ys)
+decoded_same c xs ys same = IsPermutation-map (decode_row c) xs ys (permuted xs ys same)
+
 -- the normal form of the rows that they decode to does not depend on their order
 pub normal_same : (c : ℕ) (xs ys : Rows) → SameCopies xs ys → normal (decode c xs) ≡ normal (decode c ys)
-normal_same c xs ys same =
-    let a : Bounded = decode c xs in
-    let b : Bounded = decode c ys in
-    let p : IsPermutation a b = IsPermutation-map (decode_row c) xs ys (permuted xs ys same) in
-    rising_is (normal a) (normal b) (normal_rises a) (normal_rises b)
-    (λ k. normal_tally a k ∙ summed_same k a b p ∙ sym (normal_tally b k))
+normal_same c xs ys same = normal_permuted (decode c xs) (decode c ys) (decoded_same c xs ys same)

@@ -5,6 +5,7 @@ use Rattle.std.specs.Prelude.{ℤ, pos, is_some}
 use Rattle.std.specs.List.{list_all, AllByRecursion, AllZip}
 use Rattle.std.proofs.lemmas.List.{length-map}
 use Rattle.std.proofs.lemmas.List.Folds.{list_all-append}
+use Rattle.au_value.specs.Order.{data_kind}
 use Rattle.au_value.specs.declared.kinds.Kind.{Kind}
 use Rattle.au_expr.specs.Numbers.{expr_numbers}
 use Rattle.au_expr.specs.OnRanges.{range_of}
@@ -191,8 +192,8 @@ answered combined ts q ks rows ok typed e = record {
 }
 
 -- each row has as many ranges as there are names
-pub as_wide : (ks : List Kind) (names : List (List ℕ)) (columns : List Column) (rows : Bounded) → names ≡ map (λ c. c.name) columns → ks ≡ map (λ c. c.kind) columns
+pub as_wide : (ks : List Kind) (names : List (List ℕ)) (columns : List Column) (rows : Bounded) → names ≡ map (λ c. c.name) columns → ks ≡ map data_kind (map (λ c. c.kind) columns)
     → IsRelation ks rows → AllByRecursion (λ r. length r.cells ≡ length names) rows
 as_wide ks names columns rows named kinds ok =
     have_columns ks (length names) rows
-    (ap length kinds ∙ length-map columns (λ c. c.kind) ∙ sym (ap length named ∙ length-map columns (λ c. c.name))) ok
+    (ap length kinds ∙ length-map (map (λ c. c.kind) columns) data_kind ∙ length-map columns (λ c. c.kind) ∙ sym (ap length named ∙ length-map columns (λ c. c.name))) ok

@@ -17,7 +17,9 @@ use Rattle.au_encode.specs.Gives.{Gives}
 use Rattle.au_encode.proofs.EncodedKinds.{rows_have_kinds}
 use Rattle.au_rwexpr.proofs.Coded.{own}
 use Rattle.au_rwexpr.proofs.Picks.{coded_long}
+use Rattle.au_expr.specs.Figures.{Fit}
 use Rattle.au_engine.specs.Stages.{Adds, GivesOver, SameRows}
+use Rattle.au_engine.proofs.Operators.{more_numbers}
 
 -- ---- lists behind lists
 
@@ -52,7 +54,7 @@ right_group xs ys zs us = ap (λ l. l ++ us) (append_assoc xs ys zs)
 moved : (p : PlanTree) (ks : List Kind) (rows : Bounded) (ns : List ℤ) (tk uk : List (List Kind)) (ts us : List Rows) → tk ≡ uk → ts ≡ us → Gives tk ts p ks rows ns → Gives uk us p ks rows ns
 moved p ks rows ns tk uk ts us e f g = subst (λ hs. Gives uk hs p ks rows ns) f (subst (λ hs. Gives hs ts p ks rows ns) e g)
 
-wide_enough : (ks : List Kind) → kinds_if (length (encoded_kinds ks) == 3 * length ks + 3) (encoded_kinds ks) ≡ Some (encoded_kinds ks)
+pub wide_enough : (ks : List Kind) → kinds_if (length (encoded_kinds ks) == 3 * length ks + 3) (encoded_kinds ks) ≡ Some (encoded_kinds ks)
 wide_enough ks = let e = eq-eqb _ _ (coded_long own own own own own own (length ks) ks Int refl) in rw e
 
 -- the Scan of rows that were put behind others
@@ -143,3 +145,8 @@ module _ (left right made : PlanTree) (ks js hs : List Kind) (xs ys zs : Bounded
         two_over (length old) a.added b.added a.over
         (subst (λ m. GivesOver m b.added right js ys ns) (ap length a.behind ∙ length-append old a.added) b.over);
   }
+
+-- a plan gives what it gives also where more numbers are to fit
+pub more_adds : (old new : List Rows) (p : PlanTree) (c : ℕ) (ks : List Kind) (rows : Bounded) (ms ns : List ℤ) → (Fit ns → Fit ms) → Adds old new p c ks rows ms → Adds old new p c ks rows ns
+more_adds old new p c ks rows ms ns less a =
+    one_adds old new p p c c ks ks rows rows ms ns a.columns (λ tk tables fits g. more_numbers tk tables p ks rows ms ns less g) a

@@ -1,5 +1,5 @@
 -- The answer of a statement over named block tables: its names and kinds, its rows and whether their numbers fit.
-use Rattle.std.specs.Prelude.{ℕ, ◌≡◌, ◌&&◌, Bool, false, List, [], map, ⊤, Contains, if◌then◌else◌}
+use Rattle.std.specs.Prelude.{ℕ, ◌≡◌, ◌&&◌, Bool, false, List, [], map, Option, Some, None, ⊤, Contains, if◌then◌else◌}
 use Rattle.std.specs.List.{list_all}
 use Rattle.au_value.specs.declared.kinds.Kind.{Kind}
 use Rattle.au_parse.specs.Tree.{QueryTree}
@@ -9,7 +9,9 @@ use Rattle.au_algebra.specs.Trees.{Tree}
 use Rattle.au_algebra.specs.Bounded.{Bounded, bounded_answer, combine, normal}
 use Rattle.au_algebra.specs.Fits.{certain_rows, fits, in_range, numbers, triples_fit}
 use Rattle.au_algebra.specs.Ordinary.{Rows, answer}
-use Rattle.au_translate.specs.Translate.{bounded_table}
+use Rattle.au_compress.specs.CompressedAnswers.{compressed_answer}
+use Rattle.au_compress.specs.CompressedFits.{compressed_answer_fits}
+use Rattle.au_translate.specs.Translate.{bounded_table, guessed_table}
 use Rattle.au_translate.specs.Headline.{HoldsInEveryWorld}
 use Rattle.au_typing.specs.Queries.{Relation, defects, tree_of, names_of, kinds_of}
 use Rattle.au_typing.specs.declared.fault.TypingFault.{TypingFault}
@@ -59,6 +61,21 @@ answer_rows combined ts s = tree_answer combined ts (answer_tree ts s)
 abbrev pub answer_fits : Bool → List Named → QueryTree → Bool
 answer_fits combined ts s = tree_fits combined ts (answer_tree ts s)
 
+-- the answer that is asked for: the bounded answer, or that whose products are compressed
+abbrev pub tree_asked : Option ℕ → Bool → List Named → Tree → Bounded
+tree_asked None combined ts q = tree_answer combined ts q
+tree_asked (Some n) combined ts q = compressed_answer n combined q (map bounded_table (blocks_of ts))
+
+abbrev pub tree_asked_fits : Option ℕ → Bool → List Named → Tree → Bool
+tree_asked_fits None combined ts q = tree_fits combined ts q
+tree_asked_fits (Some n) combined ts q = compressed_answer_fits n combined q (map bounded_table (blocks_of ts))
+
+abbrev pub asked_rows : Option ℕ → Bool → List Named → QueryTree → Bounded
+asked_rows compress combined ts s = tree_asked compress combined ts (answer_tree ts s)
+
+abbrev pub asked_fits : Option ℕ → Bool → List Named → QueryTree → Bool
+asked_fits compress combined ts s = tree_asked_fits compress combined ts (answer_tree ts s)
+
 -- rows hold in every possible world, and their guesses are the answer in the guess world
 abbrev pub RowsHold : List Named → QueryTree → Bounded → Type 0
 RowsHold ts s rows = HoldsInEveryWorld (answer_tree ts s) (blocks_of ts) rows
@@ -68,7 +85,7 @@ abbrev pub guess_tables : List Named → List Rows
 guess_tables ts = tables_in (blocks_of ts) (guess_world (blocks_of ts))
 
 abbrev pub tree_guess_fits : List Named → Tree → Bool
-tree_guess_fits ts q = list_all in_range (numbers q (map certain_rows (guess_tables ts)))
+tree_guess_fits ts q = list_all in_range (numbers q (map certain_rows (map guessed_table (blocks_of ts))))
 
 abbrev pub guess_answer : List Named → QueryTree → Rows
 guess_answer ts s = answer (answer_tree ts s) (guess_tables ts)

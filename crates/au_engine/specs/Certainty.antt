@@ -6,7 +6,8 @@ use Rattle.au_parse.specs.Tree.{QueryTree}
 use Rattle.au_ua.specs.Relations.{PairRow}
 use Rattle.au_ua.specs.UaAnswers.{HoldsInEveryWorld, ua_answer}
 use Rattle.au_ua.specs.UaTables.{ua_table}
-use Rattle.au_engine.specs.Answers.{Named, answer_tree, blocks_of, guess_tables}
+use Rattle.au_translate.specs.Translate.{guessed_table}
+use Rattle.au_engine.specs.Answers.{Named, answer_tree, blocks_of}
 
 -- the rows of a tree, and of a statement
 abbrev pub tree_ua_rows : List Named → Tree → List PairRow
@@ -24,7 +25,7 @@ UaHolds ts s = TreeUaHolds ts (answer_tree ts s)
 
 -- whether the numbers of the ordinary answer over the guess world lie in 128 bits, the counts of its rows among them
 abbrev pub tree_ua_fits : List Named → Tree → Bool
-tree_ua_fits ts q = guess_fits q (guess_tables ts)
+tree_ua_fits ts q = guess_fits q (map guessed_table (blocks_of ts))
 
 abbrev pub ua_answer_fits : List Named → QueryTree → Bool
 ua_answer_fits ts s = tree_ua_fits ts (answer_tree ts s)

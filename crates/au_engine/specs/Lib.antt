@@ -1,4 +1,6 @@
 pub mod Reading
 pub mod Answers
 pub mod Certainty
+pub mod Compressing
+pub mod Rewriting
 pub mod Stages

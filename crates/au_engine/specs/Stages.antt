@@ -1,10 +1,10 @@
 -- A plan that is run in stages: of some operators the input is run first, and its rows stand as a table for the rest.
-use Rattle.std.specs.Prelude.{◌≡◌, ℕ, Bool, true, false, List, [], ◌++◌, length, map, Some, ℤ, if◌then◌else◌}
+use Rattle.std.specs.Prelude.{◌≡◌, ℕ, Bool, true, false, List, [], ◌++◌, length, map, Option, Some, ℤ, if◌then◌else◌}
 use Rattle.std.specs.List.{AllZip}
 use Rattle.au_value.specs.declared.kinds.Kind.{Kind}
 use Rattle.au_expr.specs.Figures.{Fit}
-use Rattle.au_algebra.specs.Bounded.{Bounded, bounded, combine}
-use Rattle.au_algebra.specs.Fits.{numbers, triple_numbers}
+use Rattle.au_algebra.specs.Bounded.{Bounded, combine, product}
+use Rattle.au_algebra.specs.Fits.{triple_numbers}
 use Rattle.au_algebra.specs.Laws.{IsRelation}
 use Rattle.au_algebra.specs.Lists.{SameUpToOrder, same_row}
 use Rattle.au_algebra.specs.Ordinary.{Rows}
@@ -12,11 +12,14 @@ use Rattle.au_algebra.specs.Trees.{Tree}
 use Rattle.au_algebra.specs.Typing.{kinds_of}
 use Rattle.au_blocks.specs.Tables.{BlockTable, column_kinds}
 use Rattle.au_translate.specs.Translate.{bounded_table}
+use Rattle.au_compress.specs.CompressedFits.{product_numbers}
+use Rattle.au_compress.specs.Splitting.{compressed_product}
 use Rattle.au_plain.specs.PlanKinds.{FitRows, FitTables, HaveKinds}
 use Rattle.au_plain.specs.Plans.{PlanTree}
 use Rattle.au_combine.specs.Gives.{Combines}
-use Rattle.au_encode.specs.Encode.{encode}
+use Rattle.au_encode.specs.Encode.{decode, encode}
 use Rattle.au_encode.specs.Gives.{Gives}
+use Rattle.au_engine.specs.Compressing.{tree_numbers, tree_rows}
 
 -- two lists have the same rows, each equally often
 abbrev pub SameRows : Rows → Rows → Type 0
@@ -46,10 +49,10 @@ abbrev pub AddsTable : BlockTable → List Rows → List Rows → PlanTree → �
 AddsTable t old new p c = (ns : List ℤ) → Adds old new p c (column_kinds t) (bounded_table t) ns
 
 -- the relation and the numbers are those of a tree over block tables, where it is typed
-abbrev pub AddsTree : List BlockTable → Tree → List Rows → List Rows → PlanTree → ℕ → Type 0
-AddsTree ts q old new p c =
+abbrev pub AddsTree : Option ℕ → List BlockTable → Tree → List Rows → List Rows → PlanTree → ℕ → Type 0
+AddsTree how ts q old new p c =
     (ks : List Kind) → kinds_of (map column_kinds ts) q ≡ Some ks →
-    Adds old new p c ks (bounded q (map bounded_table ts)) (numbers q (map bounded_table ts))
+    Adds old new p c ks (tree_rows how q (map bounded_table ts)) (tree_numbers how q (map bounded_table ts))
 
 -- a plan that gives some relation over all the tables
 abbrev pub CanRun : List Rows → PlanTree → ℕ → Type 0
@@ -92,8 +95,66 @@ Shows true c of p = Combines c of p
 Shows false c of p = p ≡ of
 
 -- rows of `c` encoded columns that are those of the relation that is shown of a tree over block tables, up to order
-pub record AreRowsOf (combined : Bool) (ts : List BlockTable) (q : Tree) (c : ℕ) (found : Rows) : Type 0 where
+pub record AreRowsOf (how : Option ℕ) (combined : Bool) (ts : List BlockTable) (q : Tree) (c : ℕ) (found : Rows) : Type 0 where
   pub kinds : List Kind
   pub columns : length kinds ≡ c
-  pub relation : IsRelation kinds (shown_rows combined (bounded q (map bounded_table ts)))
-  pub same : SameRows found (encode (shown_rows combined (bounded q (map bounded_table ts))))
+  pub relation : IsRelation kinds (shown_rows combined (tree_rows how q (map bounded_table ts)))
+  pub same : SameRows found (encode (shown_rows combined (tree_rows how q (map bounded_table ts))))
+
+-- ---- products that are compressed
+
+-- a relation has the rows of another one, which has `c` columns, in some order
+abbrev pub HasRows : ℕ → Bounded → Bounded → Type 0
+HasRows c rel rows = (found : Rows) × ((rel ≡ decode c found) × SameRows found (encode rows))
+
+-- it is the relation that a plan gives over all its tables
+abbrev pub Decodes : List Rows → PlanTree → ℕ → Bounded → Type 0
+Decodes held p c rel = (ks : List Kind) (rows : Bounded) (ns : List ℤ) → Adds [] held p c ks rows ns → HasRows c rel rows
+
+-- the Scan of the encoded rows of a relation of `c` columns
+abbrev pub AddsRelation : Bounded → ℕ → List Rows → List Rows → PlanTree → ℕ → Type 0
+AddsRelation rel c old new p d =
+    (ks : List Kind) (rows : Bounded) → length ks ≡ c → IsRelation ks rows → SameRows (encode rel) (encode rows) → Adds old new p d ks rows []
+
+-- the pairs of two relations of `m` and `n` columns
+abbrev pub AddsPairs : Bounded → ℕ → Bounded → ℕ → List Rows → List Rows → PlanTree → ℕ → Type 0
+AddsPairs left m right n old new p d =
+    (ks js : List Kind) (xs ys : Bounded) → length ks ≡ m → length js ≡ n → IsRelation ks xs → IsRelation js ys →
+    SameRows (encode left) (encode xs) → SameRows (encode right) (encode ys) →
+    Adds old new p d (ks ++ js) (product xs ys) (triple_numbers (product xs ys))
+
+-- two relations are those of two sides of a product
+pub record AreSides (left : Bounded) (m : ℕ) (right : Bounded) (n : ℕ) (ks js : List Kind) (xs ys : Bounded) : Type 0 where
+  pub left_columns : length ks ≡ m
+  pub right_columns : length js ≡ n
+  pub left_relation : IsRelation ks xs
+  pub right_relation : IsRelation js ys
+  pub left_rows : HasRows m left xs
+  pub right_rows : HasRows n right ys
+
+-- some relations are
+abbrev pub HaveSides : Bounded → ℕ → Bounded → ℕ → Type 0
+HaveSides left m right n = (ks : List Kind) × ((js : List Kind) × ((xs : Bounded) × ((ys : Bounded) × AreSides left m right n ks js xs ys)))
+
+-- their compressed product, with its numbers
+abbrev pub AddsCompressed : ℕ → Bounded → ℕ → Bounded → ℕ → List Rows → List Rows → PlanTree → ℕ → Type 0
+AddsCompressed size left m right n old new p d =
+    (ks js : List Kind) (xs ys : Bounded) → AreSides left m right n ks js xs ys →
+    Adds old new p d (ks ++ js) (compressed_product size xs ys) (product_numbers size xs ys)
+
+-- a number of its making leaves the range
+abbrev pub LeavesCompressed : ℕ → Bounded → ℕ → Bounded → ℕ → Type 0
+LeavesCompressed size left m right n =
+    (ks js : List Kind) (xs ys : Bounded) → AreSides left m right n ks js xs ys → ¬ (Fit (product_numbers size xs ys))
+
+-- two plans over tables of their own give relations, and another plan gives their compressed product
+abbrev pub MultipliesCompressed : ℕ → List Rows → PlanTree → ℕ → List Rows → PlanTree → ℕ → List Rows → List Rows → PlanTree → ℕ → Type 0
+MultipliesCompressed size lefts left m rights right n old new p d =
+    (ks js : List Kind) (xs ys : Bounded) (ms ns : List ℤ) → Adds [] lefts left m ks xs ms → Adds [] rights right n js ys ns →
+    Adds old new p d (ks ++ js) (compressed_product size xs ys) (product_numbers size xs ys)
+
+-- a number of the two relations or of the product's making leaves the range
+abbrev pub LeavesMultiplied : ℕ → List Rows → PlanTree → ℕ → List Rows → PlanTree → ℕ → Type 0
+LeavesMultiplied size lefts left m rights right n =
+    (ks js : List Kind) (xs ys : Bounded) (ms ns : List ℤ) → Adds [] lefts left m ks xs ms → Adds [] rights right n js ys ns →
+    ¬ (Fit (ms ++ (ns ++ product_numbers size xs ys)))

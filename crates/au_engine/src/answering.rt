@@ -1,5 +1,5 @@
 //! The bounded answer of a statement over block tables.
-ghost use Rattle.std.specs.Prelude.{◌≡◌, [], true, false, Some, List, IfOk, IfErr, OnOk, length, map, if◌then◌else◌};
+ghost use Rattle.std.specs.Prelude.{◌≡◌, ◌≤◌, Bool, Err, Ok, [], true, false, None, Some, List, IfOk, IfErr, OnOk, length, map, if◌then◌else◌};
 ghost use Rattle.std.specs.List.{AllByRecursion, list_all};
 ghost use Rattle.au_algebra.specs.Laws.{IsRelation};
 ghost use Rattle.au_parse.specs.Views.{statement_tree};
@@ -11,9 +11,13 @@ ghost use Rattle.au_translate.specs.Translate.{bounded_table};
 ghost use Rattle.au_algebra.specs.Bounded.{bounded, combine as combine_of, normal as normal_of};
 ghost use Rattle.au_algebra.specs.Fits.{in_range, numbers, triples_fit};
 ghost use Rattle.au_value.specs.declared.kinds.Kind.{Kind};
-ghost use Rattle.au_engine.specs.Answers.{AnswerCause, RowsCause, RowsHold, blocks_of, shown_fits, tree_answer, tree_fits, answer_fits, answer_kinds, answer_names, answer_rows as answer_rows_of, statement_defects};
+ghost use Rattle.au_value.specs.Order.{data_kind};
+ghost use Rattle.au_engine.specs.Answers.{AnswerCause, RowsCause, RowsHold, blocks_of, shown_fits, tree_answer, tree_asked, tree_asked_fits, tree_fits, answer_fits, answer_kinds, answer_names, answer_rows as answer_rows_of, asked_fits, asked_rows, statement_defects};
+ghost use Rattle.au_engine.specs.Compressing.{IsCompression};
 
 use crate::faults::EngineFault;
+use crate::options::Options;
+use crate::runner::Runner;
 use crate::running::evaluated_by_plan;
 use crate::tables::bounded_tables;
 use crate::typing::resolved;
@@ -22,115 +26,89 @@ use au_annot::Triple;
 use au_blocks::Table;
 use au_expr::EvalFault;
 use au_kfull::{combine, direct};
+use au_par::Gate;
 use au_parse::Statement;
 use au_print::Answer;
 use au_typing::Typed;
 use au_value::{NoMemory, Range, Word};
 use std::alloc::Global;
+use std::thread::Threads;
 
-/// What is asked beside the statement.
-#[derive(Clone, Copy, Debug, PartialEq, Eq)]
-pub struct Options {
-    /// Whether the rows of one guess are combined.
-    pub combine: bool,
-}
-
-// How a tree is evaluated: by its plan over encoded rows, or by the definitions.
-#[derive(Clone, Copy)]
-enum Road {
-    Plans,
-    Direct,
-}
-
-/// The bounded answer of a statement over tables, each under its name.
+/// The bounded answer of a statement over tables, each under its name. Where products are to be compressed, it is the
+/// answer that their compressed products give.
 ///
 /// `Query` names a defect of the statement and its byte, one of ten. `Overflow` comes only where a number of the answer
 /// leaves 128 bits. `Limit` never comes.
-pub fn answer(
+pub fn answer<R: Threads + Sync, G: Gate + Sync>(
+    rt: &R,
     alloc: Global,
     statement: &Statement,
     tables: &[(Word, Table)],
     options: Options,
+    gate: G,
 ) -> Result<Answer, EngineFault>
-    requires { WholeQuery (statement_tree statement.now) }
+    requires whole { WholeQuery (statement_tree statement.now) }
+    requires workers { (1 ≤ options.workers) × (options.workers ≤ 64) }
+    requires compression { IsCompression options.compress }
     ensures typed { OnOk result (statement_defects tables.now (statement_tree statement.now) ≡ []) }
     ensures names { IfOk result (λ a. a.names.items ≡ answer_names tables.now (statement_tree statement.now)) }
     ensures kinds { IfOk result (λ a. a.kinds.items ≡ answer_kinds tables.now (statement_tree statement.now)) }
-    ensures rows { IfOk result (λ a. a.rows ≡ answer_rows_of options.combine tables.now (statement_tree statement.now)) }
-    ensures relation { IfOk result (λ a. IsRelation a.kinds.items a.rows) }
+    ensures rows { IfOk result (λ a. a.rows ≡ asked_rows options.compress options.combine tables.now (statement_tree statement.now)) }
+    ensures relation { IfOk result (λ a. IsRelation (map data_kind a.kinds.items) a.rows) }
     ensures widths { IfOk result (λ a. AllByRecursion (λ r. length r.cells ≡ length a.names.items) a.rows) }
     ensures holds { IfOk result (λ a. RowsHold tables.now (statement_tree statement.now) a.rows) }
-    ensures refused { IfErr result (AnswerCause (statement_defects tables.now (statement_tree statement.now)) (answer_fits options.combine tables.now (statement_tree statement.now))) }
-{
-    answer_by(alloc, statement, tables, options, Road::Plans)
-}
-
-/// The same answer, by the generic evaluator. `Overflow` comes exactly where a number of the answer leaves 128 bits.
-pub fn answer_directly(
-    alloc: Global,
-    statement: &Statement,
-    tables: &[(Word, Table)],
-    options: Options,
-) -> Result<Answer, EngineFault>
-    requires { WholeQuery (statement_tree statement.now) }
-    ensures typed { OnOk result (statement_defects tables.now (statement_tree statement.now) ≡ []) }
-    ensures names { IfOk result (λ a. a.names.items ≡ answer_names tables.now (statement_tree statement.now)) }
-    ensures kinds { IfOk result (λ a. a.kinds.items ≡ answer_kinds tables.now (statement_tree statement.now)) }
-    ensures rows { IfOk result (λ a. a.rows ≡ answer_rows_of options.combine tables.now (statement_tree statement.now)) }
-    ensures relation { IfOk result (λ a. IsRelation a.kinds.items a.rows) }
-    ensures widths { IfOk result (λ a. AllByRecursion (λ r. length r.cells ≡ length a.names.items) a.rows) }
-    ensures holds { IfOk result (λ a. RowsHold tables.now (statement_tree statement.now) a.rows) }
-    ensures fits { OnOk result (answer_fits options.combine tables.now (statement_tree statement.now) ≡ true) }
-    ensures refused { IfErr result (AnswerCause (statement_defects tables.now (statement_tree statement.now)) (answer_fits options.combine tables.now (statement_tree statement.now))) }
-{
-    answer_by(alloc, statement, tables, options, Road::Direct)
-}
-
-// The answer by either road. By plans there may be one where a number that the definitions name leaves 128 bits.
-fn answer_by(
-    alloc: Global,
-    statement: &Statement,
-    tables: &[(Word, Table)],
-    options: Options,
-    road: Road,
-) -> Result<Answer, EngineFault>
-    requires { WholeQuery (statement_tree statement.now) }
-    ensures typed { OnOk result (statement_defects tables.now (statement_tree statement.now) ≡ []) }
-    ensures names { IfOk result (λ a. a.names.items ≡ answer_names tables.now (statement_tree statement.now)) }
-    ensures kinds { IfOk result (λ a. a.kinds.items ≡ answer_kinds tables.now (statement_tree statement.now)) }
-    ensures rows { IfOk result (λ a. a.rows ≡ answer_rows_of options.combine tables.now (statement_tree statement.now)) }
-    ensures relation { IfOk result (λ a. IsRelation a.kinds.items a.rows) }
-    ensures widths { IfOk result (λ a. AllByRecursion (λ r. length r.cells ≡ length a.names.items) a.rows) }
-    ensures holds { IfOk result (λ a. RowsHold tables.now (statement_tree statement.now) a.rows) }
-    ensures fits { road ≡ Road.Direct → OnOk result (answer_fits options.combine tables.now (statement_tree statement.now) ≡ true) }
-    ensures refused { IfErr result (AnswerCause (statement_defects tables.now (statement_tree statement.now)) (answer_fits options.combine tables.now (statement_tree statement.now))) }
+    ensures refused { IfErr result (AnswerCause (statement_defects tables.now (statement_tree statement.now)) (asked_fits options.compress options.combine tables.now (statement_tree statement.now))) }
 {
     let typed = match resolved(alloc, statement, tables) {
         Ok(typed) => typed,
         Err(fault) => return Err(fault),
     };
-    match typed_answer(alloc, typed, tables, options, road) {
+    let runner = Runner::new(rt, options.workers, gate);
+    let rows = planned_rows(&runner, alloc, &typed.query, tables, options);
+    match told(typed, rows) {
         Ok(answer) => Ok(answer),
         Err(fault) => Err(fault),
     }
 }
 
-// The answer of a typed tree.
-fn typed_answer(
+/// The bounded answer, by the generic evaluator: its rows are combined where that is asked for. `Overflow` comes exactly
+/// where a number of the answer leaves 128 bits.
+pub fn answer_directly(
     alloc: Global,
-    typed: Typed,
+    statement: &Statement,
     tables: &[(Word, Table)],
-    options: Options,
-    road: Road,
+    combine: bool,
 ) -> Result<Answer, EngineFault>
-    requires { kinds_of (map column_kinds (blocks_of tables.now)) (tree typed.query) ≡ Some typed.kinds.items }
+    requires { WholeQuery (statement_tree statement.now) }
+    ensures typed { OnOk result (statement_defects tables.now (statement_tree statement.now) ≡ []) }
+    ensures names { IfOk result (λ a. a.names.items ≡ answer_names tables.now (statement_tree statement.now)) }
+    ensures kinds { IfOk result (λ a. a.kinds.items ≡ answer_kinds tables.now (statement_tree statement.now)) }
+    ensures rows { IfOk result (λ a. a.rows ≡ answer_rows_of combine tables.now (statement_tree statement.now)) }
+    ensures relation { IfOk result (λ a. IsRelation (map data_kind a.kinds.items) a.rows) }
+    ensures widths { IfOk result (λ a. AllByRecursion (λ r. length r.cells ≡ length a.names.items) a.rows) }
+    ensures holds { IfOk result (λ a. RowsHold tables.now (statement_tree statement.now) a.rows) }
+    ensures fits { OnOk result (answer_fits combine tables.now (statement_tree statement.now) ≡ true) }
+    ensures refused { IfErr result (AnswerCause (statement_defects tables.now (statement_tree statement.now)) (answer_fits combine tables.now (statement_tree statement.now))) }
+{
+    let typed = match resolved(alloc, statement, tables) {
+        Ok(typed) => typed,
+        Err(fault) => return Err(fault),
+    };
+    let rows = direct_rows(alloc, &typed.query, tables, combine);
+    match told(typed, rows) {
+        Ok(answer) => Ok(answer),
+        Err(fault) => Err(fault),
+    }
+}
+
+// What is answered of a typed tree with these rows.
+fn told(typed: Typed, rows: Result<Rel<Range, Triple>, EvalFault>) -> Result<Answer, EngineFault>
     ensures names { IfOk result (λ a. a.names.items ≡ typed.names.items) }
     ensures kinds { IfOk result (λ a. a.kinds.items ≡ typed.kinds.items) }
-    ensures rows { IfOk result (λ a. a.rows ≡ tree_answer options.combine tables.now (tree typed.query)) }
-    ensures fits { road ≡ Road.Direct → OnOk result (tree_fits options.combine tables.now (tree typed.query) ≡ true) }
-    ensures refused { IfErr result (RowsCause (tree_fits options.combine tables.now (tree typed.query))) }
+    ensures rows { IfOk result (λ a. rows ≡ Ok a.rows) }
+    ensures refused { (fit : Bool) → (rows ≡ Err EvalFault.Overflow → fit ≡ false) → IfErr result (RowsCause fit) }
 {
-    match answer_rows(alloc, &typed.query, tables, options, road) {
+    match rows {
         Ok(rows) => Ok(Answer {
             names: typed.names,
             kinds: typed.kinds,
@@ -141,37 +119,20 @@ fn typed_answer(
     }
 }
 
-// The rows of the answer, by either road.
-fn answer_rows(
+// The rows of the answer by the plans of the tree, in which rows are also combined where that is asked for.
+fn planned_rows<R: Threads + Sync, G: Gate + Sync>(
+    runner: &Runner<'_, R, G>,
     alloc: Global,
     query: &Query,
     tables: &[(Word, Table)],
     options: Options,
-    road: Road,
 ) -> Result<Rel<Range, Triple>, EvalFault>
-    requires { (ks : List Kind) × (kinds_of (map column_kinds (blocks_of tables.now)) (tree query.now) ≡ Some ks) }
-    ensures rows { IfOk result (λ r. r ≡ tree_answer options.combine tables.now (tree query.now)) }
-    ensures fits { road ≡ Road.Direct → OnOk result (tree_fits options.combine tables.now (tree query.now) ≡ true) }
-    ensures overflow { result ≡ Err EvalFault.Overflow → tree_fits options.combine tables.now (tree query.now) ≡ false }
+    requires typed { (ks : List Kind) × (kinds_of (map column_kinds (blocks_of tables.now)) (tree query.now) ≡ Some ks) }
+    requires compression { IsCompression options.compress }
+    ensures rows { IfOk result (λ r. r ≡ tree_asked options.compress options.combine tables.now (tree query.now)) }
+    ensures overflow { result ≡ Err EvalFault.Overflow → tree_asked_fits options.compress options.combine tables.now (tree query.now) ≡ false }
 {
-    match road {
-        Road::Plans => planned_rows(alloc, query, tables, options.combine),
-        Road::Direct => direct_rows(alloc, query, tables, options.combine),
-    }
-}
-
-// The rows of the answer by the plans of the tree, in which rows are also combined where that is asked for.
-fn planned_rows(
-    alloc: Global,
-    query: &Query,
-    tables: &[(Word, Table)],
-    combined: bool,
-) -> Result<Rel<Range, Triple>, EvalFault>
-    requires { (ks : List Kind) × (kinds_of (map column_kinds (blocks_of tables.now)) (tree query.now) ≡ Some ks) }
-    ensures rows { IfOk result (λ r. r ≡ tree_answer combined tables.now (tree query.now)) }
-    ensures overflow { result ≡ Err EvalFault.Overflow → tree_fits combined tables.now (tree query.now) ≡ false }
-{
-    let rows = match evaluated_by_plan(alloc, query, tables, combined) {
+    let rows = match evaluated_by_plan(runner, alloc, query, tables, options) {
         Ok(rows) => rows,
         Err(fault) => return Err(fault),
     };

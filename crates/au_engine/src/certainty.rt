@@ -3,6 +3,7 @@ ghost use Rattle.std.specs.Prelude.{◌≡◌, [], ℕ, List, true, false, None,
 ghost use Rattle.std.specs.List.{AllByRecursion};
 ghost use Rattle.au_algebra.specs.Positive.{is_positive};
 ghost use Rattle.au_algebra.specs.Trees.{tree};
+ghost use Rattle.au_value.specs.Order.{data_kind};
 ghost use Rattle.au_algebra.specs.Typing.{kinds_of};
 ghost use Rattle.au_blocks.specs.Tables.{column_kinds};
 ghost use Rattle.au_blocks.specs.declared.column.Column.{Column};
@@ -77,7 +78,7 @@ fn ua_rows(
     typed: &Typed,
     tables: &[(Word, Table)],
 ) -> Result<Rel<Value, Pair>, EvalFault>
-    requires typed { kinds_of (map column_kinds (blocks_of tables.now)) (tree typed.now.query) ≡ Some typed.now.kinds.items }
+    requires typed { kinds_of (map column_kinds (blocks_of tables.now)) (tree typed.now.query) ≡ Some (map data_kind typed.now.kinds.items) }
     requires positive { is_positive (tree typed.now.query) ≡ true }
     ensures rows { IfOk result (λ r. r ≡ tree_ua_rows tables.now (tree typed.now.query)) }
     ensures widths { IfOk result (λ r. (names : List (List ℕ)) (columns : List Column) → names ≡ map (λ c. c.name) columns → typed.now.kinds.items ≡ map (λ c. c.kind) columns → AllByRecursion (λ row. length row.cells ≡ length names) r) }

@@ -4,12 +4,13 @@ ghost use Rattle.std.specs.List.{AllByRecursion};
 ghost use Rattle.au_algebra.specs.Counted.{StandsFor};
 ghost use Rattle.au_algebra.specs.Ordinary.{answer};
 ghost use Rattle.au_algebra.specs.Trees.{tree};
+ghost use Rattle.au_value.specs.Order.{data_kind};
 ghost use Rattle.au_algebra.specs.Typing.{kinds_of};
 ghost use Rattle.au_blocks.specs.Tables.{column_kinds};
 ghost use Rattle.au_blocks.specs.declared.column.Column.{Column};
 ghost use Rattle.au_parse.specs.Views.{statement_tree};
 ghost use Rattle.au_parse.specs.Whole.{WholeQuery};
-ghost use Rattle.au_engine.specs.Answers.{AnswerCause, answer_names, blocks_of, guess_answer as guess_answer_of, guess_answer_fits, guess_tables, statement_defects, tree_guess_fits};
+ghost use Rattle.au_engine.specs.Answers.{AnswerCause, answer_kinds, answer_names, blocks_of, guess_answer as guess_answer_of, guess_answer_fits, guess_tables, statement_defects, tree_guess_fits};
 
 use crate::faults::EngineFault;
 use crate::tables::guessed_tables;
@@ -21,14 +22,15 @@ use au_expr::EvalFault;
 use au_kfull::ordinary;
 use au_parse::Statement;
 use au_typing::Typed;
-use au_value::{NoMemory, Value, Word};
+use au_value::{Kind, NoMemory, Value, Word};
 use std::alloc::Global;
 
-/// The answer over the guess world: a name for each column, and rows that have one value per column, with counts. Equal
-/// rows stand for one row.
+/// The answer over the guess world: a name and a kind for each column, and rows that have one value per column, with
+/// counts. Equal rows stand for one row.
 #[derive(Drop)]
 pub struct GuessAnswer {
     pub names: Vec<Word>,
+    pub kinds: Vec<Kind>,
     pub rows: Rel<Value, Count>,
 }
 
@@ -44,6 +46,7 @@ pub fn guess_answer(
     requires { WholeQuery (statement_tree statement.now) }
     ensures typed { OnOk result (statement_defects tables.now (statement_tree statement.now) ≡ []) }
     ensures names { IfOk result (λ a. a.names.items ≡ answer_names tables.now (statement_tree statement.now)) }
+    ensures kinds { IfOk result (λ a. a.kinds.items ≡ answer_kinds tables.now (statement_tree statement.now)) }
     ensures rows { IfOk result (λ a. StandsFor a.rows (guess_answer_of tables.now (statement_tree statement.now))) }
     ensures widths { IfOk result (λ a. AllByRecursion (λ r. length r.cells ≡ length a.names.items) a.rows) }
     ensures fits { OnOk result (guess_answer_fits tables.now (statement_tree statement.now) ≡ true) }
@@ -56,6 +59,7 @@ pub fn guess_answer(
     match guess_rows(alloc, &typed, tables) {
         Ok(rows) => Ok(GuessAnswer {
             names: typed.names,
+            kinds: typed.kinds,
             rows,
         }),
         Err(EvalFault::Overflow) => Err(EngineFault::Overflow),
@@ -69,7 +73,7 @@ fn guess_rows(
     typed: &Typed,
     tables: &[(Word, Table)],
 ) -> Result<Rel<Value, Count>, EvalFault>
-    requires { kinds_of (map column_kinds (blocks_of tables.now)) (tree typed.now.query) ≡ Some typed.now.kinds.items }
+    requires { kinds_of (map column_kinds (blocks_of tables.now)) (tree typed.now.query) ≡ Some (map data_kind typed.now.kinds.items) }
     ensures rows { IfOk result (λ r. StandsFor r (answer (tree typed.now.query) (guess_tables tables.now))) }
     ensures widths { IfOk result (λ r. (names : List (List ℕ)) (columns : List Column) → names ≡ map (λ c. c.name) columns → typed.now.kinds.items ≡ map (λ c. c.kind) columns → AllByRecursion (λ row. length row.cells ≡ length names) r) }
     ensures fits { OnOk result (tree_guess_fits tables.now (tree typed.now.query) ≡ true) }

@@ -3,11 +3,12 @@
 //! [`read_query`] reads the text, and [`answer`] gives the answer with its names and kinds: the typed tree becomes plain
 //! plans, which are run stage by stage over the encoded rows of the tables, and the rows of the last are decoded and
 //! shown. [`answer_directly`] gives the same rows by the generic evaluator, [`guess_answer`] those of the guess world, and
-//! [`ua_answer`] these with how often each is certain. docs/ARCHITECTURE.md shows the road.
+//! [`ua_answer`] these with how often each is certain. [`rewritten`] gives the one plan of a whole tree, which another
+//! engine may run. docs/ARCHITECTURE.md shows the road.
 //!
 //! ```text
 //! let statement = read_query(alloc, "SELECT city FROM orders")?;
-//! let options = Options { combine: false };
+//! let options = Options { combine: false, compress: None };
 //! let answer = answer(alloc, &statement, tables.as_slice(), options)?;
 //! ```
 //!
@@ -16,10 +17,14 @@
 
 mod answering;
 mod certainty;
+mod compressing;
 mod encoded;
 mod faults;
 mod guessing;
+mod options;
 mod reading;
+mod rewriting;
+mod runner;
 mod running;
 mod stage;
 mod staged;
@@ -27,8 +32,10 @@ mod steps;
 mod tables;
 mod typing;
 
-pub use answering::{Options, answer, answer_directly};
+pub use answering::{answer, answer_directly};
 pub use certainty::{UaAnswer, ua_answer};
 pub use faults::{EngineFault, LimitFault, QueryFault};
 pub use guessing::{GuessAnswer, guess_answer};
+pub use options::Options;
 pub use reading::read_query;
+pub use rewriting::rewritten;

@@ -1,4 +1,4 @@
-//! The rows of a bounded answer by its plans, which are run over the encoded rows of the tables.
+//! The rows of an answer by its plans, which are run over the encoded rows of the tables.
 ghost use Rattle.std.specs.Prelude.{◌≡◌, Bool, IfOk, false, map};
 ghost use Rattle.au_algebra.specs.Bounded.{normal as normal_of};
 ghost use Rattle.au_algebra.specs.Trees.{tree};
@@ -6,20 +6,24 @@ ghost use Rattle.au_algebra.specs.Typing.{IsTyped};
 ghost use Rattle.au_blocks.specs.Tables.{column_kinds};
 ghost use Rattle.au_plain.specs.Plans.{plan_tree};
 ghost use Rattle.au_exec.specs.Outcomes.{rows_of};
-ghost use Rattle.au_engine.specs.Answers.{blocks_of, tree_answer, tree_fits};
+ghost use Rattle.au_engine.specs.Answers.{blocks_of, tree_asked, tree_asked_fits};
+ghost use Rattle.au_engine.specs.Compressing.{IsCompression};
 ghost use Rattle.au_engine.specs.Stages.{AreRowsOf, Shows};
 
+use crate::options::Options;
+use crate::runner::Runner;
 use crate::stage::run;
 use crate::staged::staged;
 use crate::steps::{Planned, combined_of};
 use au_algebra::{Query, Rel};
 use au_annot::Triple;
 use au_blocks::Table;
-use au_encode::decode;
 use au_expr::EvalFault;
+use au_par::Gate;
 use au_plain::PRow;
 use au_value::{NoMemory, Range, Word};
 use std::alloc::Global;
+use std::thread::Threads;
 
 // The plan of what is shown: combined rows where that is asked for.
 fn shown(alloc: Global, of: Planned, combined: bool) -> Result<Planned, NoMemory>
@@ -34,27 +38,29 @@ fn shown(alloc: Global, of: Planned, combined: bool) -> Result<Planned, NoMemory
 }
 
 // The encoded rows of what is shown of the tree's relation, up to order, and how many columns they encode.
-fn encoded_rows(
+fn encoded_rows<R: Threads + Sync, G: Gate + Sync>(
+    runner: &Runner<'_, R, G>,
     alloc: Global,
     query: &Query,
     tables: &[(Word, Table)],
-    combined: bool,
+    options: Options,
 ) -> Result<(Vec<PRow>, usize), EvalFault>
-    requires { IsTyped (map column_kinds (blocks_of tables.now)) (tree query.now) }
-    ensures rows { IfOk result (λ r. AreRowsOf combined (blocks_of tables.now) (tree query.now) r.1 (rows_of r.0)) }
-    ensures overflow { result ≡ Err EvalFault.Overflow → tree_fits combined tables.now (tree query.now) ≡ false }
+    requires typed { IsTyped (map column_kinds (blocks_of tables.now)) (tree query.now) }
+    requires compression { IsCompression options.compress }
+    ensures rows { IfOk result (λ r. AreRowsOf options.compress options.combine (blocks_of tables.now) (tree query.now) r.1 (rows_of r.0)) }
+    ensures overflow { result ≡ Err EvalFault.Overflow → tree_asked_fits options.compress options.combine tables.now (tree query.now) ≡ false }
 {
     let mut held = Vec::new(alloc);
-    let planned = match staged(alloc, query, tables, &mut held) {
+    let planned = match staged(runner, alloc, query, tables, options.compress, &mut held) {
         Ok(planned) => planned,
         Err(fault) => return Err(fault),
     };
-    let planned = match shown(alloc, planned, combined) {
+    let planned = match shown(alloc, planned, options.combine) {
         Ok(planned) => planned,
         Err(NoMemory) => return Err(EvalFault::NoMemory),
     };
     let columns = planned.layout.columns;
-    match run(alloc, planned, held) {
+    match run(runner, alloc, planned, held) {
         Ok(rows) => Ok((rows, columns)),
         Err(fault) => Err(fault),
     }
@@ -63,21 +69,23 @@ fn encoded_rows(
 /// The relation that is shown of a tree that is typed for the tables, in some order, by its plans.
 ///
 /// `Overflow` comes only where a number of the answer leaves 128 bits.
-pub(crate) fn evaluated_by_plan(
+pub(crate) fn evaluated_by_plan<R: Threads + Sync, G: Gate + Sync>(
+    runner: &Runner<'_, R, G>,
     alloc: Global,
     query: &Query,
     tables: &[(Word, Table)],
-    combined: bool,
+    options: Options,
 ) -> Result<Rel<Range, Triple>, EvalFault>
-    requires { IsTyped (map column_kinds (blocks_of tables.now)) (tree query.now) }
-    ensures rows { IfOk result (λ r. normal_of r ≡ tree_answer combined tables.now (tree query.now)) }
-    ensures overflow { result ≡ Err EvalFault.Overflow → tree_fits combined tables.now (tree query.now) ≡ false }
+    requires typed { IsTyped (map column_kinds (blocks_of tables.now)) (tree query.now) }
+    requires compression { IsCompression options.compress }
+    ensures rows { IfOk result (λ r. normal_of r ≡ tree_asked options.compress options.combine tables.now (tree query.now)) }
+    ensures overflow { result ≡ Err EvalFault.Overflow → tree_asked_fits options.compress options.combine tables.now (tree query.now) ≡ false }
 {
-    let (rows, columns) = match encoded_rows(alloc, query, tables, combined) {
+    let (rows, columns) = match encoded_rows(runner, alloc, query, tables, options) {
         Ok(found) => found,
         Err(fault) => return Err(fault),
     };
-    match decode(alloc, rows, columns) {
+    match runner.decoded(alloc, rows, columns) {
         Ok(relation) => Ok(relation),
         Err(NoMemory) => Err(EvalFault::NoMemory),
     }

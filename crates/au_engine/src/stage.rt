@@ -4,24 +4,27 @@ ghost use Rattle.au_plain.specs.Plans.{Scan, plan_tree};
 ghost use Rattle.au_exec.specs.Outcomes.{rows_of};
 ghost use Rattle.au_engine.specs.Stages.{CanRun, Finds, LeavesRange, LeavesRangeCombined, Materializes, MaterializesCombined};
 
+use crate::runner::Runner;
 use crate::steps::{Planned, combined_of};
-use au_exec::Run;
 use au_expr::EvalFault;
+use au_par::Gate;
 use au_plain::{Layout, PRow, Plan};
 use au_plan::improve;
 use au_rwexpr::width_of;
 use au_value::NoMemory;
 use std::alloc::Global;
+use std::thread::Threads;
 
 /// The rows of a plan over its tables, which are let go.
 ///
 /// `Overflow` comes only where a number of what the plan gives leaves 128 bits.
-pub(crate) fn run(
+pub(crate) fn run<R: Threads + Sync, G: Gate + Sync>(
+    runner: &Runner<'_, R, G>,
     alloc: Global,
     planned: Planned,
     tables: Vec<Vec<PRow>>,
 ) -> Result<Vec<PRow>, EvalFault>
-    requires { CanRun (map rows_of tables.items) (plan_tree planned.plan) planned.layout.columns }
+    requires runs { CanRun (map rows_of tables.items) (plan_tree planned.plan) planned.layout.columns }
     ensures rows { IfOk result (λ found. Finds (map rows_of tables.items) (plan_tree planned.plan) planned.layout.columns (rows_of found)) }
     ensures overflow { result ≡ Err EvalFault.Overflow → LeavesRange (map rows_of tables.items) (plan_tree planned.plan) planned.layout.columns }
 {
@@ -29,11 +32,7 @@ pub(crate) fn run(
         Ok(plan) => plan,
         Err(NoMemory) => return Err(EvalFault::NoMemory),
     };
-    let run = match Run::start(alloc, plan, tables) {
-        Ok(run) => run,
-        Err(NoMemory) => return Err(EvalFault::NoMemory),
-    };
-    match run.all() {
+    match runner.all(alloc, plan, tables) {
         Ok(rows) => Ok(rows),
         Err(fault) => Err(fault),
     }
@@ -63,19 +62,20 @@ pub(crate) fn put(
 /// Runs a plan over tables of its own, puts its rows behind other tables, and gives their Scan.
 ///
 /// `Overflow` comes only where a number of what the plan gives leaves 128 bits.
-pub(crate) fn materialized(
+pub(crate) fn materialized<R: Threads + Sync, G: Gate + Sync>(
+    runner: &Runner<'_, R, G>,
     alloc: Global,
     planned: Planned,
     own: Vec<Vec<PRow>>,
     tables: &mut Vec<Vec<PRow>>,
 ) -> Result<Planned, EvalFault>
-    requires { CanRun (map rows_of own.items) (plan_tree planned.plan) planned.layout.columns }
+    requires runs { CanRun (map rows_of own.items) (plan_tree planned.plan) planned.layout.columns }
     ensures columns { IfOk result (λ p. p.layout.columns ≡ planned.layout.columns) }
     ensures plan { IfOk result (λ p. Materializes (map rows_of own.items) (plan_tree planned.plan) planned.layout.columns (map rows_of tables.old.items) (map rows_of tables.new.items) (plan_tree p.plan) p.layout.columns) }
     ensures overflow { result ≡ Err EvalFault.Overflow → LeavesRange (map rows_of own.items) (plan_tree planned.plan) planned.layout.columns }
 {
     let columns = planned.layout.columns;
-    let rows = match run(alloc, planned, own) {
+    let rows = match run(runner, alloc, planned, own) {
         Ok(rows) => rows,
         Err(fault) => return Err(fault),
     };
@@ -86,13 +86,14 @@ pub(crate) fn materialized(
 }
 
 /// The same of the combined rows.
-pub(crate) fn materialized_combined(
+pub(crate) fn materialized_combined<R: Threads + Sync, G: Gate + Sync>(
+    runner: &Runner<'_, R, G>,
     alloc: Global,
     planned: Planned,
     own: Vec<Vec<PRow>>,
     tables: &mut Vec<Vec<PRow>>,
 ) -> Result<Planned, EvalFault>
-    requires { CanRun (map rows_of own.items) (plan_tree planned.plan) planned.layout.columns }
+    requires runs { CanRun (map rows_of own.items) (plan_tree planned.plan) planned.layout.columns }
     ensures columns { IfOk result (λ p. p.layout.columns ≡ planned.layout.columns) }
     ensures plan { IfOk result (λ p. MaterializesCombined (map rows_of own.items) (plan_tree planned.plan) planned.layout.columns (map rows_of tables.old.items) (map rows_of tables.new.items) (plan_tree p.plan) p.layout.columns) }
     ensures overflow { result ≡ Err EvalFault.Overflow → LeavesRangeCombined (map rows_of own.items) (plan_tree planned.plan) planned.layout.columns }
@@ -101,7 +102,7 @@ pub(crate) fn materialized_combined(
         Ok(combined) => combined,
         Err(NoMemory) => return Err(EvalFault::NoMemory),
     };
-    match materialized(alloc, combined, own, tables) {
+    match materialized(runner, alloc, combined, own, tables) {
         Ok(scan) => Ok(scan),
         Err(fault) => Err(fault),
     }

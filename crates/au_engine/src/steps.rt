@@ -1,9 +1,9 @@
 //! Each operator of a tree as a step of its plan.
 //!
 //! Each step gives `NoMemory` also where a row cannot have so many columns.
-ghost use Rattle.std.specs.Prelude.{◌≡◌, ◌+◌, IfOk, length, map};
+ghost use Rattle.std.specs.Prelude.{◌≡◌, ◌+◌, ◌*◌, IfOk, length, map};
 ghost use Rattle.au_expr.specs.Terms.{term};
-ghost use Rattle.au_plain.specs.Plans.{plan_tree};
+ghost use Rattle.au_plain.specs.Plans.{Scan, plan_tree};
 ghost use Rattle.au_rwcore.specs.Gives.{Multiplies, Projects, Selects, Unites};
 ghost use Rattle.au_combine.specs.Gives.{Combines};
 ghost use Rattle.au_rwdiff.specs.Gives.{Subtracts};
@@ -15,6 +15,7 @@ use au_expr::Expr;
 use au_plain::{Layout, Plan};
 use au_rwcore::{product, project, select, union};
 use au_rwdiff::difference;
+use au_rwexpr::width_of;
 use au_rwgroup::{distinct, group, total};
 use au_value::NoMemory;
 use std::alloc::Global;
@@ -24,6 +25,18 @@ use std::alloc::Global;
 pub(crate) struct Planned {
     pub(crate) plan: Plan,
     pub(crate) layout: Layout,
+}
+
+/// The encoded rows of a table, each of so many columns.
+pub(crate) fn scan(table: usize, columns: usize) -> Result<Planned, NoMemory>
+    ensures columns { IfOk result (λ p. p.layout.columns ≡ columns) }
+    ensures plan { IfOk result (λ p. plan_tree p.plan ≡ Scan table (3 * columns + 3)) }
+{
+    let layout = Layout { columns };
+    Ok(Planned {
+        plan: Plan::Scan(table, width_of(&layout)?),
+        layout,
+    })
 }
 
 /// The rows for which a condition is possible.

@@ -55,7 +55,7 @@ pub(crate) fn bounded_tables(
     Ok(relations)
 }
 
-/// The tables' rows in the guess world, each with count 1.
+/// The tables' rows in the guess world, each with its number of copies.
 pub(crate) fn guessed_tables(
     alloc: Global,
     tables: &[(Word, Table)],

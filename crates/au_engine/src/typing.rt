@@ -2,6 +2,7 @@
 ghost use Rattle.std.specs.Prelude.{◌≡◌, ◌⊎◌, [], Some, IfOk, IfErr, OnOk, map};
 ghost use Rattle.std.specs.List.{AllByRecursion};
 ghost use Rattle.au_algebra.specs.Trees.{tree};
+ghost use Rattle.au_value.specs.Order.{data_kind};
 ghost use Rattle.au_algebra.specs.Typing.{kinds_of};
 ghost use Rattle.au_blocks.specs.Tables.{IsBlockTable, column_kinds};
 ghost use Rattle.au_parse.specs.Views.{statement_tree};
@@ -27,7 +28,7 @@ pub(crate) fn resolved(
     ensures query { IfOk result (λ t. tree t.query ≡ answer_tree tables.now (statement_tree statement.now)) }
     ensures names { IfOk result (λ t. t.names.items ≡ answer_names tables.now (statement_tree statement.now)) }
     ensures kinds { IfOk result (λ t. t.kinds.items ≡ answer_kinds tables.now (statement_tree statement.now)) }
-    ensures tree_kinds { IfOk result (λ t. kinds_of (map column_kinds (blocks_of tables.now)) (tree t.query) ≡ Some t.kinds.items) }
+    ensures tree_kinds { IfOk result (λ t. kinds_of (map column_kinds (blocks_of tables.now)) (tree t.query) ≡ Some (map data_kind t.kinds.items)) }
     ensures tables { OnOk result (AllByRecursion IsBlockTable (blocks_of tables.now)) }
     ensures refused { IfErr result (λ f. (f ≡ EngineFault.NoMemory) ⊎ IsDefect (statement_defects tables.now (statement_tree statement.now)) f) }
 {

@@ -1,3 +1,4 @@
+mod AnswerColumns
 mod Columns
 mod Held
 mod Probed

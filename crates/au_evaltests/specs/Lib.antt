@@ -1,2 +1,4 @@
 pub mod Intervals
 pub mod Typed
+pub mod SumLaws
+pub mod Summed

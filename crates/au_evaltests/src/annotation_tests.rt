@@ -6,6 +6,7 @@ use au_value::Overflow;
 use std::alloc::{AllocError, Global};
 use std::process::Abort;
 use std::test::Fail;
+use std::thread::Threads;
 
 // An annotation that is written as its counts, between `/`.
 trait Written: Annot {
@@ -96,7 +97,11 @@ fn calculated<A: Written>(rt: &impl Abort, alloc: Global, text: &str) -> Result<
 struct Counts;
 
 impl Call for Counts {
-    fn outcome(rt: &impl Abort, alloc: Global, given: &str) -> Result<String, Fail> {
+    fn outcome(
+        rt: &(impl Abort + Threads + Sync),
+        alloc: Global,
+        given: &str,
+    ) -> Result<String, Fail> {
         calculated::<Count>(rt, alloc, given)
     }
 }
@@ -104,7 +109,11 @@ impl Call for Counts {
 struct Triples;
 
 impl Call for Triples {
-    fn outcome(rt: &impl Abort, alloc: Global, given: &str) -> Result<String, Fail> {
+    fn outcome(
+        rt: &(impl Abort + Threads + Sync),
+        alloc: Global,
+        given: &str,
+    ) -> Result<String, Fail> {
         calculated::<Triple>(rt, alloc, given)
     }
 }
@@ -112,7 +121,11 @@ impl Call for Triples {
 struct Pairs;
 
 impl Call for Pairs {
-    fn outcome(rt: &impl Abort, alloc: Global, given: &str) -> Result<String, Fail> {
+    fn outcome(
+        rt: &(impl Abort + Threads + Sync),
+        alloc: Global,
+        given: &str,
+    ) -> Result<String, Fail> {
         calculated::<Pair>(rt, alloc, given)
     }
 }

@@ -15,11 +15,16 @@ use au_value::{NoMemory, Range};
 use std::alloc::{AllocError, Global};
 use std::process::Abort;
 use std::test::Fail;
+use std::thread::Threads;
 
 struct Normal;
 
 impl Call for Normal {
-    fn outcome(rt: &impl Abort, alloc: Global, given: &str) -> Result<String, Fail> {
+    fn outcome(
+        rt: &(impl Abort + Threads + Sync),
+        alloc: Global,
+        given: &str,
+    ) -> Result<String, Fail> {
         let rel = relation(rt, alloc, 1, given)?;
         outcome_text(alloc, &normal(alloc, rel))
     }
@@ -29,7 +34,11 @@ impl Call for Normal {
 struct Lines;
 
 impl Call for Lines {
-    fn outcome(rt: &impl Abort, alloc: Global, given: &str) -> Result<String, Fail> {
+    fn outcome(
+        rt: &(impl Abort + Threads + Sync),
+        alloc: Global,
+        given: &str,
+    ) -> Result<String, Fail> {
         let rel = relation(rt, alloc, 1, given)?;
         match demo_text(alloc, &rel) {
             Ok(lines) => {
@@ -61,7 +70,11 @@ fn again(alloc: Global, of: &Rel<Range, Triple>) -> Result<Rel<Range, Triple>, N
 struct Encoded;
 
 impl Call for Encoded {
-    fn outcome(rt: &impl Abort, alloc: Global, given: &str) -> Result<String, Fail> {
+    fn outcome(
+        rt: &(impl Abort + Threads + Sync),
+        alloc: Global,
+        given: &str,
+    ) -> Result<String, Fail> {
         let rel = relation(rt, alloc, 2, given)?;
         let rows = rows_text(alloc, encode(alloc, &rel)?.as_slice())?;
         let back = relation_text(alloc, &again(alloc, &rel)?)?;

@@ -11,6 +11,7 @@ use std::marker::Brand;
 use std::process::Abort;
 use std::sync::ledger::{Blank, Ledger};
 use std::test::Fail;
+use std::thread::Threads;
 
 // From 1 to 5, from 3 to 3, and from 7 to 9.
 fn intervals(alloc: Global) -> Result<Vec<(Value, Value, usize)>, NoMemory>
@@ -53,7 +54,11 @@ fn met(alloc: Global, lo: i128, hi: i128) -> Result<(Vec<usize>, usize), NoMemor
 struct Probed;
 
 impl Call for Probed {
-    fn outcome(rt: &impl Abort, alloc: Global, given: &str) -> Result<String, Fail> {
+    fn outcome(
+        rt: &(impl Abort + Threads + Sync),
+        alloc: Global,
+        given: &str,
+    ) -> Result<String, Fail> {
         let (lo, hi) = given.split_once(' ').ok_or("two ends")?;
         let places = met(alloc, number(rt, lo), number(rt, hi))?;
         Ok(format!(in alloc; "{places:?}")?)

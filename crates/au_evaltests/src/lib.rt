@@ -1,4 +1,4 @@
-//! Tests of evaluation: of annotations, operators, plans, indexes and whole queries.
+//! Tests of evaluation: of annotations, operators, plans, indexes, pieces of work and whole queries.
 //!
 //! It has no code of its own. A test is a table of cases, `GIVEN -> WANTED` on a line each. A row of a relation is written
 //! as its ranges, each `lower end/guess/upper end` or one value where it is certain, and least, guess and most of its
@@ -15,9 +15,19 @@
 #[cfg(test)]
 mod annotation_tests;
 #[cfg(test)]
+mod board_tests;
+#[cfg(test)]
 mod cases;
 #[cfg(test)]
+mod compress_tests;
+#[cfg(test)]
+mod drawing_tests;
+#[cfg(test)]
 mod form_tests;
+#[cfg(test)]
+mod gates;
+#[cfg(test)]
+mod halving_tests;
 #[cfg(test)]
 mod index_tests;
 #[cfg(test)]
@@ -35,4 +45,8 @@ mod relations;
 #[cfg(test)]
 mod row_texts;
 #[cfg(test)]
+mod sum_tests;
+#[cfg(test)]
 mod ua_tests;
+#[cfg(test)]
+mod worker_tests;

@@ -14,11 +14,16 @@ use au_value::Range;
 use std::alloc::Global;
 use std::process::Abort;
 use std::test::Fail;
+use std::thread::Threads;
 
 struct Combined;
 
 impl Call for Combined {
-    fn outcome(rt: &impl Abort, alloc: Global, given: &str) -> Result<String, Fail> {
+    fn outcome(
+        rt: &(impl Abort + Threads + Sync),
+        alloc: Global,
+        given: &str,
+    ) -> Result<String, Fail> {
         let rel = relation(rt, alloc, 1, given)?;
         outcome_text(alloc, &combine(alloc, &rel))
     }
@@ -27,7 +32,11 @@ impl Call for Combined {
 struct Once;
 
 impl Call for Once {
-    fn outcome(rt: &impl Abort, alloc: Global, given: &str) -> Result<String, Fail> {
+    fn outcome(
+        rt: &(impl Abort + Threads + Sync),
+        alloc: Global,
+        given: &str,
+    ) -> Result<String, Fail> {
         let rel = relation(rt, alloc, 1, given)?;
         outcome_text(alloc, &distinct(alloc, &rel))
     }
@@ -36,7 +45,11 @@ impl Call for Once {
 struct Rest;
 
 impl Call for Rest {
-    fn outcome(rt: &impl Abort, alloc: Global, given: &str) -> Result<String, Fail> {
+    fn outcome(
+        rt: &(impl Abort + Threads + Sync),
+        alloc: Global,
+        given: &str,
+    ) -> Result<String, Fail> {
         let (left, right) = given.split_once('|').ok_or("two relations")?;
         let left = relation(rt, alloc, 1, left)?;
         let right = relation(rt, alloc, 1, right)?;
@@ -68,7 +81,11 @@ fn summed(alloc: Global, of: &Rel<Range, Triple>) -> Result<Rel<Range, Triple>, 
 struct Groups;
 
 impl Call for Groups {
-    fn outcome(rt: &impl Abort, alloc: Global, given: &str) -> Result<String, Fail> {
+    fn outcome(
+        rt: &(impl Abort + Threads + Sync),
+        alloc: Global,
+        given: &str,
+    ) -> Result<String, Fail> {
         let rel = relation(rt, alloc, 2, given)?;
         outcome_text(alloc, &grouped(alloc, &rel))
     }
@@ -77,7 +94,11 @@ impl Call for Groups {
 struct Leasts;
 
 impl Call for Leasts {
-    fn outcome(rt: &impl Abort, alloc: Global, given: &str) -> Result<String, Fail> {
+    fn outcome(
+        rt: &(impl Abort + Threads + Sync),
+        alloc: Global,
+        given: &str,
+    ) -> Result<String, Fail> {
         let rel = relation(rt, alloc, 2, given)?;
         outcome_text(alloc, &least_by_key(alloc, &rel))
     }
@@ -86,7 +107,11 @@ impl Call for Leasts {
 struct Total;
 
 impl Call for Total {
-    fn outcome(rt: &impl Abort, alloc: Global, given: &str) -> Result<String, Fail> {
+    fn outcome(
+        rt: &(impl Abort + Threads + Sync),
+        alloc: Global,
+        given: &str,
+    ) -> Result<String, Fail> {
         let rel = relation(rt, alloc, 1, given)?;
         outcome_text(alloc, &summed(alloc, &rel))
     }

@@ -11,6 +11,7 @@ use crate::plan_tests::{OPERATORS, TERMS, plain_text, tables, typed_plan};
 use crate::relations::number;
 use au_exec::{Batch, Run};
 use au_expr::EvalFault;
+use au_par::NoGate;
 use au_plain::{PRow, Plan};
 use au_plan::{Physical, improve};
 use au_sqltext::read_plan;
@@ -18,6 +19,7 @@ use au_value::NoMemory;
 use std::alloc::{AllocError, Global};
 use std::process::Abort;
 use std::test::Fail;
+use std::thread::Threads;
 
 // An operator, without its inputs.
 fn operator(alloc: Global, physical: &Physical) -> Result<String, AllocError> {
@@ -64,7 +66,11 @@ fn push_operators(alloc: Global, text: &mut String, physical: &Physical) -> Resu
 struct Chosen;
 
 impl Call for Chosen {
-    fn outcome(_rt: &impl Abort, alloc: Global, given: &str) -> Result<String, Fail> {
+    fn outcome(
+        _rt: &(impl Abort + Threads + Sync),
+        alloc: Global,
+        given: &str,
+    ) -> Result<String, Fail> {
         let chosen = improve(alloc, read_plan(alloc, given)?)?;
         let mut text = String::new(alloc);
         push_operators(alloc, &mut text, &chosen)?;
@@ -73,21 +79,26 @@ impl Call for Chosen {
 }
 
 // A run of the physical plan that stands for a plan.
-fn run_of(alloc: Global, plan: Plan, tables: Vec<Vec<PRow>>) -> Result<Run, EvalFault>
+fn run_of(alloc: Global, plan: Plan, tables: Vec<Vec<PRow>>) -> Result<Run<NoGate>, EvalFault>
     requires tables { AllZip HaveKinds (table_kinds ∷ []) (map rows_of tables.items) }
     requires plan { IsTyped (plan_tree plan) }
 {
     let physical = improve(alloc, plan)?;
-    let run = Run::start(alloc, physical, tables)?;
+    let run = Run::start(alloc, physical, tables, 1, NoGate)?;
     Ok(run)
 }
 
-fn all_rows(alloc: Global, plan: Plan, tables: Vec<Vec<PRow>>) -> Result<Vec<PRow>, EvalFault>
+fn all_rows(
+    rt: &(impl Threads + Sync),
+    alloc: Global,
+    plan: Plan,
+    tables: Vec<Vec<PRow>>,
+) -> Result<Vec<PRow>, EvalFault>
     requires tables { AllZip HaveKinds (table_kinds ∷ []) (map rows_of tables.items) }
     requires plan { IsTyped (plan_tree plan) }
 {
     let run = run_of(alloc, plan, tables)?;
-    run.all()
+    run.all(rt)
 }
 
 fn push_rows(rows: &mut Vec<PRow>, batch: Vec<PRow>) -> Result<(), NoMemory> {
@@ -98,10 +109,14 @@ fn push_rows(rows: &mut Vec<PRow>, batch: Vec<PRow>) -> Result<(), NoMemory> {
 }
 
 // All rows of a run, batch by batch.
-fn in_batches(alloc: Global, run: &mut Run) -> Result<Vec<PRow>, EvalFault> {
+fn in_batches(
+    rt: &(impl Threads + Sync),
+    alloc: Global,
+    run: &mut Run<NoGate>,
+) -> Result<Vec<PRow>, EvalFault> {
     let mut rows = Vec::new(alloc);
     for _ in 0..u64::MAX {
-        match run.next_batch()? {
+        match run.next_batch(rt)? {
             Some(batch) => push_rows(&mut rows, batch)?,
             None => return Ok(rows),
         }
@@ -109,32 +124,51 @@ fn in_batches(alloc: Global, run: &mut Run) -> Result<Vec<PRow>, EvalFault> {
     Ok(rows)
 }
 
-fn batched_rows(alloc: Global, plan: Plan, tables: Vec<Vec<PRow>>) -> Result<Vec<PRow>, EvalFault>
+fn batched_rows(
+    rt: &(impl Threads + Sync),
+    alloc: Global,
+    plan: Plan,
+    tables: Vec<Vec<PRow>>,
+) -> Result<Vec<PRow>, EvalFault>
     requires tables { AllZip HaveKinds (table_kinds ∷ []) (map rows_of tables.items) }
     requires plan { IsTyped (plan_tree plan) }
 {
     let mut run = run_of(alloc, plan, tables)?;
-    in_batches(alloc, &mut run)
+    in_batches(rt, alloc, &mut run)
 }
 
 // The rows of a plan over a table, by their texts.
-fn all_text(rt: &impl Abort, alloc: Global, text: &str, table: &str) -> Result<String, Fail> {
+fn all_text(
+    rt: &(impl Abort + Threads + Sync),
+    alloc: Global,
+    text: &str,
+    table: &str,
+) -> Result<String, Fail> {
     let tables = tables(rt, alloc, table)?;
     let plan = typed_plan(alloc, text)?;
-    Ok(plain_text(alloc, &all_rows(alloc, plan, tables))?)
+    Ok(plain_text(alloc, &all_rows(rt, alloc, plan, tables))?)
 }
 
 // The same, batch by batch.
-fn batched_text(rt: &impl Abort, alloc: Global, text: &str, table: &str) -> Result<String, Fail> {
+fn batched_text(
+    rt: &(impl Abort + Threads + Sync),
+    alloc: Global,
+    text: &str,
+    table: &str,
+) -> Result<String, Fail> {
     let tables = tables(rt, alloc, table)?;
     let plan = typed_plan(alloc, text)?;
-    Ok(plain_text(alloc, &batched_rows(alloc, plan, tables))?)
+    Ok(plain_text(alloc, &batched_rows(rt, alloc, plan, tables))?)
 }
 
 struct Ran;
 
 impl Call for Ran {
-    fn outcome(rt: &impl Abort, alloc: Global, given: &str) -> Result<String, Fail> {
+    fn outcome(
+        rt: &(impl Abort + Threads + Sync),
+        alloc: Global,
+        given: &str,
+    ) -> Result<String, Fail> {
         let (text, table) = given.split_once(" | ").ok_or("a table")?;
         all_text(rt, alloc, text, table)
     }
@@ -143,7 +177,11 @@ impl Call for Ran {
 struct Batched;
 
 impl Call for Batched {
-    fn outcome(rt: &impl Abort, alloc: Global, given: &str) -> Result<String, Fail> {
+    fn outcome(
+        rt: &(impl Abort + Threads + Sync),
+        alloc: Global,
+        given: &str,
+    ) -> Result<String, Fail> {
         let (text, table) = given.split_once(" | ").ok_or("a table")?;
         batched_text(rt, alloc, text, table)
     }
@@ -161,7 +199,7 @@ SELECT c0 AS c0, SUM(c1) AS c1 FROM (SELECT c0, c1 FROM t0) x GROUP BY c0 -> gro
 SELECT * FROM (VALUES (5, TRUE), (-3, FALSE)) x(c0, c1) -> rows";
 
 // Joins by equal columns, with what is left of the condition; by ranges that overlap; and of each pair.
-const JOINS: &str =
+pub(crate) const JOINS: &str =
     "SELECT x.c0 AS c0, x.c1 AS c1, x.c2 AS c2, y.c0 AS c3, y.c1 AS c4, y.c2 AS c5 FROM (SELECT c0, c1, c2 FROM t0) x, (SELECT c0, c1, c2 FROM t0) y WHERE (x.c0 = y.c0) |  -> 
 SELECT x.c0 AS c0, x.c1 AS c1, x.c2 AS c2, y.c0 AS c3, y.c1 AS c4, y.c2 AS c5 FROM (SELECT c0, c1, c2 FROM t0) x, (SELECT c0, c1, c2 FROM t0) y WHERE (x.c0 = y.c0) | 1 c true; 2 x true; 1 a true -> 1 c true 1 c true ; 1 c true 1 a true ; 2 x true 2 x true ; 1 a true 1 c true ; 1 a true 1 a true ; 
 SELECT x.c0 AS c0, x.c1 AS c1, x.c2 AS c2, y.c0 AS c3, y.c1 AS c4, y.c2 AS c5 FROM (SELECT c0, c1, c2 FROM t0) x, (SELECT * FROM (SELECT c0, c1, c2 FROM t0) x WHERE c2) y WHERE (x.c0 = y.c0) | 3 a false; 1 b true; 3 c false -> 1 b true 1 b true ; 
@@ -188,10 +226,14 @@ fn push_size(sizes: &mut Vec<usize>, batch: &Batch) -> Result<(), NoMemory> {
 }
 
 // How many rows each batch of a run has.
-fn sizes(alloc: Global, run: &mut Run) -> Result<Vec<usize>, EvalFault> {
+fn sizes(
+    rt: &(impl Threads + Sync),
+    alloc: Global,
+    run: &mut Run<NoGate>,
+) -> Result<Vec<usize>, EvalFault> {
     let mut sizes = Vec::new(alloc);
     for _ in 0..u64::MAX {
-        match run.next_batch()? {
+        match run.next_batch(rt)? {
             Some(batch) => push_size(&mut sizes, &batch)?,
             None => return Ok(sizes),
         }
@@ -199,12 +241,17 @@ fn sizes(alloc: Global, run: &mut Run) -> Result<Vec<usize>, EvalFault> {
     Ok(sizes)
 }
 
-fn batch_sizes(alloc: Global, plan: Plan, tables: Vec<Vec<PRow>>) -> Result<Vec<usize>, EvalFault>
+fn batch_sizes(
+    rt: &(impl Threads + Sync),
+    alloc: Global,
+    plan: Plan,
+    tables: Vec<Vec<PRow>>,
+) -> Result<Vec<usize>, EvalFault>
     requires tables { AllZip HaveKinds (table_kinds ∷ []) (map rows_of tables.items) }
     requires plan { IsTyped (plan_tree plan) }
 {
     let mut run = run_of(alloc, plan, tables)?;
-    sizes(alloc, &mut run)
+    sizes(rt, alloc, &mut run)
 }
 
 // So many rows, with the numbers from 0 on.
@@ -217,10 +264,15 @@ fn many_rows(alloc: Global, count: i128) -> Result<String, AllocError> {
 }
 
 // The sizes of a plan's batches over a table.
-fn sizes_text(rt: &impl Abort, alloc: Global, text: &str, table: &str) -> Result<String, Fail> {
+fn sizes_text(
+    rt: &(impl Abort + Threads + Sync),
+    alloc: Global,
+    text: &str,
+    table: &str,
+) -> Result<String, Fail> {
     let tables = tables(rt, alloc, table)?;
     let plan = typed_plan(alloc, text)?;
-    let sizes = batch_sizes(alloc, plan, tables);
+    let sizes = batch_sizes(rt, alloc, plan, tables);
     Ok(format!(in alloc; "{sizes:?}")?)
 }
 
@@ -228,7 +280,11 @@ fn sizes_text(rt: &impl Abort, alloc: Global, text: &str, table: &str) -> Result
 struct Counted;
 
 impl Call for Counted {
-    fn outcome(rt: &impl Abort, alloc: Global, given: &str) -> Result<String, Fail> {
+    fn outcome(
+        rt: &(impl Abort + Threads + Sync),
+        alloc: Global,
+        given: &str,
+    ) -> Result<String, Fail> {
         let (text, count) = given.split_once(" | ").ok_or("a count")?;
         let table = many_rows(alloc, number(rt, count))?;
         let sizes = sizes_text(rt, alloc, text, &table)?;

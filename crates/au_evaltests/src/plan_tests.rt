@@ -17,6 +17,7 @@ use au_value::{Kind, NoMemory, Value, Word};
 use std::alloc::{AllocError, Global};
 use std::process::Abort;
 use std::test::Fail;
+use std::thread::Threads;
 
 // The row of a text such as `7 north true`.
 fn row(rt: &impl Abort, alloc: Global, text: &str) -> Result<PRow, NoMemory>
@@ -107,7 +108,11 @@ pub(crate) fn plain_text(
 struct Written;
 
 impl Call for Written {
-    fn outcome(_rt: &impl Abort, alloc: Global, given: &str) -> Result<String, Fail> {
+    fn outcome(
+        _rt: &(impl Abort + Threads + Sync),
+        alloc: Global,
+        given: &str,
+    ) -> Result<String, Fail> {
         match typed_plan(alloc, given) {
             Ok(plan) => Ok(write_plan(alloc, &plan)?.into_string()),
             Err(fault) => Ok(format!(in alloc; "{fault:?}")?),

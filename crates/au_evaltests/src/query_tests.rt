@@ -8,12 +8,14 @@ use crate::row_texts::relation_text;
 use au_blocks::Table;
 use au_engine::{EngineFault, Options, answer, answer_directly, guess_answer, read_query};
 use au_expr::EvalFault;
+use au_par::NoGate;
 use au_parse::Statement;
 use au_print::{Answer, guess_text};
 use au_value::Word;
 use std::alloc::{AllocError, Global};
 use std::process::Abort;
 use std::test::Fail;
+use std::thread::Threads;
 
 fn answer_text(alloc: Global, answer: &Result<Answer, EngineFault>) -> Result<String, AllocError> {
     match answer {
@@ -24,15 +26,23 @@ fn answer_text(alloc: Global, answer: &Result<Answer, EngineFault>) -> Result<St
 
 // What both roads answer, or their answers where they differ.
 fn by_both_roads(
+    rt: &(impl Threads + Sync),
     alloc: Global,
     statement: &Statement,
     tables: &[(Word, Table)],
 ) -> Result<String, AllocError>
     requires { WholeQuery (statement_tree statement.now) }
 {
-    let options = Options { combine: false };
-    let planned = answer_text(alloc, &answer(alloc, statement, tables, options))?;
-    let direct = answer_text(alloc, &answer_directly(alloc, statement, tables, options))?;
+    let options = Options {
+        combine: false,
+        workers: 2,
+        compress: None,
+    };
+    let planned = answer_text(
+        alloc,
+        &answer(rt, alloc, statement, tables, options, NoGate),
+    )?;
+    let direct = answer_text(alloc, &answer_directly(alloc, statement, tables, false))?;
     if planned == direct {
         return Ok(planned);
     }
@@ -42,11 +52,15 @@ fn by_both_roads(
 struct Answered;
 
 impl Call for Answered {
-    fn outcome(_rt: &impl Abort, alloc: Global, given: &str) -> Result<String, Fail> {
+    fn outcome(
+        rt: &(impl Abort + Threads + Sync),
+        alloc: Global,
+        given: &str,
+    ) -> Result<String, Fail> {
         let (query, tables) = given.split_once(" | ").ok_or("tables")?;
         let tables = tables_of(alloc, tables)?;
         match read_query(alloc, query) {
-            Ok(statement) => Ok(by_both_roads(alloc, &statement, tables.as_slice())?),
+            Ok(statement) => Ok(by_both_roads(rt, alloc, &statement, tables.as_slice())?),
             Err(fault) => Ok(format!(in alloc; "{fault:?}")?),
         }
     }
@@ -71,7 +85,12 @@ fn in_guess_world(
     match guess_answer(alloc, statement, tables) {
         Ok(answer) => lines_of(
             alloc,
-            &guess_text(alloc, answer.names.as_slice(), &answer.rows),
+            &guess_text(
+                alloc,
+                answer.names.as_slice(),
+                answer.kinds.as_slice(),
+                &answer.rows,
+            ),
         ),
         Err(fault) => Ok(format!(in alloc; "{fault:?}")?),
     }
@@ -80,7 +99,11 @@ fn in_guess_world(
 struct Guessed;
 
 impl Call for Guessed {
-    fn outcome(_rt: &impl Abort, alloc: Global, given: &str) -> Result<String, Fail> {
+    fn outcome(
+        _rt: &(impl Abort + Threads + Sync),
+        alloc: Global,
+        given: &str,
+    ) -> Result<String, Fail> {
         let (query, tables) = given.split_once(" | ").ok_or("tables")?;
         let tables = tables_of(alloc, tables)?;
         match read_query(alloc, query) {

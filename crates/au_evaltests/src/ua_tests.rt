@@ -15,15 +15,20 @@ use au_annot::{Count, Pair};
 use au_engine::read_query;
 use au_expr::EvalFault;
 use au_ua::{not_positive, ua, ua_table, ua_text};
-use au_value::{NoMemory, Value, Word};
+use au_value::{Kind, NoMemory, Value, Word};
 use std::alloc::Global;
 use std::process::Abort;
 use std::test::Fail;
+use std::thread::Threads;
 
 struct Place;
 
 impl Call for Place {
-    fn outcome(_rt: &impl Abort, alloc: Global, given: &str) -> Result<String, Fail> {
+    fn outcome(
+        _rt: &(impl Abort + Threads + Sync),
+        alloc: Global,
+        given: &str,
+    ) -> Result<String, Fail> {
         let place = read_query(alloc, given).map(|statement| not_positive(&statement));
         Ok(format!(in alloc; "{place:?}")?)
     }
@@ -33,7 +38,11 @@ impl Call for Place {
 struct Pairs;
 
 impl Call for Pairs {
-    fn outcome(_rt: &impl Abort, alloc: Global, given: &str) -> Result<String, Fail> {
+    fn outcome(
+        _rt: &(impl Abort + Threads + Sync),
+        alloc: Global,
+        given: &str,
+    ) -> Result<String, Fail> {
         let mut text = String::new(alloc);
         for table in &tables_of(alloc, given)? {
             for row in ua_table(alloc, &table.1)?.rows() {
@@ -93,7 +102,11 @@ fn twice(alloc: Global, table: Rel<Value, Pair>) -> Result<Rel<Value, Pair>, Eva
 struct Doubled;
 
 impl Call for Doubled {
-    fn outcome(rt: &impl Abort, alloc: Global, given: &str) -> Result<String, Fail> {
+    fn outcome(
+        rt: &(impl Abort + Threads + Sync),
+        alloc: Global,
+        given: &str,
+    ) -> Result<String, Fail> {
         let both = twice(alloc, numbers(rt, alloc, given)?)?.rows().len();
         let text = text_of(alloc, &numbers(rt, alloc, given)?)?;
         Ok(format!(in alloc; "{both} {}", text.as_str())?)
@@ -113,7 +126,7 @@ fn text_of(alloc: Global, rel: &Rel<Value, Pair>) -> Result<String, Fail>
     requires { AllByRecursion (λ r. length r.cells ≡ 1) rel.now }
 {
     let names = names(alloc)?;
-    let text = ua_text(alloc, names.as_slice(), rel)?;
+    let text = ua_text(alloc, names.as_slice(), &[Kind::Int], rel)?;
     let lines = str::from_utf8(text.as_slice())?;
     Ok(lines.replace(alloc, '\n', ";")?)
 }

@@ -69,7 +69,7 @@ pub stepped_are : (row : List Value) (ms : Rows) (aggs : List PAgg) → flat_map
 stepped_are row ms [] = refl
 stepped_are row ms (agg ∷ aggs) = λ i. stepped_is row ms agg i ++ stepped_are row ms aggs i
 
-lower_fits : (m n : ℕ) → m ≤ n → Fit (pos n ∷ []) → Fit (pos m ∷ [])
+pub lower_fits : (m n : ℕ) → m ≤ n → Fit (pos n ∷ []) → Fit (pos m ∷ [])
 lower_fits m n h f =
     let wide : n ≤ 2 ^ 127 - 1 = leb-true n (2 ^ 127 - 1) (and_parts _ _ f).0 in
     and_from _ _ (le-leb m (2 ^ 127 - 1) (let e : m ≤ 2 ^ 127 - 1 = omega (arith, h, wide) in e)) refl

@@ -15,6 +15,7 @@ pub mod Pulling
 pub mod RangeOrder
 pub mod RangeIndex
 pub mod Matches
+pub mod Probing
 pub mod JoinPulls
 pub mod TypedPhysical
 pub mod Collected
@@ -25,8 +26,15 @@ pub mod Advancing
 pub mod OpenedPlans
 pub mod FoldSteps
 pub mod Puts
+pub mod MergePuts
 pub mod Growth
 pub mod TableSteps
+pub mod Updates
+pub mod Merged
+pub mod MergedFits
+pub mod Gathered
+pub mod DrawnPieces
+pub mod Shared
 pub mod RangeJoins
 pub mod PlacesByKey
 pub mod HashJoins

@@ -13,7 +13,8 @@ use Rattle.au_exec.specs.Left.{CanPull, Gave, Pulled, WorksNext, chunk_rows, fit
 use Rattle.au_exec.specs.declared.node.Node.{Node}
 use Rattle.au_exec.specs.declared.node.Node.TheVariants as code
 use Rattle.au_exec.specs.declared.operators.Operator.{Operator}
-use Rattle.au_exec.proofs.ChainSteps.{chain_apart, chain_can_apart, chain_fit_apart, chain_fit_none, chain_none}
+use Rattle.au_exec.specs.ChainLaws.{chain_apart, chain_fit_apart, chain_fit_none, chain_none}
+use Rattle.au_exec.proofs.ChainSteps.{chain_can_apart}
 
 -- an operator row by row, and the numbers that it evaluates
 pub record Streams (f : Rows → Rows) (g : Rows → List ℤ) : Type 0 where

@@ -89,7 +89,7 @@ abbrev numbers_at : List ℕ → List PAgg → Rows → List ℤ
 numbers_at keys aggs rows = flat_map (numbers_of_group aggs) (groups_of keys rows)
 
 module _ (keys : List ℕ) (aggs : List PAgg) where
-  grow_is : (rows : Rows) (row : List Value) → grow keys aggs (table_at keys aggs rows) row ≡ table_at keys aggs (rows ++ row ∷ [])
+  pub grow_is : (rows : Rows) (row : List Value) → grow keys aggs (table_at keys aggs rows) row ≡ table_at keys aggs (rows ++ row ∷ [])
   grow_is rows row =
       let ks = distinct same_row (map (kept keys) rows) in
       let p = position_or_len (same_row (kept keys row)) ks in
@@ -169,17 +169,17 @@ and_assoc false b c = refl
 
 -- rows in two parts
 module _ (keys : List ℕ) (aggs : List PAgg) where
-  grow_append : (t : Table) (xs ys : Rows) → grow_all keys aggs t (xs ++ ys) ≡ grow_all keys aggs (grow_all keys aggs t xs) ys
+  pub grow_append : (t : Table) (xs ys : Rows) → grow_all keys aggs t (xs ++ ys) ≡ grow_all keys aggs (grow_all keys aggs t xs) ys
   grow_append t [] ys = refl
   grow_append t (x ∷ xs) ys = grow_append (grow keys aggs t x) xs ys
 
-  fit_append : (t : Table) (xs ys : Rows) → grown_fit keys aggs t (xs ++ ys) ≡ grown_fit keys aggs t xs && grown_fit keys aggs (grow_all keys aggs t xs) ys
+  pub fit_append : (t : Table) (xs ys : Rows) → grown_fit keys aggs t (xs ++ ys) ≡ grown_fit keys aggs t xs && grown_fit keys aggs (grow_all keys aggs t xs) ys
   fit_append t [] ys = refl
   fit_append t (x ∷ xs) ys =
       ap (λ b. fit (grow_numbers keys aggs t x) && b) (fit_append (grow keys aggs t x) xs ys)
       ∙ and_assoc (fit (grow_numbers keys aggs t x)) (grown_fit keys aggs (grow keys aggs t x) xs) (grown_fit keys aggs (grow_all keys aggs (grow keys aggs t x) xs) ys)
 
-  can_append : (t : Table) (xs ys : Rows) → CanGrowAll keys aggs t (xs ++ ys) → CanGrowAll keys aggs t xs × CanGrowAll keys aggs (grow_all keys aggs t xs) ys
+  pub can_append : (t : Table) (xs ys : Rows) → CanGrowAll keys aggs t (xs ++ ys) → CanGrowAll keys aggs t xs × CanGrowAll keys aggs (grow_all keys aggs t xs) ys
   can_append t [] ys h = (tt, h)
   can_append t (x ∷ xs) ys h = let r = can_append (grow keys aggs t x) xs ys h.1 in ((h.0, r.0), r.1)
 

@@ -13,6 +13,8 @@ pub mod Rights
 pub mod Joins
 pub mod Ascents
 pub mod Chains
+pub mod Probed
+pub mod ChainLaws
 pub mod Left
 pub mod CanOpen
 pub mod Scans
@@ -22,3 +24,6 @@ pub mod RunViews
 pub mod Advances
 pub mod Folds
 pub mod Tables
+pub mod Merging
+pub mod Gathering
+pub mod GatherLaws

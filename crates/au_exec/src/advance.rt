@@ -1,32 +1,38 @@
 //! The next rows of a run, and all that are left.
-ghost use Rattle.std.specs.Prelude.{◌≡◌, false, true, IfOk, IsTrue, MatchResult};
-ghost use Rattle.std.specs.Vec.Iter.{into_iter_items};
+ghost use Rattle.std.specs.Prelude.{◌≡◌, ◌≤◌, false, true, IsTrue, MatchResult};
 ghost use Rattle.au_expr.specs.declared.fault.EvalFault.TheVariants as fault;
 ghost use Rattle.au_exec.specs.Left.{CanPull, fits_left};
 ghost use Rattle.au_exec.specs.Outcomes.{rows_of};
 ghost use Rattle.au_exec.specs.Taken.{HasSize};
 ghost use Rattle.au_exec.specs.Runs.{Batched, CanGo, IsGoing, Same, Stepped, state_fits, state_rows};
 
-use crate::collect::collect;
+use crate::collect::{collect, drained};
 use crate::node::Node;
 use crate::open::opened;
 use crate::pull::pull;
-use crate::rows::push_row;
 use crate::source::{CHUNK, take_rows};
 use crate::state::State;
 use au_expr::EvalFault;
+use au_par::Gate;
 use au_plain::PRow;
-use au_value::NoMemory;
 use std::alloc::Global;
 use std::mem;
+use std::thread::Threads;
 use std::vec::IntoIter;
 
 /// The next batch, and nothing where no row is left.
-pub(crate) fn advance(alloc: Global, state: &mut State) -> Result<Option<Vec<PRow>>, EvalFault>
-    requires { CanGo state.old }
+pub(crate) fn advance<R: Threads + Sync, G: Gate + Sync>(
+    rt: &R,
+    alloc: Global,
+    workers: usize,
+    gate: &G,
+    state: &mut State,
+) -> Result<Option<Vec<PRow>>, EvalFault>
+    requires state { CanGo state.old }
+    requires workers { (1 ≤ workers) × (workers ≤ 64) }
     ensures { Stepped state.old state.new result }
 {
-    begin(alloc, state)?;
+    begin(rt, alloc, workers, gate, state)?;
     match state {
         State::Going(ready, node) => next(alloc, ready, node),
         State::Waiting(_, _) => unreachable!(),
@@ -34,11 +40,18 @@ pub(crate) fn advance(alloc: Global, state: &mut State) -> Result<Option<Vec<PRo
 }
 
 /// All rows that are left.
-pub(crate) fn rest(alloc: Global, state: &mut State) -> Result<Vec<PRow>, EvalFault>
-    requires { CanGo state.old }
+pub(crate) fn rest<R: Threads + Sync, G: Gate + Sync>(
+    rt: &R,
+    alloc: Global,
+    workers: usize,
+    gate: &G,
+    state: &mut State,
+) -> Result<Vec<PRow>, EvalFault>
+    requires state { CanGo state.old }
+    requires workers { (1 ≤ workers) × (workers ≤ 64) }
     ensures { MatchResult result (λ v. (rows_of v ≡ state_rows state.old) × (state_fits state.old ≡ true)) (λ f. f ≡ fault.Overflow → state_fits state.old ≡ false) }
 {
-    begin(alloc, state)?;
+    begin(rt, alloc, workers, gate, state)?;
     match state {
         State::Going(ready, node) => {
             let rows = drained(alloc, ready)?;
@@ -49,27 +62,23 @@ pub(crate) fn rest(alloc: Global, state: &mut State) -> Result<Vec<PRow>, EvalFa
 }
 
 // Makes its rows ready to be pulled.
-fn begin(alloc: Global, state: &mut State) -> Result<(), EvalFault>
-    requires { CanGo state.old }
+fn begin<R: Threads + Sync, G: Gate + Sync>(
+    rt: &R,
+    alloc: Global,
+    workers: usize,
+    gate: &G,
+    state: &mut State,
+) -> Result<(), EvalFault>
+    requires state { CanGo state.old }
+    requires workers { (1 ≤ workers) × (workers ≤ 64) }
     ensures { MatchResult result (λ _. IsGoing state.new × Same state.old state.new) (λ f. f ≡ fault.Overflow → state_fits state.old ≡ false) }
 {
     if let State::Waiting(plan, tables) = state {
         let tables = mem::replace(tables, Vec::new(alloc));
-        let node = opened(alloc, plan, tables)?;
+        let node = opened(rt, alloc, workers, gate, plan, tables)?;
         *state = State::Going(Vec::new(alloc).into_iter(), node);
     }
     Ok(())
-}
-
-// The rows that are there, moved.
-fn drained(alloc: Global, ready: &mut IntoIter<PRow>) -> Result<Vec<PRow>, NoMemory>
-    ensures { IfOk result (λ v. v.items ≡ into_iter_items ready.old) }
-{
-    let mut rows = Vec::new(alloc);
-    for row in mem::replace(ready, Vec::new(alloc).into_iter()) {
-        push_row(&mut rows, row)?;
-    }
-    Ok(rows)
 }
 
 // The next rows: of those that are there, or else those that are pulled next.

@@ -1,5 +1,5 @@
 //! Plans that are run batch by batch.
-ghost use Rattle.std.specs.Prelude.{◌≡◌, ◌++◌, false, true, IfErr, IfOk, IfSome, map};
+ghost use Rattle.std.specs.Prelude.{◌≡◌, ◌≤◌, ◌++◌, false, true, IfErr, IfOk, IfSome, map};
 ghost use Rattle.au_expr.specs.Figures.{fit};
 ghost use Rattle.au_expr.specs.declared.fault.EvalFault.TheVariants as fault;
 ghost use Rattle.au_physical.specs.PhysicalKinds.{IsPhysicalFor};
@@ -12,32 +12,36 @@ ghost use Rattle.au_exec.specs.Outcomes.{rows_of};
 use crate::advance::{advance, rest};
 use crate::state::State;
 use au_expr::EvalFault;
+use au_par::Gate;
 use au_physical::Physical;
 use au_plain::PRow;
 use au_value::NoMemory;
 use std::alloc::Global;
 use std::marker::Model;
 use std::snapshot::Snapshot;
+use std::thread::Threads;
 
 /// Rows that a run gives at once: between 1 and 256.
 pub type Batch = Vec<PRow>;
 
 /// A plan that is being run over tables.
 #[derive(Drop)]
-pub struct Run {
+pub struct Run<G: Gate> {
     alloc: Global,
+    workers: usize,
+    gate: G,
     state: State,
     refusal: Option<EvalFault>,
     plan: Snapshot<Physical>,
     tables: Snapshot<Vec<Vec<PRow>>>,
 }
 
-impl Model for Run {
+impl<G: Gate> Model for Run<G> {
     ghost use Rattle.au_exec.specs.RunViews.{RunView};
 
     ghost Value = { RunView };
 
-    ghost use Rattle.std.specs.Prelude.{map};
+    ghost use Rattle.std.specs.Prelude.{◌≤◌, map};
     ghost use Rattle.au_expr.specs.Figures.{fit};
     ghost use Rattle.au_physical.specs.PhysicalNumbers.{physical_numbers};
     ghost use Rattle.au_physical.specs.Physicals.{physical_tree};
@@ -47,13 +51,21 @@ impl Model for Run {
 
     ghost view = { λ r. record { rows = state_rows r.state; fits = fit (physical_numbers (physical_tree r.plan.value) (map rows_of r.tables.value.items)); refusal = r.refusal } };
 
-    ghost invariant = { λ r. IsRun r.state r.refusal (fit (physical_numbers (physical_tree r.plan.value) (map rows_of r.tables.value.items))) };
+    ghost invariant = { λ r. ((1 ≤ r.workers) × (r.workers ≤ 64)) × IsRun r.state r.refusal (fit (physical_numbers (physical_tree r.plan.value) (map rows_of r.tables.value.items))) };
 }
 
-impl Run {
-    /// A run of a plan that is typed for the tables, before its first batch.
-    pub fn start(alloc: Global, plan: Physical, tables: Vec<Vec<PRow>>) -> Result<Run, NoMemory>
-        requires { IsPhysicalFor (map rows_of tables.items) (physical_tree plan) }
+impl<G: Gate + Sync> Run<G> {
+    /// A run of a plan that is typed for the tables, before its first batch, by so many workers: 1 to 64. The gate is told
+    /// of each piece of their work as it begins.
+    pub fn start(
+        alloc: Global,
+        plan: Physical,
+        tables: Vec<Vec<PRow>>,
+        workers: usize,
+        gate: G,
+    ) -> Result<Run<G>, NoMemory>
+        requires workers { (1 ≤ workers) × (workers ≤ 64) }
+        requires plan { IsPhysicalFor (map rows_of tables.items) (physical_tree plan) }
         ensures rows { IfOk result (λ run. run.rows ≡ physical_rows (physical_tree plan) (map rows_of tables.items)) }
         ensures fits { IfOk result (λ run. run.fits ≡ fit (physical_numbers (physical_tree plan) (map rows_of tables.items))) }
         ensures fresh { IfOk result (λ run. run.refusal ≡ None) }
@@ -62,6 +74,8 @@ impl Run {
         let plan = boxed_plan(alloc, plan)?;
         Ok(Run {
             alloc,
+            workers,
+            gate,
             plan: given,
             tables: Snapshot::of(&tables),
             state: State::Waiting(plan, tables),
@@ -73,7 +87,7 @@ impl Run {
     ///
     /// `Overflow` comes only where a number of the plan leaves -2^127 to 2^127-1. After a refusal each later call gives the
     /// same one.
-    pub fn next_batch(&mut self) -> Result<Option<Batch>, EvalFault>
+    pub fn next_batch<R: Threads + Sync>(&mut self, rt: &R) -> Result<Option<Batch>, EvalFault>
         ensures given { Advances self.old self.new result }
         ensures fits { self.new.fits ≡ self.old.fits }
         ensures overflow { IfErr result (λ f. f ≡ fault.Overflow → self.new.fits ≡ false) }
@@ -81,7 +95,7 @@ impl Run {
         if let Some(fault) = self.refusal {
             return Err(fault);
         }
-        match advance(self.alloc, &mut self.state) {
+        match advance(rt, self.alloc, self.workers, &self.gate, &mut self.state) {
             Ok(batch) => Ok(batch),
             Err(fault) => {
                 self.refusal = Some(fault);
@@ -94,7 +108,7 @@ impl Run {
     ///
     /// A refusal that was given before is given again, and `Overflow` comes only where a number of the plan leaves -2^127
     /// to 2^127-1.
-    pub fn all(self) -> Result<Vec<PRow>, EvalFault>
+    pub fn all<R: Threads + Sync>(self, rt: &R) -> Result<Vec<PRow>, EvalFault>
         ensures rows { IfOk result (λ held. rows_of held ≡ self.rows) }
         ensures fits { IfOk result (λ _. self.fits ≡ true) }
         ensures again { IfSome self.refusal (λ f. result ≡ Err f) }
@@ -102,6 +116,8 @@ impl Run {
     {
         let Run {
             alloc,
+            workers,
+            gate,
             mut state,
             refusal,
             plan: _,
@@ -109,7 +125,7 @@ impl Run {
         } = self;
         match refusal {
             Some(fault) => Err(fault),
-            None => rest(alloc, &mut state),
+            None => rest(rt, alloc, workers, &gate, &mut state),
         }
     }
 }

@@ -1,5 +1,5 @@
 //! Groups that are ready for their rows to be pulled: all rows of the node below were seen, and none is kept.
-ghost use Rattle.std.specs.Prelude.{◌≡◌, ◌&&◌, [], true, false, MatchResult};
+ghost use Rattle.std.specs.Prelude.{◌≡◌, ◌≤◌, ◌&&◌, [], true, false, MatchResult};
 ghost use Rattle.std.specs.List.{AllByRecursion};
 ghost use Rattle.au_expr.specs.Figures.{fit};
 ghost use Rattle.au_expr.specs.declared.fault.EvalFault.TheVariants as fault;
@@ -11,31 +11,66 @@ ghost use Rattle.au_exec.specs.Opened.{Makes};
 ghost use Rattle.au_exec.specs.Tables.{CanGrowAll, grow_all, grown_fit, table_of, table_with};
 
 use crate::boxed::boxed;
+use crate::drawn::drawn_groups;
 use crate::groups::{Groups, add_rows, finished};
 use crate::node::Node;
 use crate::pull::pull;
+use crate::split::is_probed;
 use au_expr::EvalFault;
+use au_par::Gate;
 use au_plain::PAgg;
 use indexmap::IndexSet;
 use std::alloc::Global;
+use std::thread::Threads;
 
 /// One row for each list of values in the key columns, in the order in which they are first seen: the keys, and then the
 /// aggregates over the rows with these keys.
-pub(crate) fn grouped_node(
+pub(crate) fn grouped_node<R: Threads + Sync, G: Gate + Sync>(
+    rt: &R,
     alloc: Global,
+    workers: usize,
+    gate: &G,
     keys: &[usize],
     aggs: &[PAgg],
     of: Box<Node>,
 ) -> Result<Box<Node>, EvalFault>
+    requires workers { (1 ≤ workers) × (workers ≤ 64) }
     requires of { CanPull of.value }
     requires keys { AllByRecursion (HavePlaces keys.now) (rows_left of.value) }
     requires aggs { AllByRecursion (HasArgument (rows_left of.value)) aggs.now }
     ensures { Makes (plain_group keys.now aggs.now (rows_left of.value)) (fits_left of.value && fit (group_numbers keys.now aggs.now (rows_left of.value))) result }
 {
     let mut of = of;
-    let groups = folded_rows(alloc, keys, aggs, &mut of)?;
+    let groups = node_groups(rt, alloc, workers, gate, keys, aggs, &mut of)?;
     let rows = finished(alloc, groups)?;
     Ok(boxed(alloc, Node::Source(rows.into_iter()))?)
+}
+
+// The groups of all rows of a node, which the workers share where they are those of a join that is probed.
+fn node_groups<R: Threads + Sync, G: Gate + Sync>(
+    rt: &R,
+    alloc: Global,
+    workers: usize,
+    gate: &G,
+    keys: &[usize],
+    aggs: &[PAgg],
+    of: &mut Node,
+) -> Result<Groups, EvalFault>
+    requires workers { (1 ≤ workers) × (workers ≤ 64) }
+    requires of { CanPull of.old }
+    requires keys { AllByRecursion (HavePlaces keys.now) (rows_left of.old) }
+    requires aggs { AllByRecursion (HasArgument (rows_left of.old)) aggs.now }
+    ensures { MatchResult result (λ g. (table_of g ≡ grow_all keys.now aggs.now (table_with [] []) (rows_left of.old)) × (fits_left of.old ≡ true) × (grown_fit keys.now aggs.now (table_with [] []) (rows_left of.old) ≡ true)) (λ f. f ≡ fault.Overflow → fits_left of.old && grown_fit keys.now aggs.now (table_with [] []) (rows_left of.old) ≡ false) }
+{
+    if workers == 1 || !is_probed(of) {
+        return folded_rows(alloc, keys, aggs, of);
+    }
+    match of {
+        Node::Chain(operators, below) => {
+            drawn_groups(rt, alloc, workers, gate, keys, aggs, operators, below)
+        }
+        other => drawn_groups(rt, alloc, workers, gate, keys, aggs, &[], other),
+    }
 }
 
 // The groups of all rows of a node.

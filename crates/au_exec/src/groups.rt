@@ -102,6 +102,18 @@ pub(crate) fn place_of(
 {
     key.clear();
     push_parts(key, keys, row)?;
+    place_of_key(alloc, seen, key)
+}
+
+/// The place of a key among those that were seen, behind the others where it is new.
+pub(crate) fn place_of_key(
+    alloc: Global,
+    seen: &mut IndexSet<Vec<Part>>,
+    key: &mut Vec<Part>,
+) -> Result<usize, NoMemory>
+    ensures keys { OnOk result (key_values seen.new.keys ≡ insert_key same_row (key_values seen.old.keys) (part_values key.old.items)) }
+    ensures place { IfOk result (λ place. place ≡ position_or_len (same_row (part_values key.old.items)) (key_values seen.old.keys)) }
+{
     match known_place(seen, key) {
         Some(place) => Ok(place),
         None => put_key(seen, mem::replace(key, Vec::new(alloc))),
@@ -151,8 +163,8 @@ fn put(
     Ok(())
 }
 
-// Puts a group behind others.
-fn push_group(
+/// Puts a group behind others.
+pub(crate) fn push_group(
     held: &mut Vec<(PRow, Vec<Fold>)>,
     key: PRow,
     folds: Vec<Fold>,

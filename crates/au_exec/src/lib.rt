@@ -3,13 +3,14 @@
 //! A [`Run`] gives the rows of a plan in the order of its meaning: [`Run::next_batch`] up to 256 at once, and [`Run::all`]
 //! all that are left. The overflow of its numbers is the only refusal beside wanting memory. Operators that work row by
 //! row are worked one after the other on each row, which moves; a join keeps its right rows, and a grouping a state for
-//! each key.
+//! each key. Several workers share the left rows of a join that has a table or an index; the rows are the same for each
+//! number of them.
 //!
 //! ```text
 //! let scan = Box::new(alloc, Physical::Scan(0, 2))?;
 //! let plan = Physical::Filter(PExpr::Column(1), scan);
-//! let run = Run::start(alloc, plan, tables)?;
-//! let kept = run.all()?;
+//! let run = Run::start(alloc, plan, tables, 4, NoGate)?;
+//! let kept = run.all(&rt)?;
 //! // the rows whose second column is true
 //! ```
 //!
@@ -22,9 +23,12 @@ mod boxed;
 mod chains;
 mod collect;
 mod combine;
+mod drawn;
 mod evaluation;
 mod extreme;
 mod fold;
+mod gather;
+mod gathering;
 mod group_node;
 mod groups;
 mod hashing;
@@ -35,16 +39,20 @@ mod joining;
 mod keep;
 mod key;
 mod matching;
+mod merge;
 mod narrow;
 mod node;
 mod open;
 mod operators;
+mod pair;
 mod picked;
+mod probe;
 mod pull;
 mod right;
 mod rows;
 mod scans;
 mod source;
+mod split;
 mod state;
 mod view;
 

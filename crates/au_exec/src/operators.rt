@@ -61,8 +61,12 @@ pub(crate) fn work_next(
     }
 }
 
-// What the operators leave of some rows.
-fn work_rows(alloc: Global, operators: &[Operator], rows: Vec<PRow>) -> Result<Vec<PRow>, EvalFault>
+/// What the operators leave of some rows.
+pub(crate) fn work_rows(
+    alloc: Global,
+    operators: &[Operator],
+    rows: Vec<PRow>,
+) -> Result<Vec<PRow>, EvalFault>
     requires { CanChain operators.now (rows_of rows) }
     ensures { WorksAll operators.now (rows_of rows) result }
 {

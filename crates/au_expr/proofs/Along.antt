@@ -3,24 +3,13 @@ use Rattle.std.specs.Prelude.{◌≡◌, ℕ, zero, suc, Bool, true, false, ◌&
 use Rattle.std.proofs.Common.{refl, sym, ◌∙◌, ap, subst}
 use Rattle.std.proofs.lemmas.Bool.{and_parts, true≢false}
 use Rattle.au_value.specs.declared.kinds.Kind.{Kind}
-use Rattle.au_value.specs.declared.kinds.Kind.TheVariants.{Int, Text, Flag}
+use Rattle.au_value.specs.declared.kinds.Kind.TheVariants.{Int, Flag}
 use Rattle.au_value.specs.Order.{kind_of, kind_eq}
+use Rattle.au_value.specs.KindLaws.{kind_eq_is}
 use Rattle.au_expr.specs.Terms.{Term, Column, Literal, Add, Subtract, Multiply, Negate, Compare, And, Or, Not, Case}
 use Rattle.au_expr.specs.Evaluate.{Operators, evaluate, cell_at}
 use Rattle.au_expr.specs.Kinds.{kind_in, kind_if, is_kind, agreed, only_if}
 use Rattle.au_expr.specs.Related.{Related, RelatedRows}
-
--- kinds that are found equal are one kind
-pub kind_eq_is : (j k : Kind) → kind_eq j k ≡ true → j ≡ k
-kind_eq_is Int Int h = refl
-kind_eq_is Text Text h = refl
-kind_eq_is Flag Flag h = refl
-kind_eq_is Int Text h = cc
-kind_eq_is Int Flag h = cc
-kind_eq_is Text Int h = cc
-kind_eq_is Text Flag h = cc
-kind_eq_is Flag Int h = cc
-kind_eq_is Flag Text h = cc
 
 -- a kind that is found is there
 pub is_kind_is : (k : Kind) (o : Option Kind) → is_kind k o ≡ true → o ≡ Some k

@@ -1,7 +1,9 @@
-pub mod Evaluation
-pub mod GuessLaws
-pub mod Homs
-pub mod Links
-pub mod Passes
+-- The definitions, in the order in which they are to be read.
 pub mod Reading
 pub mod Weights
+pub mod Homs
+-- What the contracts of inner calls and the proofs speak of.
+pub mod GuessLaws
+pub mod Links
+pub mod Passes
+pub mod Evaluation

@@ -9,7 +9,7 @@ use Rattle.au_value.specs.Ranges.{Span, IsRangeOf, certain, guesses}
 use Rattle.au_value.proofs.RangeLaws.{IsRange-certain}
 use Rattle.au_expr.specs.Ordinary.{IsKind}
 use Rattle.au_algebra.specs.Bounded.{Bounded, bounded}
-use Rattle.au_algebra.specs.Counted.{CountedRow, count_of, ones, StandsFor}
+use Rattle.au_algebra.specs.Counted.{CountedRow, count_of, occurring, StandsFor}
 use Rattle.au_algebra.specs.Distribution.{guess_count}
 use Rattle.au_algebra.specs.Entries.{entry}
 use Rattle.au_algebra.specs.Fits.{certain_rows}
@@ -130,16 +130,12 @@ module _ (q : Tree) (ts : List (List CountedRow)) (rel : List CountedRow) (same 
   has_value_kinds kinds ks ok h =
       subst (IsTable ks) (sym same) (guessed_table ks (bounded q (map embedded ts)) (tree_relation kinds (map embedded ts) (all_relations kinds ts ok) q ks h))
 
--- ---- tables of single rows
+-- ---- tables without rows of no copy
 
-one_each : (w : Rows) → embedded (ones w) ≡ certain_rows w
-one_each [] = refl
-one_each (row ∷ w) = ap (λ rows. embedded_row (entry row 1) ∷ rows) (one_each w)
+all_present : (ts : List (List CountedRow)) → map embedded ts ≡ map certain_rows (map occurring ts)
+all_present [] = refl
+all_present (t ∷ ts) = ap (λ rows. embedded t ∷ rows) (all_present ts)
 
-all_ones : (ws : List Rows) → map embedded (map ones ws) ≡ map certain_rows ws
-all_ones [] = refl
-all_ones (w ∷ ws) = λ i. one_each w i ∷ all_ones ws i
-
--- tables that have each row of some lists once are their certain rows
-pub single_rows : (ts : List (List CountedRow)) (ws : List Rows) → ts ≡ map ones ws → map embedded ts ≡ map certain_rows ws
-single_rows ts ws e = ap (map embedded) e ∙ all_ones ws
+-- tables in which each row has a copy are their certain rows
+pub present_rows : (ts : List (List CountedRow)) → map occurring ts ≡ ts → map embedded ts ≡ map certain_rows ts
+present_rows ts e = all_present ts ∙ ap (map certain_rows) e

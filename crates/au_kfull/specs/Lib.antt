@@ -1,11 +1,13 @@
-pub mod Embedding
-pub mod Extremes
-pub mod Gives
-pub mod Groups
-pub mod Keys
-pub mod Meeting
+-- The definitions, in the order in which they are to be read.
 pub mod NonPositive
-pub mod Numbers
-pub mod Outputs
 pub mod TreeFits
+-- What the contracts of inner calls and the proofs speak of.
+pub mod Keys
+pub mod Groups
+pub mod Extremes
+pub mod Outputs
+pub mod Numbers
+pub mod Embedding
+pub mod Meeting
 pub mod Typed
+pub mod Gives

@@ -10,7 +10,8 @@ use Rattle.au_lex.specs.declared.LexFault.TheVariants.{BadChar, TooManyTokens}
 use Rattle.au_lex.specs.Lexemes.{begins_name, begins_run}
 use Rattle.au_lex.specs.Tokens.{token_at, token_or_fault, one_too_many, is_open, is_bad_number, IsOther}
 use Rattle.au_lex.specs.Fronts.{quoted_front, symbol_front}
-use Rattle.au_lex.proofs.Longest.{name_longest, digits_longest}
+use Rattle.au_lex.proofs.Longest.{name_longest}
+use Rattle.au_lex.proofs.Numbers.{digits_longest}
 use Rattle.au_lex.proofs.Quotes.{IsKind, single_kind, double_kind, quote_found, quote_open}
 use Rattle.au_lex.proofs.Symbols.{symbol_found, symbol_none}
 

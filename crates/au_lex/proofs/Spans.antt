@@ -9,7 +9,7 @@ use Rattle.au_lex.specs.Lexemes.{spelled}
 use Rattle.au_lex.specs.Tokens.{longest, or_shorter, token_at, token_or_fault, token_step, token_then, tokens_at, tokens_from, tokens_of, none_may_come, blank_length, is_open, is_bad_number, Spans}
 
 -- the longest lexeme is the lexeme of a front
-record IsLexeme (text : List ℕ) (n : ℕ) (found : ℕ × Lexeme) : Type 0 where
+pub record IsLexeme (text : List ℕ) (n : ℕ) (found : ℕ × Lexeme) : Type 0 where
   pub some : 0 < found.0
   pub within : found.0 ≤ n
   pub spells : spelled (take found.0 text) ≡ Some found.1
@@ -26,13 +26,13 @@ unfolding longest
 longest_lexeme zero text found is = cc
 longest_lexeme (suc n) text found is = longest_step n text _ _ found refl (longest_lexeme n text found) is
 
-is_found : (at : ℕ) (whole bad : Bool) (here : Option (ℕ × Lexeme)) (found : ℕ × Lexeme) → token_or_fault at whole bad here ≡ Ok found → here ≡ Some found
+pub is_found : (at : ℕ) (whole bad : Bool) (here : Option (ℕ × Lexeme)) (found : ℕ × Lexeme) → token_or_fault at whole bad here ≡ Ok found → here ≡ Some found
 is_found at true bad here found is = cc
 is_found at false true here found is = cc
 is_found at false false None found is = cc
 is_found at false false (Some x) found is = cc
 
-token_lexeme : (at : ℕ) (text : List ℕ) (found : ℕ × Lexeme) → token_at at text ≡ Ok found → IsLexeme text (length text) found
+pub token_lexeme : (at : ℕ) (text : List ℕ) (found : ℕ × Lexeme) → token_at at text ≡ Ok found → IsLexeme text (length text) found
 token_lexeme at text found is = longest_lexeme (length text) text found (is_found at (is_open text) (is_bad_number text) _ found is)
 
 -- the tokens behind a place of the text

@@ -1,6 +1,6 @@
 -- The lexemes: which texts spell one, as a whole.
-use Rattle.std.specs.Prelude.{ℕ, ◌==◌, ◌||◌, Bool, true, false, List, [], ◌∷◌, pos, Option, Some, None, option_map, if◌then◌else◌, codes, find, bytes_eq}
-use Rattle.std.specs.List.{list_all}
+use Rattle.std.specs.Prelude.{ℕ, ◌+◌, ◌==◌, ◌&&◌, ◌||◌, nat_lt, Bool, true, false, List, [], ◌∷◌, ◌++◌, length, drop, take_while, pos, Option, Some, None, option_map, if◌then◌else◌, codes, find, bytes_eq}
+use Rattle.std.specs.List.{list_all, prefix_len}
 use Rattle.std.specs.Char.{is_ascii_digit, is_ascii_alphabetic}
 use Rattle.std.specs.Str.{str_eq_ignore_ascii_case}
 use Rattle.std.specs.Str.Parse.{digits_value}
@@ -44,6 +44,39 @@ single_quote = 39
 abbrev pub double_quote : ℕ
 double_quote = 34
 
+-- the point of a fixed-point number
+abbrev pub point : ℕ
+point = 46
+
+-- the digits behind a point that begins a text
+abbrev pub fraction : List ℕ → List ℕ
+fraction [] = []
+fraction (b ∷ rest) = if b == point then take_while is_ascii_digit rest else []
+
+-- how many bytes digits take together with the point before them, if there are any
+abbrev pub fraction_length : List ℕ → ℕ
+fraction_length [] = 0
+fraction_length (d ∷ ds) = length (d ∷ ds) + 1
+
+-- the digits that a text begins with, those behind a point that follows them, and how many bytes these are with it
+abbrev pub whole_digits : List ℕ → List ℕ
+whole_digits text = take_while is_ascii_digit text
+
+abbrev pub fraction_digits : List ℕ → List ℕ
+fraction_digits text = fraction (drop (prefix_len is_ascii_digit text) text)
+
+abbrev pub number_length : List ℕ → ℕ
+number_length text = prefix_len is_ascii_digit text + fraction_length (fraction_digits text)
+
+-- the lexeme of the digits before and behind a point: a fixed-point number where there are some behind it
+abbrev pub number_lexeme : List ℕ → List ℕ → Lexeme
+number_lexeme whole [] = lex.Number (pos (digits_value 10 whole))
+number_lexeme whole (d ∷ ds) = lex.Decimal (pos (digits_value 10 (whole ++ d ∷ ds))) (length (d ∷ ds))
+
+-- how many digits may stand behind a point
+abbrev pub is_scale : ℕ → Bool
+is_scale digits = nat_lt 0 digits && nat_lt digits 10
+
 -- whether a byte begins a name, a number, a text or a quoted name
 abbrev pub begins_run : ℕ → Bool
 begins_run b = begins_name b || is_ascii_digit b || (b == single_quote) || (b == double_quote)
@@ -70,7 +103,7 @@ spelled (b ∷ rest) =
     if begins_name b then (if list_all continues_name rest then Some (word_lexeme (b ∷ rest) (entry_of keywords (b ∷ rest))) else None)
     else if b == double_quote then option_map lex.Quoted (unquoted b false rest)
     else if b == single_quote then option_map lex.Text (unquoted b false rest)
-    else if is_ascii_digit b then (if list_all is_ascii_digit rest then Some (lex.Number (pos (digits_value 10 (b ∷ rest)))) else None)
+    else if is_ascii_digit b then (if number_length (b ∷ rest) == length (b ∷ rest) then Some (number_lexeme (whole_digits (b ∷ rest)) (fraction_digits (b ∷ rest))) else None)
     else option_map lex.Symbol (symbol_named (b ∷ rest))
 
 -- whether a whole text is a name

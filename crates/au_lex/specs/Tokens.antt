@@ -1,14 +1,15 @@
 -- The tokens of a text, and the faults in their place.
-use Rattle.std.specs.Prelude.{◌≡◌, ◌⊎◌, ◌<◌, ◌≤◌, ℕ, zero, suc, ◌+◌, ◌-◌, ◌^◌, ◌==◌, ◌&&◌, ◌||◌, Bool, true, false, not, List, [], ◌∷◌, ◌++◌, length, drop, take, take_while, Option, Some, None, Result, Ok, Err, if◌then◌else◌, nat_eq, nat_lt, slice_index, slice_range, codes}
+use Rattle.std.specs.Prelude.{◌≡◌, ◌⊎◌, ◌<◌, ◌≤◌, ℕ, zero, suc, ◌+◌, ◌-◌, ◌^◌, ◌==◌, ◌&&◌, ◌||◌, Bool, IsTrue, true, false, not, List, [], ◌∷◌, ◌++◌, length, drop, take, Option, Some, None, Result, Ok, Err, if◌then◌else◌, nat_eq, nat_lt, slice_index, slice_range, codes}
 use Rattle.std.specs.List.{starts_with}
 use Rattle.std.specs.Char.{is_ascii_digit}
 use Rattle.std.specs.Str.{IsUtf8}
 use Rattle.std.specs.Str.Parse.{digits_value}
 use Rattle.au_lex.specs.declared.Lexeme.{Lexeme}
+use Rattle.au_lex.specs.declared.Lexeme.TheVariants.{Decimal}
 use Rattle.au_lex.specs.declared.Token.{Token}
 use Rattle.au_lex.specs.declared.LexFault.{LexFault}
 use Rattle.au_lex.specs.declared.LexFault.TheVariants.{BadChar, OpenText, BadNumber, TooManyTokens}
-use Rattle.au_lex.specs.Lexemes.{spelled, single_quote, double_quote, begins_name}
+use Rattle.au_lex.specs.Lexemes.{spelled, single_quote, double_quote, begins_name, is_scale, whole_digits, fraction_digits, number_length}
 
 -- space, tab, line feed and carriage return
 abbrev pub is_space : ℕ → Bool
@@ -36,11 +37,14 @@ abbrev pub is_open : List ℕ → Bool
 is_open [] = false
 is_open (b ∷ rest) = ((b == single_quote) || (b == double_quote)) && not (has_end b false rest)
 
--- whether digits begin here that are too many or too great, or run into a letter or `_`
+-- whether digits begin here, perhaps with a point among them, that are too many, too many behind the point or too great, or run into a letter or `_`
 abbrev pub is_bad_number : List ℕ → Bool
 is_bad_number text =
-    let digits = take_while is_ascii_digit text in
-    nat_lt 0 (length digits) && (nat_lt 39 (length digits) || nat_lt (2 ^ 127 - 1) (digits_value 10 digits) || begins_name (slice_index text (length digits)))
+    let whole = whole_digits text in
+    let fraction = fraction_digits text in
+    nat_lt 0 (length whole)
+    && (nat_lt 39 (length (whole ++ fraction)) || nat_lt 9 (length fraction) || nat_lt (2 ^ 127 - 1) (digits_value 10 (whole ++ fraction))
+    || begins_name (slice_index text (number_length text)))
 
 -- the longest front of a text, of n bytes at most, that spells a lexeme: its length and the lexeme
 abbrev pub or_shorter : ℕ → Option Lexeme → Option (ℕ × Lexeme) → Option (ℕ × Lexeme)
@@ -113,6 +117,15 @@ tokens_of text = tokens_from 4096 0 text
 abbrev pub Spans : List ℕ → ℕ → List Token → Type 0
 Spans text from [] = Unit {0}
 Spans text from (t ∷ ts) = (from ≤ t.from) × (t.from < t.to) × (t.to ≤ length text) × (spelled (slice_range text t.from t.to) ≡ Some t.what) × Spans text t.to ts
+
+-- 1 to 9 digits stand behind each point
+abbrev pub HasScale : Lexeme → Type 0
+HasScale (Decimal n digits) = IsTrue (is_scale digits)
+HasScale _ = Unit {0}
+
+abbrev pub HaveScales : List Token → Type 0
+HaveScales [] = Unit {0}
+HaveScales (t ∷ ts) = HasScale t.what × HaveScales ts
 
 -- tokens that stand before others, or the fault in their place
 abbrev pub tokens_then : List Token → Result (List Token) LexFault → Result (List Token) LexFault

@@ -1,11 +1,11 @@
 //! The lexeme that begins a text.
-ghost use Rattle.std.specs.Prelude.{◌≡◌, ◌+◌, ◌<◌, ◌≤◌, ◌==◌, ◌^◌, ◌⊎◌, ◌∷◌, [], true, false, length, Some, None, take, Ok, Err, IfOk, IfErr, IfSome, drop, slice_index, option_map};
+ghost use Rattle.std.specs.Prelude.{◌≡◌, ◌+◌, ◌<◌, ◌≤◌, ◌==◌, ◌^◌, ◌⊎◌, ◌∷◌, ◌++◌, ◌-◌, ◌||◌, nat_lt, [], true, false, length, Some, None, take, Ok, Err, IfOk, IfErr, IfSome, drop, slice_index, option_map};
 ghost use Rattle.std.specs.List.{list_all};
 ghost use Rattle.std.specs.Char.{is_ascii_digit};
 ghost use Rattle.std.specs.Option.{option_or};
 ghost use Rattle.std.specs.Str.{IsUtf8, str_eq_ignore_ascii_case};
-ghost use Rattle.au_lex.specs.Fronts.{quoted_front, behind_unit, number_within, symbol_front};
-ghost use Rattle.au_lex.specs.Lexemes.{begins_name, begins_run, entry_of, keywords, symbol_named};
+ghost use Rattle.au_lex.specs.Fronts.{quoted_front, behind_unit, most, number_after, number_within, scaled, symbol_front};
+ghost use Rattle.au_lex.specs.Lexemes.{begins_name, begins_run, entry_of, fraction, fraction_length, keywords, symbol_named};
 ghost use Rattle.au_lex.specs.Tokens.{one_too_many, token_at, Finds, IsQuote, IsOther};
 
 use crate::scan::{begins_name, behind, digits_length, word_length};
@@ -162,13 +162,14 @@ fn quoted(alloc: Global, text: &[u8], quote: u8) -> Result<Option<(usize, Vec<u8
 
 const MOST: u128 = 0x7fff_ffff_ffff_ffff_ffff_ffff_ffff_ffff;
 
-// The number of digits, if it is not too great.
-fn number_within(digits: &[u8]) -> Option<i128>
-    requires { list_all is_ascii_digit digits.now ≡ true }
-    ensures { result ≡ number_within digits.now }
+// The number of digits behind others of this value, if it is not too great.
+fn number_after(before: u128, digits: &[u8]) -> Option<u128>
+    requires few { before ≤ most }
+    requires digits { list_all is_ascii_digit digits.now ≡ true }
+    ensures { result ≡ number_after before digits.now }
 {
     let mut rest = digits;
-    let mut value: u128 = 0;
+    let mut value = before;
     while let Some((digit, others)) = rest.split_first() {
         if value > MOST / 10 {
             return None;
@@ -179,7 +180,55 @@ fn number_within(digits: &[u8]) -> Option<i128>
         }
         rest = others;
     }
-    Some(value as i128)
+    Some(value)
+}
+
+// The number of the digits before and behind a point, if it is not too great.
+fn number_within(whole: &[u8], fraction: &[u8]) -> Option<i128>
+    requires whole { list_all is_ascii_digit whole.now ≡ true }
+    requires fraction { list_all is_ascii_digit fraction.now ≡ true }
+    ensures { result ≡ number_within (whole.now ++ fraction.now) }
+{
+    match number_after(0, whole) {
+        Some(before) => match number_after(before, fraction) {
+            Some(value) => Some(value as i128),
+            None => None,
+        },
+        None => None,
+    }
+}
+
+// The digits behind a point that begins a text.
+fn fraction(text: &[u8]) -> &[u8]
+    ensures { result.now ≡ fraction text.now }
+{
+    match text.split_first() {
+        Some((b'.', rest)) => rest.split_at(digits_length(rest)).0,
+        _ => text.split_at(0).0,
+    }
+}
+
+// How many bytes digits take together with the point before them, if there are any.
+fn fraction_length(digits: &[u8]) -> usize
+    requires { length digits.now < 2 ^ 64 - 1 }
+    ensures { result ≡ fraction_length digits.now }
+{
+    if digits.is_empty() {
+        0
+    } else {
+        digits.len() + 1
+    }
+}
+
+// The lexeme of a number with so many digits behind its point.
+fn scaled(n: i128, digits: u32) -> Lexeme
+    ensures { result ≡ scaled n digits }
+{
+    if digits == 0 {
+        Lexeme::Number(n)
+    } else {
+        Lexeme::Decimal(n, digits)
+    }
 }
 
 fn begins_with_name(text: &[u8]) -> bool
@@ -191,6 +240,13 @@ fn begins_with_name(text: &[u8]) -> bool
     }
 }
 
+// Whether digits before and behind a point are too many, or run into a letter or `_`.
+fn is_misshapen(whole: &[u8], fraction: &[u8], rest: &[u8]) -> bool
+    ensures { result ≡ (nat_lt 39 (length (whole.now ++ fraction.now)) || nat_lt 9 (length fraction.now) || begins_name (slice_index rest.now 0)) }
+{
+    fraction.len() > 9 || whole.len() > 39 - fraction.len() || begins_with_name(rest)
+}
+
 // The number that begins a text.
 fn number(text: &[u8], at: usize) -> Result<(usize, Lexeme), LexFault>
     requires some { 0 < length text.now }
@@ -198,13 +254,14 @@ fn number(text: &[u8], at: usize) -> Result<(usize, Lexeme), LexFault>
     ensures found { IfOk result (λ r. Finds at text.now r.0 r.1) }
     ensures fault { IfErr result (λ e. token_at at text.now ≡ Err e) }
 {
-    let count = digits_length(text);
-    let (digits, rest) = text.split_at(count);
-    if count > 39 || begins_with_name(rest) {
+    let (whole, behind_whole) = text.split_at(digits_length(text));
+    let digits = fraction(behind_whole);
+    let (_, rest) = behind_whole.split_at(fraction_length(digits));
+    if is_misshapen(whole, digits, rest) {
         return Err(LexFault::BadNumber(at));
     }
-    match number_within(digits) {
-        Some(n) => Ok((count, Lexeme::Number(n))),
+    match number_within(whole, digits) {
+        Some(n) => Ok((text.len() - rest.len(), scaled(n, digits.len() as u32))),
         None => Err(LexFault::BadNumber(at)),
     }
 }

@@ -79,6 +79,8 @@ pub enum Lexeme {
     Text(Word),
     /// Up to 39 digits; at least 0 and at most 2^127-1.
     Number(i128),
+    /// Digits, a point and 1 to 9 digits, up to 39 in all: the number of all digits, and how many stand behind the point.
+    Decimal(i128, u32),
     Symbol(Symbol),
 }
 
@@ -97,7 +99,8 @@ pub enum LexFault {
     BadChar(usize),
     /// The text or quoted name that begins here has no end.
     OpenText(usize),
-    /// The digits that begin here are more than 39, pass 2^127-1, or run into a letter or `_`.
+    /// The digits that begin here, perhaps with a point among them, are more than 39, or more than 9 behind the point,
+    /// pass 2^127-1 without the point, or run into a letter or `_`.
     BadNumber(usize),
     /// A 4,097th token begins, whatever it would be.
     TooManyTokens,

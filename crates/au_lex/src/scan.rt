@@ -4,7 +4,7 @@ ghost use Rattle.std.specs.List.{prefix_len};
 ghost use Rattle.std.specs.Char.{is_ascii_digit};
 ghost use Rattle.std.specs.Str.{IsUtf8};
 ghost use Rattle.au_lex.specs.Lexemes.{begins_name, continues_name, word_lexeme, entry_of, keywords};
-ghost use Rattle.au_lex.specs.Tokens.{is_space, after_blank, blank_length, token_at, tokens_from, tokens_of, longest, GoesOn, Spans};
+ghost use Rattle.au_lex.specs.Tokens.{is_space, after_blank, blank_length, token_at, tokens_from, tokens_of, longest, GoesOn, HaveScales, Spans};
 
 use crate::front::{lexeme_at, one_too_many};
 use crate::{LexFault, Token, TokenList};
@@ -75,7 +75,8 @@ fn name_length(text: &[u8]) -> usize
 
 /// How many digits a text begins with.
 pub fn digits_length(text: &[u8]) -> usize
-    ensures { result ≡ prefix_len is_ascii_digit text.now }
+    ensures length { result ≡ prefix_len is_ascii_digit text.now }
+    ensures within { result ≤ length text.now }
 {
     text.iter().take_while(|b| b.is_ascii_digit()).count()
 }
@@ -181,6 +182,7 @@ fn token_list(alloc: Global, text: &[u8]) -> Result<Vec<Token>, LexFault>
 pub fn tokens(alloc: Global, text: &str) -> Result<TokenList, LexFault>
     ensures tokens { IfOk result (λ ts. tokens_of text.now ≡ Ok ts) }
     ensures spans { IfOk result (Spans text.now 0) }
+    ensures scales { IfOk result HaveScales }
     ensures fault { IfErr result (λ e. (e ≡ LexFault.NoMemory) ⊎ (tokens_of text.now ≡ Err e)) }
 {
     match token_list(alloc, text.as_bytes()) {

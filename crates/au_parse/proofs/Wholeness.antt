@@ -4,6 +4,7 @@ use Rattle.std.specs.Prelude.{Option, IfSome, option_map, option_and_then, is_so
 use Rattle.au_lex.specs.declared.Keyword.TheVariants as key
 use Rattle.au_lex.specs.declared.Lexeme.{Lexeme}
 use Rattle.au_lex.specs.declared.Lexeme.TheVariants as lex
+use Rattle.au_lex.specs.Lexemes.{is_scale}
 use Rattle.au_lex.specs.declared.Token.{Token}
 use Rattle.au_parse.specs.declared.AggWord.{AggWord}
 use Rattle.au_parse.specs.declared.Name.{Name}
@@ -43,6 +44,11 @@ whole_atom : (at : ℕ) (what : Lexeme) → Whole (atom at what)
 whole_atom at (lex.Name w) = tt
 whole_atom at (lex.Quoted w) = tt
 whole_atom at (lex.Number n) = tt
+whole_atom at (lex.Decimal n digits) = by_test (is_scale digits) refl
+  where
+    by_test : (v : Bool) → is_scale digits ≡ v → Whole (if v then Some (Tree.decimal at n digits) else None)
+    by_test true is = is
+    by_test false is = tt
 whole_atom at (lex.Text w) = tt
 whole_atom at (lex.Key key.True) = tt
 whole_atom at (lex.Key key.False) = tt

@@ -15,6 +15,8 @@ pub data Operator : Type 0 where
 pub data Tree : Type 0 where
   column : Name → Tree
   number : ℕ → ℤ → Tree
+  -- a number without its point, and how many digits stand behind the point
+  decimal : ℕ → ℤ → ℕ → Tree
   text : ℕ → List ℕ → Tree
   flag : ℕ → Bool → Tree
   binary : ℕ → Operator → Tree → Tree → Tree

@@ -1,5 +1,7 @@
--- What holds of each statement that is read: a SELECT has a source, and keys exactly where GROUP BY is written; a CASE has a WHEN part.
-use Rattle.std.specs.Prelude.{◌≡◌, Bool, true, false, List, [], ◌∷◌, IfSome}
+-- What holds of each statement that is read: a SELECT has a source, and keys exactly where GROUP BY is written; a CASE has a WHEN part;
+-- behind the point of a number stand 1 to 9 digits.
+use Rattle.std.specs.Prelude.{◌≡◌, Bool, IsTrue, true, false, List, [], ◌∷◌, IfSome}
+use Rattle.au_lex.specs.Lexemes.{is_scale}
 use Rattle.au_parse.specs.declared.Name.{Name}
 use Rattle.au_parse.specs.Tree.{Tree, ItemTree, QueryTree, Sources}
 
@@ -15,6 +17,7 @@ WholeTerm (Tree.not at e) = WholeTerm e
 WholeTerm (Tree.case at parts) = HasWhen parts × WholeTerm parts
 WholeTerm (Tree.when condition value rest) = WholeTerm condition × WholeTerm value × WholeTerm rest
 WholeTerm (Tree.aggregate at word e) = WholeTerm e
+WholeTerm (Tree.decimal at n digits) = IsTrue (is_scale digits)
 WholeTerm _ = Unit {0}
 
 abbrev pub WholeItem : ItemTree → Type 0

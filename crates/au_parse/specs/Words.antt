@@ -92,6 +92,7 @@ ends_operand (lex.Name w) = true
 ends_operand (lex.Quoted w) = true
 ends_operand (lex.Text w) = true
 ends_operand (lex.Number n) = true
+ends_operand (lex.Decimal n digits) = true
 ends_operand (lex.Key key.True) = true
 ends_operand (lex.Key key.False) = true
 ends_operand (lex.Key key.End) = true

@@ -46,6 +46,8 @@ pub struct Name {
 pub enum Term {
     Column(Name),
     Number(usize, i128),
+    /// A number without its point, and how many digits stand behind the point: 1 to 9.
+    Decimal(usize, i128, u32),
     Text(usize, Word),
     Flag(usize, bool),
     Add(usize, Box<Term>, Box<Term>),

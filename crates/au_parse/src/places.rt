@@ -38,7 +38,7 @@ fn joins(what: &Lexeme) -> bool {
 // Whether a lexeme can't stand directly behind an operand.
 fn begins(what: &Lexeme) -> bool {
     match what {
-        Lexeme::Text(_) | Lexeme::Number(_) => true,
+        Lexeme::Text(_) | Lexeme::Number(_) | Lexeme::Decimal(_, _) => true,
         Lexeme::Key(key) => matches!(
             key,
             Keyword::Select

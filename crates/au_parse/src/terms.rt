@@ -1,5 +1,6 @@
 //! Expressions: each call reads a list of tokens as a whole, cut at the operators of its level from the left.
-ghost use Rattle.std.specs.Prelude.{◌≡◌, ◌<◌, ◌≤◌, length, false, true, Some, None, option_map, IfOk, IfNone, IfSome};
+ghost use Rattle.std.specs.Prelude.{◌≡◌, ◌<◌, ◌≤◌, length, false, true, Some, None, option_map, IfOk, IfNone, IfSome, if◌then◌else◌};
+ghost use Rattle.au_lex.specs.Lexemes.{is_scale};
 ghost use Rattle.au_parse.specs.Expressions.{aggregate_tree, atom, both, case_tree, column_of, comparison_step, counts_rows, expression, not_step, primary, sign_step};
 ghost use Rattle.au_parse.specs.Levels.{arms_tree, begins_with_when, below, IsWhen, level_step, mark_kind, mark_of, operator_of, tree_read, Reads, ReadsArm, ReadsElse, ReadsInside, ReadsNoArm};
 ghost use Rattle.au_parse.specs.Tree.{Operator, Tree};
@@ -115,6 +116,17 @@ fn joined_if(
     }
 }
 
+// A number with so many digits behind its point: 1 to 9.
+fn decimal(at: usize, n: i128, digits: u32) -> Option<Term>
+    ensures { tree_read result ≡ (if is_scale digits then Some (Tree.decimal at n digits) else None) }
+{
+    if 0 < digits && digits < 10 {
+        Some(Term::Decimal(at, n, digits))
+    } else {
+        None
+    }
+}
+
 // A token alone.
 fn atom(alloc: Global, token: &Token) -> Result<Option<Term>, AllocError>
     ensures { IfOk result (λ o. tree_read o ≡ atom token.now.from token.now.what) }
@@ -130,6 +142,7 @@ fn atom(alloc: Global, token: &Token) -> Result<Option<Term>, AllocError>
             })))
         }
         Lexeme::Number(n) => Ok(Some(Term::Number(at, *n))),
+        Lexeme::Decimal(n, digits) => Ok(decimal(at, *n, *digits)),
         Lexeme::Text(word) => Ok(Some(Term::Text(at, copied(alloc, word)?))),
         Lexeme::Key(Keyword::True) => Ok(Some(Term::Flag(at, true))),
         Lexeme::Key(Keyword::False) => Ok(Some(Term::Flag(at, false))),

@@ -111,7 +111,8 @@ pub fn ends_operand(what: &Lexeme) -> bool
     ensures { result ≡ ends_operand what.now }
 {
     match what {
-        Lexeme::Name(_) | Lexeme::Quoted(_) | Lexeme::Text(_) | Lexeme::Number(_) => true,
+        Lexeme::Name(_) | Lexeme::Quoted(_) => true,
+        Lexeme::Text(_) | Lexeme::Number(_) | Lexeme::Decimal(_, _) => true,
         Lexeme::Key(key) => matches!(key, Keyword::True | Keyword::False | Keyword::End),
         Lexeme::Symbol(symbol) => matches!(symbol, Symbol::Close),
     }

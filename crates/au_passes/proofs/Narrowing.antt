@@ -7,6 +7,7 @@ use Rattle.au_value.specs.declared.kinds.Kind.{Kind}
 use Rattle.au_value.specs.declared.kinds.Kind.TheVariants as kind
 use Rattle.au_value.specs.declared.value.Value.{Value}
 use Rattle.au_value.specs.Order.{kind_eq}
+use Rattle.au_value.specs.KindLaws.{kind_itself}
 use Rattle.au_expr.specs.Figures.{Fit}
 use Rattle.au_expr.specs.Kinds.{is_kind}
 use Rattle.au_expr.specs.Ordinary.{is_true}
@@ -219,11 +220,6 @@ of_filter p q places found e n read =
     }
 
 -- ---- unions
-
-kind_itself : (k : Kind) → kind_eq k k ≡ true
-kind_itself kind.Int = refl
-kind_itself kind.Text = refl
-kind_itself kind.Flag = refl
 
 same_kinds_itself : (ks : List Kind) → same_kinds ks ks ≡ true
 same_kinds_itself [] = refl

@@ -1,7 +1,9 @@
+-- The definitions, in the order in which they are to be read.
 pub mod Keeps
 pub mod Conditions
 pub mod Tests
 pub mod Pushing
-pub mod Places
 pub mod Reading
+-- What the contracts of inner calls and the proofs speak of.
+pub mod Places
 pub mod Pruning

@@ -1,7 +1,10 @@
 pub mod Csv
 pub mod CertainRows
 pub mod CountedRuns
+pub mod FixedPoint
+pub mod KindCells
 pub mod PlacedRows
+pub mod ShownDigits
 pub mod GuessWorlds
 pub mod TableWidths
 pub mod TripleSums

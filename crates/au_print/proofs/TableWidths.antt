@@ -5,7 +5,7 @@ use Rattle.std.proofs.lemmas.Bool.{cases_Bool, eqb-true}
 use Rattle.std.proofs.lemmas.List.Sums.{sum_by-cons}
 use Rattle.au_print.specs.Tables.{shown_byte, shown, begins_character, characters, widened, widened_at}
 
-none_widened : (ws : List ℕ) → widened ws [] ≡ ws
+pub none_widened : (ws : List ℕ) → widened ws [] ≡ ws
 none_widened [] = refl
 none_widened (w ∷ ws) = refl
 

@@ -4,6 +4,7 @@ use Rattle.std.specs.Prelude.{ℕ, Bool, List, [], ◌∷◌, ◌++◌, map, fla
 use Rattle.std.specs.List.{list_all}
 use Rattle.std.specs.Ordering.{is_le}
 use Rattle.std.specs.Cmp.Lexicographic.{slice_cmp}
+use Rattle.au_value.specs.declared.kinds.Kind.{Kind}
 use Rattle.au_value.specs.declared.value.Value.{Value}
 use Rattle.au_value.specs.Order.{order}
 use Rattle.au_annot.specs.Counts.{fits}
@@ -11,7 +12,7 @@ use Rattle.au_algebra.specs.Counted.{CountedRow, occurring, count_of}
 use Rattle.au_algebra.specs.Entries.{entry}
 use Rattle.au_algebra.specs.Lists.{distinct, same_row, copies}
 use Rattle.au_algebra.specs.Ordinary.{Rows}
-use Rattle.au_print.specs.Texts.{value_text, record_text}
+use Rattle.au_print.specs.Texts.{value_texts, record_text}
 
 -- the row before the first that is not below it, by values from the first column on
 abbrev pub insert_values : List Value → Rows → Rows
@@ -38,16 +39,16 @@ world_rows world = map (λ v. entry v (copies v world)) (in_order (distinct same
 abbrev pub counts_fit : List CountedRow → Bool
 counts_fit rows = list_all (λ r. fits r.annot) rows
 
--- a record of the names, and one of the count and the values for each row
-abbrev pub counted_fields : CountedRow → List (List ℕ)
-counted_fields r = decimal r.annot ∷ map value_text r.cells
+-- a record of the names, and one of the count and the values for each row, in columns of these kinds
+abbrev pub counted_fields : List Kind → CountedRow → List (List ℕ)
+counted_fields kinds r = decimal r.annot ∷ value_texts kinds r.cells
 
-abbrev pub counted_text : List (List ℕ) → List CountedRow → List ℕ
-counted_text names rows =
-    record_text (codes "row" ∷ names) ++ flat_map (λ r. record_text (counted_fields r)) rows
+abbrev pub counted_text : List (List ℕ) → List Kind → List CountedRow → List ℕ
+counted_text names kinds rows =
+    record_text (codes "row" ∷ names) ++ flat_map (λ r. record_text (counted_fields kinds r)) rows
 
-abbrev pub guess_text : List (List ℕ) → List CountedRow → List ℕ
-guess_text names rows = counted_text names (guess_rows rows)
+abbrev pub guess_text : List (List ℕ) → List Kind → List CountedRow → List ℕ
+guess_text names kinds rows = counted_text names kinds (guess_rows rows)
 
-abbrev pub world_text : List (List ℕ) → Rows → List ℕ
-world_text names world = counted_text names (world_rows world)
+abbrev pub world_text : List (List ℕ) → List Kind → Rows → List ℕ
+world_text names kinds world = counted_text names kinds (world_rows world)

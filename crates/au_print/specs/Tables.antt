@@ -1,6 +1,7 @@
 -- The text of an answer as a table: a column for each name, as wide as its widest text, and last one of multiplicities.
 -- Texts are UTF-8, where each byte but those of the form 10xxxxxx begins a character.
 use Rattle.std.specs.Prelude.{ℕ, zero, suc, ◌-◌, Bool, ◌||◌, ◌==◌, nat_lt, nat_le, max, List, [], ◌∷◌, ◌++◌, map, flat_map, fold, replicate, count_by, codes, decimal, if◌then◌else◌}
+use Rattle.au_value.specs.declared.kinds.Kind.{Kind}
 use Rattle.au_value.specs.declared.value.Value.{Value}
 use Rattle.au_value.specs.Ranges.{Span, is_certain}
 use Rattle.au_annot.specs.Triples.{Counts}
@@ -22,14 +23,19 @@ abbrev pub characters : List ℕ → ℕ
 characters text = count_by begins_character text
 
 -- the value of a certain range, and else the three values
-abbrev pub shown_value : Value → List ℕ
-shown_value v = shown (value_text v)
+abbrev pub shown_value : Kind → Value → List ℕ
+shown_value k v = shown (value_text k v)
 
-abbrev pub cell_text : Span → List ℕ
-cell_text r =
+abbrev pub cell_text : Kind → Span → List ℕ
+cell_text k r =
     if is_certain r
-    then shown_value r.sg
-    else codes "[" ++ shown_value r.lo ++ codes "/" ++ shown_value r.sg ++ codes "/" ++ shown_value r.hi ++ codes "]"
+    then shown_value k r.sg
+    else codes "[" ++ shown_value k r.lo ++ codes "/" ++ shown_value k r.sg ++ codes "/" ++ shown_value k r.hi ++ codes "]"
+
+-- the cells of a row, in columns of these kinds
+abbrev pub cell_texts : List Kind → List Span → List (List ℕ)
+cell_texts (k ∷ kinds) (r ∷ ranges) = cell_text k r ∷ cell_texts kinds ranges
+cell_texts _ _ = []
 
 abbrev pub triple_text : Counts → List ℕ
 triple_text t = decimal t.least ++ codes "/" ++ decimal t.guess ++ codes "/" ++ decimal t.most
@@ -47,9 +53,9 @@ widened_at (w ∷ widths) zero n = max w n ∷ widths
 widened_at (w ∷ widths) (suc i) n = w ∷ widened_at widths i n
 
 -- the widths of the names' columns, and of the multiplicities' column
-abbrev pub column_widths : List (List ℕ) → Bounded → List ℕ
-column_widths names rows =
-    fold (λ widths r. widened widths (map cell_text r.cells)) (map (λ n. characters (shown n)) names) rows
+abbrev pub column_widths : List (List ℕ) → List Kind → Bounded → List ℕ
+column_widths names kinds rows =
+    fold (λ widths r. widened widths (cell_texts kinds r.cells)) (map (λ n. characters (shown n)) names) rows
 
 abbrev pub triple_width : Bounded → ℕ
 triple_width rows = fold (λ w r. max w (characters (triple_text r.annot))) (characters (codes "row")) rows
@@ -70,11 +76,11 @@ line widths last texts text = barred widths texts ++ filled last text ++ codes "
 abbrev pub rule : List ℕ → ℕ → List ℕ
 rule widths last = flat_map (λ w. replicate w 45 ++ codes "-+-") widths ++ replicate last 45 ++ codes "\n"
 
--- the table of an answer with these column names and these rows, in this order
-abbrev pub table_text : List (List ℕ) → Bounded → List ℕ
-table_text names rows =
-    let widths = column_widths names rows in
+-- the table of an answer with columns of these names and kinds and with these rows, in this order
+abbrev pub table_text : List (List ℕ) → List Kind → Bounded → List ℕ
+table_text names kinds rows =
+    let widths = column_widths names kinds rows in
     let last = triple_width rows in
     line widths last (map shown names) (codes "row")
     ++ rule widths last
-    ++ flat_map (λ r. line widths last (map cell_text r.cells) (triple_text r.annot)) rows
+    ++ flat_map (λ r. line widths last (cell_texts kinds r.cells) (triple_text r.annot)) rows

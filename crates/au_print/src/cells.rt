@@ -1,9 +1,11 @@
 //! The texts of a table's cells.
-ghost use Rattle.std.specs.Prelude.{◌≡◌, ◌++◌, OnOk, replicate, decimal, codes, map};
+ghost use Rattle.std.specs.Prelude.{◌≡◌, ◌++◌, OnOk, decimal, codes, map};
+ghost use Rattle.au_print.specs.Texts.{number_text};
 ghost use Rattle.au_print.specs.Tables.{shown_byte as shown_byte_of, shown, begins_character as begins_character_of, characters as characters_of, shown_value, cell_text, triple_text};
 
+use crate::fixed::push_fixed;
 use au_annot::{Count, Triple};
-use au_value::{NoMemory, Range, Value};
+use au_value::{Kind, NoMemory, Range, Value};
 use itoa::Buffer;
 
 // A control character is shown as a question mark.
@@ -37,16 +39,6 @@ pub fn characters(text: &[u8]) -> usize
     count
 }
 
-/// Puts a byte so many times behind a text.
-pub fn push_repeated(text: &mut Vec<u8>, byte: u8, count: usize) -> Result<(), NoMemory>
-    ensures { OnOk result (text.new.items ≡ text.old.items ++ replicate count byte) }
-{
-    for _ in 0..count {
-        text.push(byte)?;
-    }
-    Ok(())
-}
-
 /// Puts a text as it is shown behind another.
 pub fn push_shown(text: &mut Vec<u8>, bytes: &[u8]) -> Result<(), NoMemory>
     ensures { OnOk result (text.new.items ≡ text.old.items ++ shown bytes.now) }
@@ -57,33 +49,43 @@ pub fn push_shown(text: &mut Vec<u8>, bytes: &[u8]) -> Result<(), NoMemory>
     Ok(())
 }
 
-fn push_value(text: &mut Vec<u8>, value: &Value) -> Result<(), NoMemory>
-    ensures { OnOk result (text.new.items ≡ text.old.items ++ shown_value value.now) }
+fn push_value(text: &mut Vec<u8>, kind: Kind, value: &Value) -> Result<(), NoMemory>
+    ensures { OnOk result (text.new.items ≡ text.old.items ++ shown_value kind value.now) }
 {
     match value {
-        Value::Int(n) => {
-            let mut buffer = Buffer::new();
-            push_shown(text, buffer.format(*n).as_bytes())
-        }
+        Value::Int(n) => push_number(text, kind, *n),
         Value::Text(word) => push_shown(text, word.as_str().as_bytes()),
         Value::Flag(true) => push_shown(text, b"true"),
         Value::Flag(false) => push_shown(text, b"false"),
     }
 }
 
-/// Puts the value of a certain range behind a text, and else its three values.
-pub fn push_cell(text: &mut Vec<u8>, range: &Range) -> Result<(), NoMemory>
-    ensures { OnOk result (text.new.items ≡ text.old.items ++ cell_text range.now) }
+// No character of a number is a control character.
+fn push_number(text: &mut Vec<u8>, kind: Kind, n: i128) -> Result<(), NoMemory>
+    ensures { OnOk result (text.new.items ≡ text.old.items ++ shown (number_text kind n)) }
+{
+    match kind {
+        Kind::Dec(scale) => push_fixed(text, n, scale),
+        Kind::Int | Kind::Text | Kind::Flag => {
+            let mut buffer = Buffer::new();
+            push_shown(text, buffer.format(n).as_bytes())
+        }
+    }
+}
+
+/// Puts the value of a certain range of a column of this kind behind a text, and else its three values.
+pub fn push_cell(text: &mut Vec<u8>, kind: Kind, range: &Range) -> Result<(), NoMemory>
+    ensures { OnOk result (text.new.items ≡ text.old.items ++ cell_text kind range.now) }
 {
     if range.is_certain() {
-        return push_value(text, range.sg());
+        return push_value(text, kind, range.sg());
     }
     text.push(b'[')?;
-    push_value(text, range.lo())?;
+    push_value(text, kind, range.lo())?;
     text.push(b'/')?;
-    push_value(text, range.sg())?;
+    push_value(text, kind, range.sg())?;
     text.push(b'/')?;
-    push_value(text, range.hi())?;
+    push_value(text, kind, range.hi())?;
     text.push(b']')?;
     Ok(())
 }

@@ -1,10 +1,11 @@
 //! The fields of a printed record.
 ghost use Rattle.std.specs.Prelude.{◌≡◌, [], ◌∷◌, ◌++◌, OnOk, flat_map, map, decimal, codes};
 ghost use Rattle.csv.specs.Records.{fields_of, partial_of};
-ghost use Rattle.au_print.specs.Texts.{value_text, three_names, range_fields, count_fields, header_fields, row_fields};
+ghost use Rattle.au_print.specs.Texts.{number_text, value_text, value_texts, three_names, range_fields, cells_fields, count_fields, header_fields, row_fields};
 
+use crate::fixed::push_fixed;
 use au_annot::Triple;
-use au_value::{NoMemory, Range, Value, Word};
+use au_value::{Kind, NoMemory, Range, Value, Word};
 use csv::ByteRecord;
 use itoa::Buffer;
 use std::alloc::Global;
@@ -20,20 +21,71 @@ pub fn push_count(row: &mut ByteRecord, count: u128) -> Result<(), NoMemory>
     Ok(())
 }
 
-/// Adds the text of a value.
-pub fn push_value(row: &mut ByteRecord, value: &Value) -> Result<(), NoMemory>
+/// Adds the text of a value of a column of this kind. `room` is the memory in which a fixed-point number is formed; what
+/// it holds is of no account.
+pub fn push_value(
+    row: &mut ByteRecord,
+    room: &mut Vec<u8>,
+    kind: Kind,
+    value: &Value,
+) -> Result<(), NoMemory>
     requires { partial_of row.old ≡ [] }
-    ensures fields { OnOk result (fields_of row.new ≡ fields_of row.old ++ (value_text value.now ∷ [])) }
+    ensures fields { OnOk result (fields_of row.new ≡ fields_of row.old ++ (value_text kind value.now ∷ [])) }
     ensures whole { OnOk result (partial_of row.new ≡ []) }
 {
     match value {
-        Value::Int(n) => {
-            let mut buffer = Buffer::new();
-            row.push_field(buffer.format(*n).as_bytes())?;
-        }
+        Value::Int(n) => push_number(row, room, kind, *n)?,
         Value::Text(text) => row.push_field(text.as_str().as_bytes())?,
         Value::Flag(true) => row.push_field(b"true")?,
         Value::Flag(false) => row.push_field(b"false")?,
+    }
+    Ok(())
+}
+
+fn push_number(
+    row: &mut ByteRecord,
+    room: &mut Vec<u8>,
+    kind: Kind,
+    n: i128,
+) -> Result<(), NoMemory>
+    requires { partial_of row.old ≡ [] }
+    ensures fields { OnOk result (fields_of row.new ≡ fields_of row.old ++ (number_text kind n ∷ [])) }
+    ensures whole { OnOk result (partial_of row.new ≡ []) }
+{
+    match kind {
+        Kind::Dec(scale) => {
+            room.clear();
+            push_fixed(room, n, scale)?;
+            row.push_field(room.as_slice())?;
+        }
+        Kind::Int | Kind::Text | Kind::Flag => {
+            let mut buffer = Buffer::new();
+            row.push_field(buffer.format(n).as_bytes())?;
+        }
+    }
+    Ok(())
+}
+
+/// Adds the texts of a row's values, in columns of these kinds.
+pub fn push_values(
+    row: &mut ByteRecord,
+    room: &mut Vec<u8>,
+    kinds: &[Kind],
+    values: &[Value],
+) -> Result<(), NoMemory>
+    requires { partial_of row.old ≡ [] }
+    ensures fields { OnOk result (fields_of row.new ≡ fields_of row.old ++ value_texts kinds.now values.now) }
+    ensures whole { OnOk result (partial_of row.new ≡ []) }
+{
+    let mut kinds = kinds;
+    let mut values = values;
+    while let Some((kind, other_kinds)) = kinds.split_first() {
+        let Some((value, other_values)) = values.split_first() else {
+            return Ok(());
+        };
+        push_value(row, room, *kind, value)?;
+        kinds = other_kinds;
+        values = other_values;
     }
     Ok(())
 }
@@ -66,14 +118,42 @@ fn push_name(alloc: Global, row: &mut ByteRecord, name: &[u8]) -> Result<(), NoM
     push_with(alloc, row, name, b"_hi")
 }
 
-fn push_range(row: &mut ByteRecord, range: &Range) -> Result<(), NoMemory>
+fn push_range(
+    row: &mut ByteRecord,
+    room: &mut Vec<u8>,
+    kind: Kind,
+    range: &Range,
+) -> Result<(), NoMemory>
     requires { partial_of row.old ≡ [] }
-    ensures fields { OnOk result (fields_of row.new ≡ fields_of row.old ++ (range_fields range.now)) }
+    ensures fields { OnOk result (fields_of row.new ≡ fields_of row.old ++ (range_fields kind range.now)) }
     ensures whole { OnOk result (partial_of row.new ≡ []) }
 {
-    push_value(row, range.lo())?;
-    push_value(row, range.sg())?;
-    push_value(row, range.hi())
+    push_value(row, room, kind, range.lo())?;
+    push_value(row, room, kind, range.sg())?;
+    push_value(row, room, kind, range.hi())
+}
+
+fn push_ranges(
+    row: &mut ByteRecord,
+    room: &mut Vec<u8>,
+    kinds: &[Kind],
+    ranges: &[Range],
+) -> Result<(), NoMemory>
+    requires { partial_of row.old ≡ [] }
+    ensures fields { OnOk result (fields_of row.new ≡ fields_of row.old ++ cells_fields kinds.now ranges.now) }
+    ensures whole { OnOk result (partial_of row.new ≡ []) }
+{
+    let mut kinds = kinds;
+    let mut ranges = ranges;
+    while let Some((kind, other_kinds)) = kinds.split_first() {
+        let Some((range, other_ranges)) = ranges.split_first() else {
+            return Ok(());
+        };
+        push_range(row, room, *kind, range)?;
+        kinds = other_kinds;
+        ranges = other_ranges;
+    }
+    Ok(())
 }
 
 fn push_triple(row: &mut ByteRecord, triple: Triple) -> Result<(), NoMemory>
@@ -99,15 +179,18 @@ pub fn push_header(alloc: Global, row: &mut ByteRecord, names: &[Word]) -> Resul
     Ok(())
 }
 
-/// A row's fields.
-pub fn push_row(row: &mut ByteRecord, ranges: &[Range], triple: Triple) -> Result<(), NoMemory>
+/// A row's fields, in columns of these kinds. `room` is as in [`push_value`].
+pub fn push_row(
+    row: &mut ByteRecord,
+    room: &mut Vec<u8>,
+    kinds: &[Kind],
+    ranges: &[Range],
+    triple: Triple,
+) -> Result<(), NoMemory>
     requires { partial_of row.old ≡ [] }
-    ensures fields { OnOk result (fields_of row.new ≡ fields_of row.old ++ (count_fields triple ++ flat_map range_fields ranges.now)) }
+    ensures fields { OnOk result (fields_of row.new ≡ fields_of row.old ++ (count_fields triple ++ cells_fields kinds.now ranges.now)) }
     ensures whole { OnOk result (partial_of row.new ≡ []) }
 {
     push_triple(row, triple)?;
-    for range in ranges {
-        push_range(row, range)?;
-    }
-    Ok(())
+    push_ranges(row, room, kinds, ranges)
 }

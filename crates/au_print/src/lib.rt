@@ -3,13 +3,14 @@
 //! An [`Answer`] has the names, the kinds and the rows of a bounded answer. [`csv_text`] is its text as CSV: a least, a
 //! guessed and a greatest multiplicity, and a lower bound, a guess and an upper bound for each column. [`table_text`]
 //! is the same for the eye, a line for each row, in aligned columns. [`guess_text`] is the text of an answer over the
-//! guess world, each row once behind its count, and [`demo_text`] the four lines of a demonstration.
+//! guess world, each row once behind its count, and [`demo_text`] the four lines of a demonstration. A fixed-point number
+//! is printed with as many digits behind its point as its column's kind says.
 //!
 //! ```text
 //! let answer = Answer { names, kinds, rows: normal(alloc, rows)? };
 //! out.put(csv_text(alloc, &answer)?.as_slice())?;
 //! out.put(table_text(alloc, &answer)?.as_slice())?;
-//! out.put(guess_text(alloc, answer.names.as_slice(), &guessed)?.as_slice())
+//! out.put(guess_text(alloc, answer.names.as_slice(), answer.kinds.as_slice(), &guessed)?.as_slice())
 //! ```
 #![tactic(auto)]
 
@@ -18,9 +19,11 @@ mod cells;
 mod csv_form;
 mod demo_form;
 mod fields;
+mod fixed;
 mod guess_form;
 mod guess_rows;
 mod page;
+mod repeated;
 mod table_form;
 mod value_order;
 mod widths;

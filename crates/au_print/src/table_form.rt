@@ -2,29 +2,32 @@
 ghost use Rattle.std.specs.Prelude.{◌≡◌, ◌++◌, ◌-◌, ◌≤◌, IfOk, OnOk, length, drop, flat_map, map, replicate, codes};
 ghost use Rattle.std.specs.List.{AllByRecursion};
 ghost use Rattle.au_algebra.specs.Entries.{entry};
-ghost use Rattle.au_print.specs.Tables.{shown, characters as characters_of, cell_text, triple_text, filled, barred, line, rule, table_text as text_of};
+ghost use Rattle.au_print.specs.Tables.{shown, characters as characters_of, cell_texts, triple_text, filled, barred, line, rule, table_text as text_of};
 
 use crate::answer::Answer;
-use crate::cells::{characters, push_cell, push_repeated, push_shown, push_triple};
+use crate::cells::{characters, push_cell, push_shown, push_triple};
+use crate::repeated::push_repeated;
 use crate::widths::{Widths, measure};
 use au_annot::Triple;
-use au_value::{NoMemory, Range, Word};
+use au_value::{Kind, NoMemory, Range, Word};
 use std::alloc::Global;
 
 /// The text of an answer as an aligned table: a line of the names and `row`, a line of hyphens, and a line for each row
 /// in order. A cell is its value where the range is certain, else its three values. Control characters are shown as
 /// question marks.
 pub fn table_text(alloc: Global, answer: &Answer) -> Result<Vec<u8>, NoMemory>
-    requires { AllByRecursion (λ r. length r.cells ≡ length answer.now.names.items) answer.now.rows }
-    ensures { IfOk result (λ t. t.items ≡ text_of answer.now.names.items answer.now.rows) }
+    requires columns { length answer.now.kinds.items ≡ length answer.now.names.items }
+    requires rows { AllByRecursion (λ r. length r.cells ≡ length answer.now.names.items) answer.now.rows }
+    ensures { IfOk result (λ t. t.items ≡ text_of answer.now.names.items answer.now.kinds.items answer.now.rows) }
 {
     let names = answer.names.as_slice();
+    let kinds = answer.kinds.as_slice();
     let rows = answer.rows.rows();
-    let widths = measure(alloc, names, rows)?;
+    let widths = measure(alloc, names, kinds, rows)?;
     let mut text = Vec::new(alloc);
     push_header(&mut text, &widths, names)?;
     push_rule(&mut text, &widths)?;
-    push_rows(&mut text, &widths, rows)?;
+    push_rows(&mut text, &widths, kinds, rows)?;
     Ok(text)
 }
 
@@ -75,19 +78,29 @@ fn push_names(text: &mut Vec<u8>, widths: &[usize], names: &[Word]) -> Result<()
     Ok(())
 }
 
-fn push_cells(text: &mut Vec<u8>, widths: &[usize], ranges: &[Range]) -> Result<(), NoMemory>
-    ensures { OnOk result (text.new.items ≡ text.old.items ++ barred widths.now (map cell_text ranges.now)) }
+fn push_cells(
+    text: &mut Vec<u8>,
+    widths: &[usize],
+    kinds: &[Kind],
+    ranges: &[Range],
+) -> Result<(), NoMemory>
+    ensures { OnOk result (text.new.items ≡ text.old.items ++ barred widths.now (cell_texts kinds.now ranges.now)) }
 {
     let mut widths = widths;
+    let mut kinds = kinds;
     let mut ranges = ranges;
     while let Some((width, other_widths)) = widths.split_first() {
+        let Some((kind, other_kinds)) = kinds.split_first() else {
+            return Ok(());
+        };
         let Some((range, other_ranges)) = ranges.split_first() else {
             return Ok(());
         };
         let start = text.len();
-        push_cell(text, range)?;
+        push_cell(text, *kind, range)?;
         end_cell(text, start, *width)?;
         widths = other_widths;
+        kinds = other_kinds;
         ranges = other_ranges;
     }
     Ok(())
@@ -117,12 +130,13 @@ fn push_rule(text: &mut Vec<u8>, widths: &Widths) -> Result<(), NoMemory>
 fn push_row(
     text: &mut Vec<u8>,
     widths: &Widths,
+    kinds: &[Kind],
     ranges: &[Range],
     triple: Triple,
 ) -> Result<(), NoMemory>
-    ensures { OnOk result (text.new.items ≡ text.old.items ++ line widths.now.columns.items widths.now.row (map cell_text ranges.now) (triple_text triple)) }
+    ensures { OnOk result (text.new.items ≡ text.old.items ++ line widths.now.columns.items widths.now.row (cell_texts kinds.now ranges.now) (triple_text triple)) }
 {
-    push_cells(text, widths.columns.as_slice(), ranges)?;
+    push_cells(text, widths.columns.as_slice(), kinds, ranges)?;
     let start = text.len();
     push_triple(text, triple)?;
     end_line(text, start, widths.row)
@@ -131,12 +145,13 @@ fn push_row(
 fn push_rows(
     text: &mut Vec<u8>,
     widths: &Widths,
+    kinds: &[Kind],
     rows: &[(Vec<Range>, Triple)],
 ) -> Result<(), NoMemory>
-    ensures { OnOk result (text.new.items ≡ text.old.items ++ flat_map (λ r. line widths.now.columns.items widths.now.row (map cell_text r.cells) (triple_text r.annot)) (map (λ r. entry r.0.items r.1) rows.now)) }
+    ensures { OnOk result (text.new.items ≡ text.old.items ++ flat_map (λ r. line widths.now.columns.items widths.now.row (cell_texts kinds.now r.cells) (triple_text r.annot)) (map (λ r. entry r.0.items r.1) rows.now)) }
 {
     for (ranges, triple) in rows {
-        push_row(text, widths, ranges.as_slice(), *triple)?;
+        push_row(text, widths, kinds, ranges.as_slice(), *triple)?;
     }
     Ok(())
 }

@@ -1,11 +1,11 @@
 //! The widths of a table's columns.
 ghost use Rattle.std.specs.Prelude.{◌≡◌, OnOk, IfOk, map, max, length, fold, codes};
 ghost use Rattle.au_algebra.specs.Entries.{entry};
-ghost use Rattle.au_print.specs.Tables.{shown, characters as characters_of, widened, cell_text, triple_text, column_widths, triple_width, widened_at};
+ghost use Rattle.au_print.specs.Tables.{shown, characters as characters_of, widened, cell_texts, triple_text, column_widths, triple_width, widened_at};
 
 use crate::cells::{characters, push_cell, push_triple};
 use au_annot::Triple;
-use au_value::{NoMemory, Range, Word};
+use au_value::{Kind, NoMemory, Range, Word};
 use std::alloc::Global;
 
 /// A column for each name, and last the one of multiplicities.
@@ -19,16 +19,17 @@ pub struct Widths {
 pub fn measure(
     alloc: Global,
     names: &[Word],
+    kinds: &[Kind],
     rows: &[(Vec<Range>, Triple)],
 ) -> Result<Widths, NoMemory>
-    ensures columns { IfOk result (λ w. w.columns.items ≡ column_widths names.now (map (λ r. entry r.0.items r.1) rows.now)) }
+    ensures columns { IfOk result (λ w. w.columns.items ≡ column_widths names.now kinds.now (map (λ r. entry r.0.items r.1) rows.now)) }
     ensures row { IfOk result (λ w. w.row ≡ triple_width (map (λ r. entry r.0.items r.1) rows.now)) }
 {
     let mut columns = name_widths(alloc, names)?;
     let mut row = 3;
     let mut text = Vec::new(alloc);
     for (ranges, triple) in rows {
-        widen(&mut columns, &mut text, ranges.as_slice())?;
+        widen(&mut columns, &mut text, kinds, ranges.as_slice())?;
         text.clear();
         push_triple(&mut text, *triple)?;
         row = row.max(characters(text.as_slice()));
@@ -48,14 +49,21 @@ fn name_widths(alloc: Global, names: &[Word]) -> Result<Vec<usize>, NoMemory>
 }
 
 // Widens columns to a row's texts, each made in the memory of one.
-fn widen(columns: &mut Vec<usize>, text: &mut Vec<u8>, ranges: &[Range]) -> Result<(), NoMemory>
-    ensures { OnOk result (columns.new.items ≡ widened columns.old.items (map cell_text ranges.now)) }
+fn widen(
+    columns: &mut Vec<usize>,
+    text: &mut Vec<u8>,
+    kinds: &[Kind],
+    ranges: &[Range],
+) -> Result<(), NoMemory>
+    ensures { OnOk result (columns.new.items ≡ widened columns.old.items (cell_texts kinds.now ranges.now)) }
 {
     for (i, range) in ranges.iter().enumerate() {
-        text.clear();
-        push_cell(text, range)?;
-        let width = characters(text.as_slice());
-        widen_at(columns, i, width);
+        if let Some(kind) = kinds.get(i) {
+            text.clear();
+            push_cell(text, *kind, range)?;
+            let width = characters(text.as_slice());
+            widen_at(columns, i, width);
+        }
     }
     Ok(())
 }

@@ -31,6 +31,14 @@ answer|SELECT id, CASE WHEN city = 'Oslo' THEN amount ELSE 0 END AS x FROM order
 answer|SELECT city, SUM(amount) AS s FROM orders GROUP BY city HAVING SUM(amount) > 10|orders=orders.csv -> 0 Done row_lo,row,row_hi,city_lo,city,city_hi,s_lo,s,s_hi~0,0,1,Bergen,Bergen,Bergen,5,5,17~0,1,2,Bergen,Oslo,Oslo,0,17,24~! 
 answer|SELECT ((((((((((((((((((((((((((((((((1)))))))))))))))))))))))))))))))) FROM orders|orders=orders.csv -> 0 Done row_lo,row,row_hi,col1_lo,col1,col1_hi~2,3,3,1,1,1~! 
 direct|SELECT 1 AS one FROM \"orders\";|orders=orders.csv -> 0 Done row_lo,row,row_hi,one_lo,one,one_hi~2,3,3,1,1,1~! 
+answer|SELECT * FROM t|t=times.csv -> 0 Done row_lo,row,row_hi,id_lo,id,id_hi,amount_lo,amount,amount_hi~1,3,5,1,1,1,8,10,20~0,1,1,2,2,2,-3,-1,4~! 
+answer|SELECT COUNT(*), SUM(amount) FROM t|t=times.csv -> 0 Done row_lo,row,row_hi,col1_lo,col1,col1_hi,col2_lo,col2,col2_hi~1,1,1,1,4,6,5,29,104~! 
+direct|SELECT COUNT(*), SUM(amount) FROM t|t=times.csv -> 0 Done row_lo,row,row_hi,col1_lo,col1,col1_hi,col2_lo,col2,col2_hi~1,1,1,1,4,6,5,29,104~! 
+answer|SELECT item, price*qty AS cost FROM p|p=price.csv -> 0 Done row_lo,row,row_hi,item_lo,item,item_hi,cost_lo,cost,cost_hi~1,1,1,tea,tea,tea,5.00,7.50,8.25~! 
+answer|SELECT price + 1 AS x FROM p|p=price.csv -> 0 Done row_lo,row,row_hi,x_lo,x,x_hi~1,1,1,3.50,3.50,3.75~! 
+answer|SELECT item FROM p WHERE price < 2.6|p=price.csv -> 0 Done row_lo,row,row_hi,item_lo,item,item_hi~0,1,1,tea,tea,tea~! 
+answer|SELECT price - 2.55 AS x FROM p|p=price.csv -> 0 Done row_lo,row,row_hi,x_lo,x,x_hi~1,1,1,-0.05,-0.05,0.20~! 
+direct|SELECT MAX(price) AS m FROM p GROUP BY item|p=price.csv -> 0 Done row_lo,row,row_hi,m_lo,m,m_hi~1,1,1,2.50,2.50,2.75~! 
 answer|SELECT m.x FROM m, e WHERE m.x + 1 > 0|m=edge.csv|e=bare.csv -> 0 Done row_lo,row,row_hi,x_lo,x,x_hi~! 
 answer|SELECT m.x FROM e, m WHERE m.x + 1 > 0|m=edge.csv|e=bare.csv -> 0 Done row_lo,row,row_hi,x_lo,x,x_hi~! 
 direct|SELECT m.x FROM m, e WHERE m.x + 1 > 0|m=edge.csv|e=bare.csv -> 0 Done row_lo,row,row_hi,x_lo,x,x_hi~! 
@@ -47,6 +55,10 @@ answer|--table|SELECT city AS \"Ærø\" FROM t|t=nordic.csv -> 0 Done Ærø   | 
 answer|--table|SELECT c AS \"a\tb\" FROM t|t=control.csv -> 0 Done a?b    | row  ~-------+------~x?y?z  | 1/1/1~! 
 guess|SELECT city, SUM(amount) AS s FROM orders GROUP BY city|orders=orders.csv -> 0 Done row,city,s~1,Bergen,5~1,Oslo,17~! 
 guess|SELECT o.id, r.fee FROM orders o, rates AS r WHERE o.city = r.city|orders=orders.csv|rates=rates.csv -> 0 Done row,id,fee~1,1,3~1,2,4~1,3,3~! 
+answer|--table|SELECT price FROM p|p=price.csv -> 0 Done price            | row  ~-----------------+------~[2.50/2.50/2.75] | 1/1/1~! 
+guess|SELECT * FROM t|t=times.csv -> 0 Done row,id,amount~3,1,10~1,2,-1~! 
+guess|SELECT price * qty AS cost FROM p|p=price.csv -> 0 Done row,cost~1,7.50~! 
+ua|SELECT * FROM t|t=times.csv -> 0 Done certain,row,id,amount~0,3,1,10~0,1,2,-1~! 
 guess|SELECT SUM(x) FROM t|t=sums.csv -> 0 Done row,col1~1,2~! 
 guess|SELECT id AS \"a,b\", city AS \"say \"\"x\"\"\" FROM t|t=none.csv -> 0 Done row,\"a,b\",\"say \"\"x\"\"\"~! 
 guess|SELECT t AS \"two~lines\", n FROM t|t=texts.csv -> 0 Done row,\"two~lines\",n~2,,-1~5,b,2~1,b,10~! 
@@ -69,10 +81,12 @@ fn forms_of_answers(rt: HostRuntime) -> Result<(), Fail> {
 fn one_answer_by_both_roads(rt: HostRuntime) -> Result<(), Fail> {
     let alloc = rt.alloc();
     let planned = answer_of(
+        &rt,
         alloc,
         format!(in alloc; "answer|{PAIRS}|t=made.csv")?.as_str(),
     )?;
     let direct = answer_of(
+        &rt,
         alloc,
         format!(in alloc; "direct|{PAIRS}|t=made.csv")?.as_str(),
     )?;

@@ -3,6 +3,7 @@ use crate::runs::{cut_run, judge_put, judge_read};
 use std::alloc::Global;
 use std::process::Abort;
 use std::test::Fail;
+use std::thread::Threads;
 
 const RUN: &str = "answer|SELECT * FROM orders|orders=orders.csv";
 
@@ -34,8 +35,8 @@ fn front<'a>(text: &'a str, taken: usize) -> Result<&'a str, Fail> {
 }
 
 // A run whose puts take so many bytes of the answer and of the line, and fail.
-fn judge_cut(
-    rt: &impl Abort,
+fn judge_cut<R: Abort + Threads + Sync>(
+    rt: &R,
     alloc: Global,
     taken: usize,
     taken_of_line: usize,
@@ -43,7 +44,7 @@ fn judge_cut(
     let put = front(TEXT, taken)?;
     let told = front(NOT_PUT, taken_of_line)?;
     let wanted = format!(in alloc; "6 WriteFault {put}! {told}")?;
-    let found = cut_run(alloc, RUN, taken, taken_of_line)?;
+    let found = cut_run(rt, alloc, RUN, taken, taken_of_line)?;
     assert_eq!(rt;
         found.as_str(),
         wanted.as_str(),
@@ -82,7 +83,7 @@ fn each_put_of_a_line_fails(rt: HostRuntime) -> Result<(), Fail> {
     let alloc = rt.alloc();
     for case in UNTOLD.lines() {
         let (line, wanted) = case.split_once(" -> ").expect(&rt, "an arrow");
-        let found = cut_run(alloc, line, 0, 0)?;
+        let found = cut_run(&rt, alloc, line, 0, 0)?;
         assert_eq!(rt; found.as_str(), wanted, "{line}");
     }
     Ok(())

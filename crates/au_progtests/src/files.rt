@@ -37,6 +37,9 @@ edge.csv: x:int~170141183460469231731687303715884105727~
 bare.csv: y:int~
 nordic.csv: _block,_role,city:text~a,guess,Malmö~a,absent,~
 control.csv: c:text~\"x~y\u{7f}z \"~
+times.csv: _block,_role,_times,id:int,amount:int~a,guess,2..3..5,1,8..10..12~a,alt,1,1,20~b,guess,1,2,-3..-1..4~b,absent,,,~
+copies.csv: _block,_role,_times,id:int~a,guess,3..2..5,1~
+price.csv: _block,_role,item:text,price:dec2,qty:int~a,guess,tea,2.50,3~a,alt,tea,2.75,2~
 texts.csv: t:text,n:int~b,2~,-1~,-1~b,10~b,2~b,2~b,2~b,2~";
 
 // So many pieces, one behind the other, each with its number in the place of `%`.

@@ -30,6 +30,7 @@ answer|SELECT (((((((((((((((((((((((((((((((((1))))))))))))))))))))))))))))))))
 // Files that are refused, and numbers that leave 128 bits.
 const FILES: &str =
     "answer|SELECT n FROM t|t=past.csv -> 3 Table(0, BadField(1, 0)) ! audb: file 0: bad field in record 1, column 0~
+answer|SELECT * FROM t|t=copies.csv -> 3 Table(0, BadTimes(1)) ! audb: file 0: bad number of copies in record 1~
 answer|SELECT x FROM t|t=guesses.csv -> 3 Table(0, TwoGuesses(0)) ! audb: file 0: two guesses in block 0~
 answer|SELECT x FROM t|t=alt.csv -> 3 Table(0, NoGuess(0)) ! audb: file 0: no guess in block 0~
 answer|SELECT x FROM t|t=only.csv -> 3 Table(0, OnlyAbsent(0)) ! audb: file 0: no alternative in block 0~

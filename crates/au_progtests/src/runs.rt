@@ -2,10 +2,12 @@
 use crate::files::shelf_for;
 use au_cli::{Outcome, run};
 use au_io::{MemShelf, MemSink};
+use au_par::NoGate;
 use au_value::Word;
 use std::alloc::{AllocError, Global};
 use std::process::Abort;
 use std::test::Fail;
+use std::thread::Threads;
 
 // The words of a line.
 fn words_of(alloc: Global, line: &str) -> Result<Vec<Word>, AllocError> {
@@ -26,7 +28,8 @@ fn told(alloc: Global, outcome: Outcome, out: &MemSink, err: &MemSink) -> Result
 }
 
 // A run over a shelf, whose puts on `out` and `err` fail as listed.
-fn ran(
+fn ran<R: Threads + Sync>(
+    rt: &R,
     alloc: Global,
     line: &str,
     mut shelf: MemShelf,
@@ -36,24 +39,36 @@ fn ran(
     let words = words_of(alloc, line)?;
     let mut out = MemSink::new(alloc, failing);
     let mut err = MemSink::new(alloc, failing_lines);
-    let outcome = run(alloc, words.as_slice(), &mut shelf, &mut out, &mut err);
+    let outcome = run(
+        rt,
+        alloc,
+        words.as_slice(),
+        &mut shelf,
+        &mut out,
+        &mut err,
+        NoGate,
+    );
     told(alloc, outcome, &out, &err)
 }
 
 /// Whether each run ends and puts as its line says.
-pub(crate) fn judge(rt: &impl Abort, alloc: Global, cases: &str) -> Result<(), Fail> {
+pub(crate) fn judge<R: Abort + Threads + Sync>(
+    rt: &R,
+    alloc: Global,
+    cases: &str,
+) -> Result<(), Fail> {
     for case in cases.lines() {
         let (line, wanted) = case.split_once(" -> ").expect(rt, "an arrow");
         let shelf = shelf_for(alloc, line, Vec::new(alloc))?;
-        let found = ran(alloc, line, shelf, Vec::new(alloc), Vec::new(alloc))?;
+        let found = ran(rt, alloc, line, shelf, Vec::new(alloc), Vec::new(alloc))?;
         assert_eq!(rt; found.as_str(), wanted, "{line}");
     }
     Ok(())
 }
 
 /// Whether a run ends and puts as its line says, where the call of this number on the shelf fails.
-pub(crate) fn judge_read(
-    rt: &impl Abort,
+pub(crate) fn judge_read<R: Abort + Threads + Sync>(
+    rt: &R,
     alloc: Global,
     call: u64,
     case: &str,
@@ -62,14 +77,14 @@ pub(crate) fn judge_read(
     let mut failing = Vec::new(alloc);
     failing.push(call)?;
     let shelf = shelf_for(alloc, line, failing)?;
-    let found = ran(alloc, line, shelf, Vec::new(alloc), Vec::new(alloc))?;
+    let found = ran(rt, alloc, line, shelf, Vec::new(alloc), Vec::new(alloc))?;
     assert_eq!(rt; found.as_str(), wanted, "call {call} fails");
     Ok(())
 }
 
 /// Whether a run ends and puts as its line says, where its first put takes so many bytes and fails.
-pub(crate) fn judge_put(
-    rt: &impl Abort,
+pub(crate) fn judge_put<R: Abort + Threads + Sync>(
+    rt: &R,
     alloc: Global,
     taken: usize,
     case: &str,
@@ -78,13 +93,14 @@ pub(crate) fn judge_put(
     let mut failing = Vec::new(alloc);
     failing.push((0, taken))?;
     let shelf = shelf_for(alloc, line, Vec::new(alloc))?;
-    let found = ran(alloc, line, shelf, failing, Vec::new(alloc))?;
+    let found = ran(rt, alloc, line, shelf, failing, Vec::new(alloc))?;
     assert_eq!(rt; found.as_str(), wanted, "{taken} bytes are put");
     Ok(())
 }
 
 /// How a run ends and what it puts, where its first puts on `out` and on `err` take so many bytes and fail.
-pub(crate) fn cut_run(
+pub(crate) fn cut_run<R: Threads + Sync>(
+    rt: &R,
     alloc: Global,
     line: &str,
     taken: usize,
@@ -95,11 +111,15 @@ pub(crate) fn cut_run(
     failing.push((0, taken))?;
     let mut failing_lines = Vec::new(alloc);
     failing_lines.push((0, taken_of_line))?;
-    ran(alloc, line, shelf, failing, failing_lines)
+    ran(rt, alloc, line, shelf, failing, failing_lines)
 }
 
 /// What a run puts on `out`.
-pub(crate) fn answer_of(alloc: Global, line: &str) -> Result<String, Fail> {
+pub(crate) fn answer_of<R: Threads + Sync>(
+    rt: &R,
+    alloc: Global,
+    line: &str,
+) -> Result<String, Fail> {
     let shelf = shelf_for(alloc, line, Vec::new(alloc))?;
-    ran(alloc, line, shelf, Vec::new(alloc), Vec::new(alloc))
+    ran(rt, alloc, line, shelf, Vec::new(alloc), Vec::new(alloc))
 }

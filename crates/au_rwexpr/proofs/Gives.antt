@@ -6,6 +6,7 @@ use Rattle.au_value.specs.declared.kinds.Kind.{Kind}
 use Rattle.au_value.specs.declared.kinds.Kind.TheVariants.{Int, Text, Flag}
 use Rattle.au_value.specs.declared.value.Value.{Value}
 use Rattle.au_value.specs.Order.{kind_eq}
+use Rattle.au_value.specs.KindLaws.{kind_itself}
 use Rattle.au_expr.specs.Kinds.{is_kind}
 use Rattle.au_algebra.specs.Typing.{kinds_if, same_kinds}
 use Rattle.au_algebra.specs.Ordinary.{Rows}
@@ -82,11 +83,6 @@ module _ (tk : List (List Kind)) where
   pub kinds-filter : (e : PTerm) (p : PlanTree) (row : List Kind) → plan_kinds tk p ≡ Some row → plain_kind row e ≡ Some Flag → plan_kinds tk (Filter e p) ≡ Some row
   kinds-filter e p row k t =
       ap (option_and_then (λ ks. kinds_if (is_kind Flag (plain_kind ks e)) ks)) k ∙ ap (λ o. kinds_if (is_kind Flag o) row) t
-
-kind_itself : (k : Kind) → kind_eq k k ≡ true
-kind_itself Int = refl
-kind_itself Text = refl
-kind_itself Flag = refl
 
 pub same_kinds_itself : (ks : List Kind) → same_kinds ks ks ≡ true
 same_kinds_itself [] = refl

@@ -2,7 +2,7 @@
 use Rattle.std.specs.Prelude.{◌≡◌, ℕ, ◌+◌, ◌*◌, ◌&&◌, List, [], ◌∷◌, Some, unwrap_or, is_some}
 use Rattle.std.proofs.Common.{arith, refl, sym, ◌∙◌, ap, subst}
 use Rattle.au_value.specs.declared.kinds.Kind.{Kind}
-use Rattle.au_value.specs.declared.kinds.Kind.TheVariants.{Int, Text, Flag}
+use Rattle.au_value.specs.declared.kinds.Kind.TheVariants.{Int, Flag}
 use Rattle.au_value.specs.declared.comparison.Comparison.{Comparison}
 use Rattle.au_value.specs.declared.comparison.Comparison.TheVariants as how
 use Rattle.au_expr.specs.Terms.{Term}
@@ -17,6 +17,7 @@ use Rattle.au_rwexpr.specs.Counts.{zero_term, positive}
 use Rattle.au_rwexpr.proofs.Places.{At, at_more, Ends, EndsOfAll, ends_at}
 use Rattle.au_rwexpr.proofs.Columns.{Means, AllMean}
 use Rattle.au_rwexpr.proofs.Structure.{Steps, Any}
+use Rattle.au_value.specs.KindLaws.{kind_itself}
 use Rattle.au_rwexpr.proofs.Coded.{cl}
 
 -- the kind of an expression on a row of kinds, whatever is added on the right
@@ -27,9 +28,7 @@ pub column_kind : (row : List Kind) (i : ℕ) (k : Kind) → At row i k → HasK
 column_kind row i k h = λ more. at_more row more i k h
 
 pub agreed_same : (k : Kind) → agreed (Some k) (Some k) ≡ Some k
-agreed_same Int = refl
-agreed_same Text = refl
-agreed_same Flag = refl
+agreed_same k = rw (kind_itself k) refl
 
 abbrev pub KindsAt : List Kind → ℕ → Kind → Type 0
 KindsAt row i k = Ends (λ (x : Kind). x) (λ x. x) (λ x. x) row i k

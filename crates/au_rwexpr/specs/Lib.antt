@@ -1,6 +1,8 @@
-pub mod Adding
+-- The definitions, in the order in which they are to be read.
 pub mod Cells
-pub mod Counts
 pub mod Flatten
+pub mod Counts
 pub mod Meets
+-- What the contracts of inner calls and the proofs speak of.
 pub mod Nodes
+pub mod Adding

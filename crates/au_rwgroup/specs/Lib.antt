@@ -1,5 +1,7 @@
-pub mod Gives
-pub mod GroupPlan
+-- The definitions, in the order in which they are to be read.
 pub mod Groups
-pub mod JoinedPlaces
 pub mod Totals
+pub mod GroupPlan
+pub mod Gives
+-- What the contracts of inner calls and the proofs speak of.
+pub mod JoinedPlaces

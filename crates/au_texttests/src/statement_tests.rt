@@ -9,7 +9,8 @@ use std::test::Fail;
 fn place(term: &Term) -> usize {
     match term {
         Term::Column(name) => name.at,
-        Term::Number(at, _) | Term::Text(at, _) | Term::Flag(at, _) | Term::CountRows(at) => *at,
+        Term::Number(at, _) | Term::Decimal(at, _, _) | Term::Text(at, _) => *at,
+        Term::Flag(at, _) | Term::CountRows(at) => *at,
         Term::Add(at, _, _) | Term::Subtract(at, _, _) | Term::Multiply(at, _, _) => *at,
         Term::And(at, _, _) | Term::Or(at, _, _) | Term::Compare(at, _, _, _) => *at,
         Term::Negate(at, _) | Term::Not(at, _) => *at,
@@ -83,6 +84,10 @@ SELECT count (x) n FROM t -> Ok(7)
 SELECT count FROM t -> Ok(7)
 SELECT t.* FROM t -> Ok(7)
 SELECT * FROM t; -> Ok(7)
+SELECT 2.5 - 1 FROM t -> Ok(11)
+SELECT a * -0.5 FROM t -> Ok(9)
+SELECT 2.5 half FROM t -> Ok(7)
+SELECT 2.5 2.5 FROM t -> Err(Syntax(11))
 SELECT a FROM t UNION SELECT b FROM u EXCEPT ALL SELECT c FROM v -> Ok(38)
 SELECT a FROM t EXCEPT (SELECT b FROM u UNION ALL SELECT c FROM v) -> Ok(16)
 ((SELECT ALL a AS x FROM (SELECT b y FROM u) t)) -> Ok(13)

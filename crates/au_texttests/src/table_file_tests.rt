@@ -1,6 +1,6 @@
 //! Table files, and what they hold or why they are refused.
 use crate::cases::{Call, file_bytes, judge, push_value};
-use au_blocks::{Block, Cells, Table, read_table};
+use au_blocks::{Alternative, Block, Cell, Table, read_table};
 use std::alloc::{AllocError, Global};
 use std::test::Fail;
 
@@ -36,12 +36,12 @@ fn push_blocks(alloc: Global, text: &mut String, table: &Table) -> Result<(), Al
 }
 
 fn push_block(alloc: Global, text: &mut String, block: &Block) -> Result<(), AllocError> {
-    for (place, cells) in block.alternatives().iter().enumerate() {
+    for (place, alternative) in block.alternatives().iter().enumerate() {
         text.push_str(if place == 0 { "|" } else { "/" })?;
         if block.guess() == Some(place) {
             text.push_str("*")?;
         }
-        push_cells(alloc, text, cells)?;
+        push_alternative(alloc, text, alternative)?;
     }
     text.push_str(match (block.optional(), block.guess()) {
         (true, None) => "?*",
@@ -50,14 +50,38 @@ fn push_block(alloc: Global, text: &mut String, block: &Block) -> Result<(), All
     })
 }
 
-fn push_cells(alloc: Global, text: &mut String, cells: &Cells) -> Result<(), AllocError> {
-    for (place, value) in cells.values().iter().enumerate() {
+// A value, or `lo..guess..hi`.
+fn push_cell(alloc: Global, text: &mut String, cell: &Cell) -> Result<(), AllocError> {
+    if !cell.is_certain() {
+        push_value(alloc, text, cell.lo())?;
+        text.push_str("..")?;
+    }
+    push_value(alloc, text, cell.sg())?;
+    if !cell.is_certain() {
+        text.push_str("..")?;
+        push_value(alloc, text, cell.hi())?;
+    }
+    Ok(())
+}
+
+fn push_alternative(
+    alloc: Global,
+    text: &mut String,
+    alternative: &Alternative,
+) -> Result<(), AllocError> {
+    for (place, cell) in alternative.cells().iter().enumerate() {
         if place > 0 {
             text.push_str(",")?;
         }
-        push_value(alloc, text, value)?;
+        push_cell(alloc, text, cell)?;
     }
-    Ok(())
+    let times = alternative.times();
+    let copies = (times.least(), times.guess(), times.most());
+    if copies == (1, 1, 1) {
+        return Ok(());
+    }
+    let (least, guess, most) = copies;
+    text.push_str(format!(in alloc; " x{least}..{guess}..{most}")?.as_str())
 }
 
 const TABLES: &str =
@@ -80,6 +104,14 @@ _block,_role,x~a,guess,1~a,absent,~ -> x:Int |*1?
 _block,_role,x~a,guess,1~b,guess,2~a,alt,3~ -> x:Int |*1/3|*2
 _block,_role,x~,guess,1~A,guess,2~a,guess,3~ -> x:Int |*1|*2|*3
 _block,_role~a,guess~a,alt~ -> |*/
+_block,_role,_times,id:int,amount:int~a,guess,2..3..5,1,8..10..12~a,alt,1,1,20~b,guess,1,2,-3..-1..4~b,absent,,,~ -> id:Int amount:Int |*1,8..10..12 x2..3..5/1,20|*2,-3..-1..4?
+_block,_role,_times,x~a,guess,1000000000000,1~a,alt,0000000000007,2~ -> x:Int |*1 x1000000000000..1000000000000..1000000000000/2 x7..7..7
+_block,_role,_times,x:dec2~a,guess,0..0..1,-0.05..0..2.5~ -> x:Dec(2) |*-5..0..250 x0..0..1
+_block,_role,_times,x:text~a,guess,1,1..2..3~ -> x:Text |*1..2..3
+_block,_role,_times~a,guess,3~a,absent,~ -> |* x3..3..3?
+_block,_times,_role~a,1,guess~ -> _block:Text _times:Int _role:Text |*a,1,guess
+_block,_role,x,_times:int~a,guess,1,2~ -> x:Int _times:Int |*1,2
+x:dec2,y:dec9~2.5,-1~0,0.000000001~ -> x:Dec(2) y:Dec(9) |*250,-1000000000|*0,1
 _Block,_role,x~a,guess,1~ -> _Block:Text _role:Text x:Int |*a,guess,1
 «128 n»:int~ -> nnnnnnnnnnnnnnnnnnnnnnnnnnnnnnnnnnnnnnnnnnnnnnnnnnnnnnnnnnnnnnnnnnnnnnnnnnnnnnnnnnnnnnnnnnnnnnnnnnnnnnnnnnnnnnnnnnnnnnnnnnnnnnnn:Int 
 _block,_role«64 ,»~ -> col1:Text col2:Text col3:Text col4:Text col5:Text col6:Text col7:Text col8:Text col9:Text col10:Text col11:Text col12:Text col13:Text col14:Text col15:Text col16:Text col17:Text col18:Text col19:Text col20:Text col21:Text col22:Text col23:Text col24:Text col25:Text col26:Text col27:Text col28:Text col29:Text col30:Text col31:Text col32:Text col33:Text col34:Text col35:Text col36:Text col37:Text col38:Text col39:Text col40:Text col41:Text col42:Text col43:Text col44:Text col45:Text col46:Text col47:Text col48:Text col49:Text col50:Text col51:Text col52:Text col53:Text col54:Text col55:Text col56:Text col57:Text col58:Text col59:Text col60:Text col61:Text col62:Text col63:Text col64:Text ";
@@ -110,6 +142,22 @@ _block,_role,x:int~a,maybe~ -> WrongWidth(1)
 _block,_role,x:int~a,absent,~b,guess,1~b,guess,2~ -> NoGuess(0)
 _block,_role,x:int~a,guess,1~b,absent-guess,~b,absent,~ -> OnlyAbsent(1)
 _block,_role,x:int~a,guess,1~a,absent-guess,~a,absent,~ -> TwoGuesses(0)
+_block,_role,_times,x:int~a,guess,3..2..5,1~ -> BadTimes(1)
+_block,_role,_times,x:int~a,guess,-1,1~ -> BadTimes(1)
+_block,_role,_times,x:int~a,guess,,1~ -> BadTimes(1)
+_block,_role,_times,x:int~a,guess,1..2,1~ -> BadTimes(1)
+_block,_role,_times,x:int~a,guess,1000000000001,1~ -> BadTimes(1)
+_block,_role,_times,x:int~a,guess,00000000000001,1~ -> BadTimes(1)
+_block,_role,_times,x:int~a,guess,1,5..4..6~ -> BadField(1, 0)
+_block,_role,_times,x:int~a,guess,1,1..2~ -> BadField(1, 0)
+_block,_role,_times,x:int~a,absent,1,~ -> AbsentWithValues(1)
+_block,_role,_times,x:int~a,maybe,z,z~ -> BadRole(1)
+_block,_role,_times,x:int~a,guess,z,z~ -> BadTimes(1)
+_block,_role,_times«65 ,» -> TooManyColumns
+_block,_role,x:int~a,guess,1..2..3~ -> BadField(1, 0)
+p:dec2~2.505~ -> BadField(1, 0)
+_block,_role,p:dec0~ -> UnknownKind(0)
+_block,_role,p:dec10~ -> UnknownKind(0)
 a,A~x~1,#~ -> NotText(2)
 a,«129 n»:int~ -> BadColumnName(1)
 _block,_role«65 ,» -> TooManyColumns";
@@ -137,11 +185,4 @@ fn first_defects_of_files(rt: HostRuntime) -> Result<(), Fail> {
 #[test]
 fn files_that_are_cut_short(rt: HostRuntime) -> Result<(), Fail> {
     judge::<TableFile>(&rt, rt.alloc(), CUT_SHORT)
-}
-
-#[test]
-fn cells_that_give_their_values_back(rt: HostRuntime) -> Result<(), Fail> {
-    let given = Cells::new(Vec::new(rt.alloc())).into_values();
-    assert_eq!(rt; given.len(), 0);
-    Ok(())
 }

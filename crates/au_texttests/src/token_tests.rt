@@ -12,6 +12,7 @@ fn describe(alloc: Global, token: &Token) -> Result<String, AllocError> {
         Lexeme::Quoted(word) => format!(in alloc; "{from}-{to} quoted {};", word.as_str()),
         Lexeme::Text(word) => format!(in alloc; "{from}-{to} text {};", word.as_str()),
         Lexeme::Number(n) => format!(in alloc; "{from}-{to} number {n};"),
+        Lexeme::Decimal(n, places) => format!(in alloc; "{from}-{to} decimal {n} {places};"),
         Lexeme::Key(key) => format!(in alloc; "{from}-{to} {key:?};"),
         Lexeme::Symbol(symbol) => format!(in alloc; "{from}-{to} {symbol:?};"),
     }
@@ -65,6 +66,15 @@ t.c>=007 -> 0-1 name t;1-2 Dot;2-3 name c;3-5 AtLeast;5-8 number 7;
 170141183460469231731687303715884105728 -> BadNumber(0)
 0000000000000000000000000000000000000001 -> BadNumber(0)
 1 + 2a -> BadNumber(4)
+2.50 007.1 0.000000001 -> 0-4 decimal 250 2;5-10 decimal 71 1;11-22 decimal 1 9;
+t.2 2. .5 1.a 1.--b~ -> 0-1 name t;1-2 Dot;2-3 number 2;4-5 number 2;5-6 Dot;7-8 Dot;8-9 number 5;10-11 number 1;11-12 Dot;12-13 name a;14-15 number 1;15-16 Dot;
+2.5.6 -> 0-3 decimal 25 1;3-4 Dot;4-5 number 6;
+170141183460469231731687303715.884105727 -> 0-40 decimal 170141183460469231731687303715884105727 9;
+170141183460469231731687303715.884105728 -> BadNumber(0)
+000000000000000000000000000000000000000.1 -> BadNumber(0)
+1 + 0.0000000001 -> BadNumber(4)
+1 + 2.5a -> BadNumber(4)
+1 + 2.5_ -> BadNumber(4)
 1 + 2_ -> BadNumber(4)
 a ! b -> BadChar(2)
 a é -> BadChar(2)

@@ -17,11 +17,12 @@ fn schema(alloc: Global, name: &str, file: &str) -> Result<Schema, Fail> {
     })
 }
 
-// The tables `orders` (id, City, amount) and `rates` (city, fee).
+// The tables `orders` (id, City, amount), `rates` (city, fee) and `p` (item, price, qty, tax).
 fn schemas(alloc: Global) -> Result<Vec<Schema>, Fail> {
     let mut list = Vec::new(alloc);
     list.push(schema(alloc, "orders", "id:int,City:text,amount:int")?)?;
     list.push(schema(alloc, "rates", "city:text,fee:int")?)?;
+    list.push(schema(alloc, "p", "item:text,price:dec2,qty:int,tax:dec8")?)?;
     Ok(list)
 }
 
@@ -70,6 +71,13 @@ SELECT MIN(city) FROM orders GROUP BY id -> col1:Text
 SELECT x.n FROM (SELECT u.id AS n FROM (SELECT * FROM orders) u) X -> n:Int 
 SELECT SUM(o.id) FROM orders o, rates r -> col1:Int 
 SELECT id FROM orders UNION SELECT fee FROM rates -> id:Int 
+SELECT price, price * qty, qty - price, -price, 0.5 FROM p -> price:Dec(2) col2:Dec(2) col3:Dec(2) col4:Dec(2) col5:Dec(1) 
+SELECT price * 0.1234567, price + tax, price < 2.6, price = qty FROM p -> col1:Dec(9) col2:Dec(8) col3:Flag col4:Flag 
+SELECT SUM(price) AS s, SUM(qty), COUNT(price) FROM p -> s:Dec(2) col2:Int col3:Int 
+SELECT item, MIN(tax) AS least, MAX(qty) FROM p GROUP BY item -> item:Text least:Dec(8) col3:Int 
+SELECT CASE WHEN qty = 1 THEN price WHEN TRUE THEN 1 ELSE tax END FROM p -> col1:Dec(8) 
+SELECT qty FROM p UNION SELECT price FROM p EXCEPT ALL SELECT 0.125 FROM p -> qty:Dec(3) 
+SELECT q.price + q.qty FROM (SELECT price, qty FROM p) q -> col1:Dec(2) 
 SELECT DISTINCT city FROM orders EXCEPT ALL SELECT city FROM rates -> City:Text 
 SELECT CASE WHEN id = 1 THEN city WHEN TRUE THEN 'b' ELSE 'c' END FROM orders -> col1:Text ";
 
@@ -89,6 +97,12 @@ SELECT 1 FROM orders HAVING COUNT(*) -> KindMismatch(21)
 SELECT -city FROM orders -> KindMismatch(7)
 SELECT CASE WHEN TRUE THEN 1 ELSE 'a' END FROM orders -> KindMismatch(7)
 SELECT id FROM orders UNION SELECT city FROM rates -> KindMismatch(22)
+SELECT price * 0.12345678 FROM p -> KindMismatch(13)
+SELECT price * tax FROM p -> KindMismatch(13)
+SELECT price + item FROM p -> KindMismatch(13)
+SELECT 1 FROM p WHERE price -> KindMismatch(16)
+SELECT price FROM p UNION SELECT item FROM p -> KindMismatch(20)
+SELECT CASE WHEN TRUE THEN price ELSE item END FROM p -> KindMismatch(7)
 SELECT id, COUNT(*) FROM orders -> NotGrouped(7)
 SELECT * FROM orders GROUP BY id -> NotGrouped(7)
 SELECT 1 FROM orders WHERE SUM(id) = 1 -> MisplacedAggregate(27)

@@ -1,6 +1,6 @@
 //! Numerals, sums, and values in order.
 use crate::cases::{Call, judge, push_value, value};
-use au_value::{Adder, Value, compare, copies, kind, read_numeral};
+use au_value::{Adder, Value, compare, copies, kind, read_decimal, read_numeral};
 use std::alloc::{AllocError, Global};
 use std::test::Fail;
 
@@ -9,6 +9,21 @@ struct Numeral;
 impl Call for Numeral {
     fn outcome(alloc: Global, given: &str) -> Result<String, Fail> {
         let number = read_numeral(given.as_bytes());
+        Ok(format!(in alloc; "{number:?}")?)
+    }
+}
+
+// A number read at each scale: `SCALE TEXT`.
+struct Decimal;
+
+impl Call for Decimal {
+    fn outcome(alloc: Global, given: &str) -> Result<String, Fail> {
+        let (digit, text) = given.split_once(' ').ok_or("a scale and a text")?;
+        let number = match digit {
+            "1" => read_decimal(text.as_bytes(), 1),
+            "2" => read_decimal(text.as_bytes(), 2),
+            _ => read_decimal(text.as_bytes(), 9),
+        };
         Ok(format!(in alloc; "{number:?}")?)
     }
 }
@@ -88,6 +103,30 @@ const NUMERALS: &str = "0 -> Some(0)
  5 -> None
 1e3 -> None";
 
+const DECIMALS: &str = "2 2.50 -> Some(250)
+2 2.5 -> Some(250)
+2 2 -> Some(200)
+2 -0.05 -> Some(-5)
+2 -.05 -> None
+2 2. -> None
+2 2.505 -> None
+2 2.500 -> None
+2 +1 -> None
+2 1,5 -> None
+2  -> None
+2 - -> None
+2 007.10 -> Some(710)
+1 -0 -> Some(0)
+9 0.000000001 -> Some(1)
+9 0.0000000001 -> None
+9 170141183460469231731687303715.884105727 -> Some(170141183460469231731687303715884105727)
+9 170141183460469231731687303715.884105728 -> None
+9 -170141183460469231731687303715.884105728 -> Some(-170141183460469231731687303715884105728)
+9 170141183460469231731687303716 -> None
+1 17014118346046923173168730371588410572.7 -> Some(170141183460469231731687303715884105727)
+1 000000000000000000000000000000000000001.5 -> Some(15)
+1 0000000000000000000000000000000000000001.5 -> None";
+
 // A term past the greatest sum of magnitudes, the greatest, and a small total of great magnitudes.
 const TOTALS: &str =
     "5 170141183460469231731687303715884105723 -170141183460469231731687303715884105722 1 0 -> 5 !5 -170141183460469231731687303715884105717 !-170141183460469231731687303715884105717 -170141183460469231731687303715884105717 
@@ -107,6 +146,11 @@ const COPIES: &str = "9 | Oslo | true | false -> 9;Oslo;true;false;";
 #[test]
 fn numerals_of_128_bits(rt: HostRuntime) -> Result<(), Fail> {
     judge::<Numeral>(&rt, rt.alloc(), NUMERALS)
+}
+
+#[test]
+fn decimals_at_their_scale(rt: HostRuntime) -> Result<(), Fail> {
+    judge::<Decimal>(&rt, rt.alloc(), DECIMALS)
 }
 
 #[test]

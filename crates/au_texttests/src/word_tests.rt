@@ -63,7 +63,17 @@ demo|+1|1| -> Err(Usage(Words))
 demo|-1|1| -> Err(Usage(Words))
 demo||1| -> Err(Usage(Words))
 demo|1|--table| -> Err(Usage(Words))
-demo|--workers=2|1|1| -> Err(Usage(Words))";
+demo|--workers=0|1|1| -> Err(Usage(Words))
+demo|--workers=02|1|1| -> Err(Usage(Words))
+demo|--workers|2|1|1| -> Err(Usage(Words))
+demo|--compress=2|1|1| -> Err(Usage(Words))
+answer|--workers=1|--workers=2|Q|t=a.csv| -> Err(Usage(Words))
+answer|--workers=|Q|t=a.csv| -> Err(Usage(Words))
+answer|--compress=0|Q|t=a.csv| -> Err(Usage(Words))
+answer|--compress=1001|Q|t=a.csv| -> Err(Usage(Words))
+direct|--workers=2|Q|t=a.csv| -> Err(Usage(Words))
+ua|--combine|Q|t=a.csv| -> Err(Usage(Words))
+encode|t=a.csv| -> Err(Usage(Words))";
 
 const TABLE_WORDS: &str = "answer|SELECT * FROM t|t| -> Err(Usage(BadTable(0)))
 answer|SELECT * FROM t|=a.csv| -> Err(Usage(BadTable(0)))
@@ -77,16 +87,18 @@ answer|answer|a=b=c|--table|B=|=| -> Err(Usage(BadTable(1)))";
 
 // Options stand anywhere, a table word is cut at its first equal sign, and a command's name may be a query.
 const ASKED: &str =
-    r#"answer|Q|t=a.csv| -> Ok(Query(Request { command: Answer, table: false, combine: false, query: "Q", tables: [TableWord { name: "t", path: "a.csv" }] }))
-answer|--table|Q|t=a.csv| -> Ok(Query(Request { command: Answer, table: true, combine: false, query: "Q", tables: [TableWord { name: "t", path: "a.csv" }] }))
-answer|Q|--combine|t=a.csv| -> Ok(Query(Request { command: Answer, table: false, combine: true, query: "Q", tables: [TableWord { name: "t", path: "a.csv" }] }))
-direct|Q|t=a.csv|--table| -> Ok(Query(Request { command: Direct, table: true, combine: false, query: "Q", tables: [TableWord { name: "t", path: "a.csv" }] }))
-direct|--combine|Q|t=a.csv|--table| -> Ok(Query(Request { command: Direct, table: true, combine: true, query: "Q", tables: [TableWord { name: "t", path: "a.csv" }] }))
-guess|Q|t=a.csv| -> Ok(Query(Request { command: Guess, table: false, combine: false, query: "Q", tables: [TableWord { name: "t", path: "a.csv" }] }))
-answer|demo|a=b=c|--table|B=-| -> Ok(Query(Request { command: Answer, table: true, combine: false, query: "demo", tables: [TableWord { name: "a", path: "b=c" }, TableWord { name: "B", path: "-" }] }))
-demo|0|1| -> Ok(Demo { start: 0, blocks: 1 })
-demo|1|3| -> Ok(Demo { start: 1, blocks: 3 })
-demo|4294967295|100000| -> Ok(Demo { start: 4294967295, blocks: 100000 })"#;
+    r#"answer|Q|t=a.csv| -> Ok(Query(Request { command: Answer, table: false, combine: false, workers: 1, compress: None, query: "Q", tables: [TableWord { name: "t", path: "a.csv" }] }))
+answer|--table|Q|t=a.csv| -> Ok(Query(Request { command: Answer, table: true, combine: false, workers: 1, compress: None, query: "Q", tables: [TableWord { name: "t", path: "a.csv" }] }))
+answer|Q|--combine|t=a.csv| -> Ok(Query(Request { command: Answer, table: false, combine: true, workers: 1, compress: None, query: "Q", tables: [TableWord { name: "t", path: "a.csv" }] }))
+direct|Q|t=a.csv|--table| -> Ok(Query(Request { command: Direct, table: true, combine: false, workers: 1, compress: None, query: "Q", tables: [TableWord { name: "t", path: "a.csv" }] }))
+direct|--combine|Q|t=a.csv|--table| -> Ok(Query(Request { command: Direct, table: true, combine: true, workers: 1, compress: None, query: "Q", tables: [TableWord { name: "t", path: "a.csv" }] }))
+guess|Q|t=a.csv| -> Ok(Query(Request { command: Guess, table: false, combine: false, workers: 1, compress: None, query: "Q", tables: [TableWord { name: "t", path: "a.csv" }] }))
+answer|demo|a=b=c|--table|B=-| -> Ok(Query(Request { command: Answer, table: true, combine: false, workers: 1, compress: None, query: "demo", tables: [TableWord { name: "a", path: "b=c" }, TableWord { name: "B", path: "-" }] }))
+demo|0|1| -> Ok(Demo { start: 0, blocks: 1, workers: 1 })
+demo|1|3| -> Ok(Demo { start: 1, blocks: 3, workers: 1 })
+answer|--workers=64|Q|t=a.csv|--compress=1000| -> Ok(Query(Request { command: Answer, table: false, combine: false, workers: 64, compress: Some(1000), query: "Q", tables: [TableWord { name: "t", path: "a.csv" }] }))
+demo|4294967295|100000| -> Ok(Demo { start: 4294967295, blocks: 100000, workers: 1 })
+demo|1|3|--workers=7| -> Ok(Demo { start: 1, blocks: 3, workers: 7 })"#;
 
 #[test]
 fn words_of_no_form(rt: HostRuntime) -> Result<(), Fail> {

@@ -3,8 +3,8 @@ mod Examples
 mod ExampleWorlds
 mod MoreExamples
 pub mod Ends
+mod Guessing
 pub mod Alternatives
 pub mod BlockRelation
 pub mod BoundedAnswer
-pub mod ColumnRanges
 mod Misread

@@ -1,25 +1,27 @@
 //! The bounded relation of a block table.
-ghost use Rattle.std.specs.Prelude.{◌≡◌, ◌<◌, ◌+◌, IsTrue, IfOk, Some, List, length, map, slice_get, unwrap_or, if◌then◌else◌};
+ghost use Rattle.std.specs.Prelude.{◌≡◌, ◌<◌, ◌≤◌, ◌++◌, ◌∷◌, ◌^◌, [], IsTrue, IfOk, OnOk, Some, List, length, map, slice_get, unwrap_or};
 ghost use Rattle.std.specs.List.{AllByRecursion, list_all};
 ghost use Rattle.au_value.specs.declared.kinds.Kind.{Kind};
-ghost use Rattle.au_value.specs.Order.{kind_of};
 ghost use Rattle.au_value.specs.Ranges.{lesser as lesser_of, greater as greater_of};
+ghost use Rattle.au_annot.specs.Triples.{IsTriple, counts};
 ghost use Rattle.au_blocks.specs.Tables.{column_kinds, fits_kinds};
 ghost use Rattle.au_blocks.specs.Worlds.{TableWorld, IsTableWorld, rows_in};
 ghost use Rattle.au_algebra.specs.Distribution.{Bounds};
 ghost use Rattle.au_algebra.specs.Laws.{Guesses, IsRelation};
-ghost use Rattle.au_algebra.specs.Lists.{column, least, greatest};
-ghost use Rattle.au_translate.specs.Translate.{bounded_table, guess_choices, ranges_of, shown as shown_of, triple_of};
+ghost use Rattle.au_algebra.specs.Lists.{least as least_of, greatest as greatest_of};
+ghost use Rattle.au_translate.specs.Translate.{bounded_blocks, bounded_table, cell_at, greatest_number, guess_choices, guessed_copies as guessed_copies_of, high_at, least_number, low_at, ranges_of, shown as shown_of, triple_of};
 
 use au_algebra::Rel;
 use au_annot::{Annot, Count, Triple};
-use au_blocks::{Block, Cells, Table};
-use au_value::{NoMemory, Range, Value, copy, order};
+use au_blocks::{Alternative, Block, Cell, Table};
+use au_value::{NoMemory, Range, Value, compare, copy};
 use std::alloc::Global;
 
-/// A row for each block, in block order: per column the least and the greatest value over the alternatives, with the
-/// marked alternative's value as the guess, or the first alternative's where absence is marked. The triple's least is 0
-/// where the block is optional, its guess is 0 where absence is marked, and all else in it is 1.
+/// A row for each block, in block order: per column the least and the greatest value that an alternative may have there,
+/// with the marked alternative's guess, or the first alternative's where absence is marked. The triple's least is 0 where
+/// the block is optional, and else the least number of copies of an alternative; its guess is 0 where absence is marked,
+/// and else the marked alternative's; its most is the greatest number of copies of an alternative. A block whose most is
+/// 0 has no row.
 ///
 /// It takes time linear in the table's cells, and copies three values a cell of a row that it makes.
 pub fn bounded(alloc: Global, table: &Table) -> Result<Rel<Range, Triple>, NoMemory>
@@ -30,92 +32,187 @@ pub fn bounded(alloc: Global, table: &Table) -> Result<Rel<Range, Triple>, NoMem
 {
     let mut rel = Rel::new(alloc);
     for block in table.blocks() {
-        rel.push(ranges(alloc, block)?, triple(block))?;
+        push_block(alloc, &mut rel, block)?;
     }
     Ok(rel)
 }
 
+// A block's row behind the others, unless it has no copies in any world.
+fn push_block(alloc: Global, rel: &mut Rel<Range, Triple>, block: &Block) -> Result<(), NoMemory>
+    requires { (ks : List Kind) × IsTrue (list_all (λ a. fits_kinds ks a.cells) block.now.alternatives) }
+    ensures { OnOk result (rel.new ≡ rel.old ++ bounded_blocks (block.now ∷ [])) }
+{
+    let triple = triple(block);
+    if triple.most().get() == 0 {
+        return Ok(());
+    }
+    rel.push(ranges(alloc, block)?, triple)
+}
+
 // The ranges of a block's row.
 fn ranges(alloc: Global, block: &Block) -> Result<Vec<Range>, NoMemory>
-    requires { (ks : List Kind) × IsTrue (list_all (fits_kinds ks) block.now.alternatives) }
+    requires { (ks : List Kind) × IsTrue (list_all (λ a. fits_kinds ks a.cells) block.now.alternatives) }
     ensures { IfOk result (λ v. v.items ≡ ranges_of block.now) }
 {
     let mut ranges = Vec::new(alloc);
-    for (at, value) in shown(block).iter().enumerate() {
-        let (least, greatest) = ends(block.alternatives(), at);
-        ranges.push(Range::of(copy(least)?, copy(value)?, copy(greatest)?))?;
+    for (at, cell) in shown(block).iter().enumerate() {
+        let least = least(block.alternatives(), at);
+        let greatest = greatest(block.alternatives(), at);
+        ranges.push(Range::of(copy(least)?, copy(cell.sg())?, copy(greatest)?))?;
     }
     Ok(ranges)
 }
 
-// The values that a block's row guesses.
-fn shown(block: &Block) -> &[Value]
-    ensures of { result.now ≡ shown_of block.now }
-    ensures place { slice_get block.now.alternatives (unwrap_or block.now.guess 0) ≡ Some result.now }
+// The cells whose guesses a block's row shows.
+fn shown(block: &Block) -> &[Cell]
+    ensures of { result.now ≡ (shown_of block.now).cells }
+    ensures place { slice_get block.now.alternatives (unwrap_or block.now.guess 0) ≡ Some (shown_of block.now) }
 {
     let at = block.guess().unwrap_or(0);
-    block.alternatives()[at].values()
+    block.alternatives()[at].cells()
 }
 
-// The least and the greatest value in a column of rows.
-fn ends(rows: &[Cells], at: usize) -> (&Value, &Value)
-    requires some { 0 < length rows.now }
-    requires one_kind { (k : Kind) × AllByRecursion (λ row. (at < length row) × (kind_of (column at row) ≡ k)) rows.now }
-    ensures least { result.0.now ≡ least (map (column at) rows.now) }
-    ensures greatest { result.1.now ≡ greatest (map (column at) rows.now) }
+// The least value in a column of some alternatives.
+fn least(alternatives: &[Alternative], at: usize) -> &Value
+    requires some { 0 < length alternatives.now }
+    requires wide { AllByRecursion (λ a. at < length a.cells) alternatives.now }
+    ensures { result.now ≡ least_of (map (low_at at) alternatives.now) }
 {
-    let mut least = cell(&rows[0], at);
-    let mut greatest = least;
-    let mut rest = &rows[1..];
-    while let Some((row, others)) = rest.split_first() {
-        let value = cell(row, at);
+    let mut least = low(&alternatives[0], at);
+    let mut rest = &alternatives[1..];
+    while let Some((alternative, others)) = rest.split_first() {
+        let value = low(alternative, at);
         least = lesser(least, value);
+        rest = others;
+    }
+    least
+}
+
+// The greatest value in a column of some alternatives.
+fn greatest(alternatives: &[Alternative], at: usize) -> &Value
+    requires some { 0 < length alternatives.now }
+    requires wide { AllByRecursion (λ a. at < length a.cells) alternatives.now }
+    ensures { result.now ≡ greatest_of (map (high_at at) alternatives.now) }
+{
+    let mut greatest = high(&alternatives[0], at);
+    let mut rest = &alternatives[1..];
+    while let Some((alternative, others)) = rest.split_first() {
+        let value = high(alternative, at);
         greatest = greater(greatest, value);
         rest = others;
     }
-    (least, greatest)
+    greatest
 }
 
 // The lesser of two values.
 fn lesser<'a>(a: &'a Value, b: &'a Value) -> &'a Value
-    requires { kind_of a.now ≡ kind_of b.now }
     ensures { result.now ≡ lesser_of a.now b.now }
 {
-    if order(a, b).is_le() { a } else { b }
+    if compare(a, b).is_le() { a } else { b }
 }
 
 // The greater of two values.
 fn greater<'a>(a: &'a Value, b: &'a Value) -> &'a Value
-    requires { kind_of a.now ≡ kind_of b.now }
     ensures { result.now ≡ greater_of a.now b.now }
 {
-    if order(a, b).is_le() { b } else { a }
+    if compare(a, b).is_le() { b } else { a }
 }
 
-// The value in a column of a row.
-fn cell(row: &Cells, at: usize) -> &Value
-    requires { at < length row.now }
-    ensures { result.now ≡ column at row.now }
+// The least value that an alternative may have in a column.
+fn low(alternative: &Alternative, at: usize) -> &Value
+    requires { at < length alternative.now.cells }
+    ensures { result.now ≡ low_at at alternative.now }
 {
-    &row.values()[at]
+    cell(alternative, at).lo()
+}
+
+// The greatest value that an alternative may have in a column.
+fn high(alternative: &Alternative, at: usize) -> &Value
+    requires { at < length alternative.now.cells }
+    ensures { result.now ≡ high_at at alternative.now }
+{
+    cell(alternative, at).hi()
+}
+
+// The cell in a column of an alternative.
+fn cell(alternative: &Alternative, at: usize) -> &Cell
+    requires { at < length alternative.now.cells }
+    ensures { result.now ≡ cell_at at alternative.now }
+{
+    &alternative.cells()[at]
 }
 
 // The triple of a block's row.
 fn triple(block: &Block) -> Triple
     ensures { result ≡ triple_of block.now }
 {
-    let least = zero_or_one(!block.optional());
-    let guess = zero_or_one(block.guess().is_some());
-    let most = zero_or_one(true);
+    let least = least_count(block);
+    let guess = count(guessed_copies(block));
+    let most = count(most_copies(block.alternatives()));
+    ordered(least, guess, most)
+}
+
+// The triple of three counts in order.
+fn ordered(least: Count, guess: Count, most: Count) -> Triple
+    requires { IsTriple (counts least guess most) }
+    ensures { result ≡ counts least guess most }
+{
     let Some(triple) = Triple::of(least, guess, most) else {
         unreachable!()
     };
     triple
 }
 
-// The count 1, or 0.
-pub(crate) fn zero_or_one(there: bool) -> Count
-    ensures { result ≡ (if there then 1 else 0) }
+// The fewest copies over the choices that a block offers.
+fn least_count(block: &Block) -> Count
+    ensures { result ≡ (triple_of block.now).least }
 {
-    if there { Count::one() } else { Count::zero() }
+    if block.optional() {
+        Count::zero()
+    } else {
+        count(least_copies(block.alternatives()))
+    }
+}
+
+// The copies that are guessed.
+fn guessed_copies(block: &Block) -> u64
+    ensures { result ≡ guessed_copies_of block.now }
+{
+    match block.guess() {
+        Some(at) => block.alternatives()[at].times().guess(),
+        None => 0,
+    }
+}
+
+// The least number of copies of some alternatives.
+fn least_copies(alternatives: &[Alternative]) -> u64
+    requires { 0 < length alternatives.now }
+    ensures { result ≡ least_number (map (λ a. a.copies.least) alternatives.now) }
+{
+    let mut least = alternatives[0].times().least();
+    for alternative in &alternatives[1..] {
+        least = least.min(alternative.times().least());
+    }
+    least
+}
+
+// The greatest number of copies of some alternatives.
+fn most_copies(alternatives: &[Alternative]) -> u64
+    ensures { result ≡ greatest_number (map (λ a. a.copies.most) alternatives.now) }
+{
+    let mut most = 0;
+    for alternative in alternatives {
+        most = most.max(alternative.times().most());
+    }
+    most
+}
+
+// A number of copies as a count.
+pub(crate) fn count(copies: u64) -> Count
+    ensures { result ≡ copies }
+{
+    let Some(count) = Count::of(copies as u128) else {
+        unreachable!()
+    };
+    count
 }

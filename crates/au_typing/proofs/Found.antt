@@ -60,16 +60,16 @@ seam [] k ks = refl
 seam (b ∷ before) k ks = seam before k ks
 
 -- one more element before the others
-snoc : (before : List Kind) (k : Kind) (ks : List Kind) → (before ++ k ∷ []) ++ ks ≡ before ++ k ∷ ks
+pub snoc : (before : List Kind) (k : Kind) (ks : List Kind) → (before ++ k ∷ []) ++ ks ≡ before ++ k ∷ ks
 snoc [] k ks = refl
 snoc (b ∷ before) k ks = ap (λ xs. b ∷ xs) (snoc before k ks)
 
 -- the length of one more
-longer : (before : List Kind) (k : Kind) (n : ℕ) → length before ≡ n → length (before ++ k ∷ []) ≡ n + 1
+pub longer : (before : List Kind) (k : Kind) (n : ℕ) → length before ≡ n → length (before ++ k ∷ []) ≡ n + 1
 longer before k n e = omega (arith, length-append before (k ∷ []), e)
 
 -- the kind behind so many
-stands : (before : List Kind) (n : ℕ) (k : Kind) (ks : List Kind) → length before ≡ n → slice_get (before ++ k ∷ ks) n ≡ Some k
+pub stands : (before : List Kind) (n : ℕ) (k : Kind) (ks : List Kind) → length before ≡ n → slice_get (before ++ k ∷ ks) n ≡ Some k
 stands before n k ks e = subst (λ m. slice_get (before ++ k ∷ ks) m ≡ Some k) e (seam before k ks)
 
 -- Of each of these things, what the function says stands in the list, the first at this place.

@@ -11,12 +11,14 @@ use Rattle.au_parse.specs.declared.AggWord.{AggWord}
 use Rattle.au_parse.specs.declared.AggWord.TheVariants.{Count, Sum, Min, Max}
 use Rattle.au_parse.specs.Tree.{Tree, ItemTree}
 use Rattle.au_typing.specs.Aggregates.{Written, written, taken, taken_from}
+use Rattle.au_typing.specs.Scales.{number_if}
 use Rattle.au_typing.specs.Scopes.{Scope, fault_if}
 use Rattle.au_typing.specs.Terms.{Grouping, rows, groups, term_kind, term_faults, aggregate_kind, aggregate_faults, counts, is_extreme, argument_of, argument_term}
 use Rattle.au_typing.specs.Items.{item_written, items_written, item_faults, items_faults}
 use Rattle.au_typing.specs.declared.fault.TypingFault.TheVariants as fault
 use Rattle.au_typing.proofs.Faults.{none_of}
 use Rattle.au_typing.proofs.Found.{all_both, IsKnown, StandsAt}
+use Rattle.au_typing.proofs.Rescaled.{data_of, data_known, itself_number}
 use Rattle.au_typing.proofs.TermKinds.{field_kinds, written_kind, row_term_is, term_known, binary_parts, negate_parts, not_parts, when_parts, aggregate_parts}
 
 -- the kind of an aggregate's argument over the rows of the FROM items
@@ -51,29 +53,29 @@ needs false counting at h e = cc
 aggregates :
     (s : Scope) (g : Grouping) (at : ℕ) (word : AggWord) (e : Tree) → aggregate_faults (groups g) at (is_extreme word) (counts word e) ≡ [] →
     term_faults s rows at e ≡ [] → IsKnown (aggregate_kind word (term_kind s e)) → IsFine s g.by (record { word = word; argument = Some e })
-aggregates s g at Count e h f k = counted s g.by (Some e) (ap (λ b. kind_if b Int) (term_known s rows at e f)) refl
+aggregates s g at Count e h f k = counted s g.by (Some e) (ap (λ b. data_of (kind_if b Int)) (term_known s rows at e f)) refl
 aggregates s g at Sum e h f k =
     let is = row_term_is s 0 at e f in
     record {
-      argument = ap is_some is ∙ term_known s rows at e f;
-      kind = λ ks place p. ap (λ o. if is_kind Int o then Some Int else None) (p ∙ is);
-      is_known = k;
+      argument = ap is_some is ∙ data_known (term_kind s e) (term_known s rows at e f);
+      kind = λ ks place p. let number = itself_number (term_kind s e) k in is_int (slice_get ks place) (p ∙ is ∙ number.0) ∙ sym number.1;
+      is_known = data_known (number_if (term_kind s e)) k;
       sums = λ f place. refl;
     }
 aggregates s g at Min e h f k =
     let is = row_term_is s 0 at e f in
     record {
-      argument = ap is_some is ∙ term_known s rows at e f;
+      argument = ap is_some is ∙ data_known (term_kind s e) (term_known s rows at e f);
       kind = λ ks place p. p ∙ is;
-      is_known = k;
+      is_known = data_known (term_kind s e) k;
       sums = λ ungrouped place. absurd (needs g.by (counts Min e && g.joins) at h ungrouped);
     }
 aggregates s g at Max e h f k =
     let is = row_term_is s 0 at e f in
     record {
-      argument = ap is_some is ∙ term_known s rows at e f;
+      argument = ap is_some is ∙ data_known (term_kind s e) (term_known s rows at e f);
       kind = λ ks place p. p ∙ is;
-      is_known = k;
+      is_known = data_known (term_kind s e) k;
       sums = λ ungrouped place. absurd (needs g.by (counts Max e && g.joins) at h ungrouped);
     }
 
@@ -81,6 +83,7 @@ aggregates s g at Max e h f k =
 pub term_aggregates : (s : Scope) (g : Grouping) (around : ℕ) (t : Tree) → term_faults s (groups g) around t ≡ [] → AllByRecursion (IsFine s g.by) (written t)
 term_aggregates s g around (Tree.column name) h = tt
 term_aggregates s g around (Tree.number at m) h = tt
+term_aggregates s g around (Tree.decimal at n digits) h = tt
 term_aggregates s g around (Tree.text at m) h = tt
 term_aggregates s g around (Tree.flag at b) h = tt
 term_aggregates s g around (Tree.binary at operator left right) h =

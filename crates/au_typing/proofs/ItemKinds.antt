@@ -3,46 +3,48 @@ use Rattle.std.specs.Prelude.{◌≡◌, ℕ, ◌+◌, suc, Bool, true, false, L
 use Rattle.std.specs.List.{AllByRecursion, enumerate_from}
 use Rattle.std.proofs.Common.{arith, refl, sym, ◌∙◌, ap, subst}
 use Rattle.au_value.specs.declared.kinds.Kind.{Kind}
+use Rattle.au_value.specs.Order.{data_kind}
 use Rattle.au_expr.specs.Kinds.{kind_in}
 use Rattle.au_algebra.specs.Typing.{all_kinds, items_kinds}
 use Rattle.au_parse.specs.Tree.{ItemTree}
 use Rattle.au_typing.specs.Scopes.{Scope, is_owner, knows_owner}
 use Rattle.au_typing.specs.Terms.{Setting, place_faults}
 use Rattle.au_typing.specs.Items.{Output, if_owned, star_output, star_faults, item_written, items_written, item_outputs, outputs_from, item_faults, items_faults, columns_from}
-use Rattle.au_typing.specs.Queries.{kinds_of_columns}
+use Rattle.au_typing.specs.Queries.{data_kinds}
 use Rattle.au_typing.specs.declared.scope.Field.{Field}
 use Rattle.au_typing.specs.declared.fault.TypingFault.TheVariants as fault
 use Rattle.au_typing.proofs.Faults.{none_of}
 use Rattle.au_typing.proofs.Found.{all_both, all_known, known, IsKnown, StandsAt, stands_parts}
+use Rattle.au_typing.proofs.Rescaled.{data_of, data_known, known_data}
 use Rattle.au_typing.proofs.TermKinds.{Fits, written_kind, term_is, term_known}
 
 -- an output column whose kind is known, and is that of its expression
 pub record Gives (ks : List Kind) (o : Output) : Type 0 where
-  pub kind : kind_in ks o.term ≡ o.kind
+  pub kind : kind_in ks o.term ≡ data_of o.kind
   pub is_known : IsKnown o.kind
 
--- such columns have the kinds that are named
+-- the values of such columns have the kinds that are named
 pub gives_kinds :
     (ks : List Kind) (outputs : List Output) → AllByRecursion (Gives ks) outputs →
-    items_kinds ks (map (λ o. o.term) outputs) ≡ Some (map (λ o. known o.kind) outputs)
-gives_kinds ks outputs h = ap all_kinds (their_kinds outputs h) ∙ all_known (map (λ o. o.kind) outputs) (their_known outputs h) ∙ ap Some (twice outputs)
+    items_kinds ks (map (λ o. o.term) outputs) ≡ Some (map (λ o. data_kind (known o.kind)) outputs)
+gives_kinds ks outputs h = ap all_kinds (their_kinds outputs h) ∙ all_known (map (λ o. data_of o.kind) outputs) (their_known outputs h) ∙ ap Some (twice outputs)
   where
-    their_kinds : (os : List Output) → AllByRecursion (Gives ks) os → map (kind_in ks) (map (λ o. o.term) os) ≡ map (λ o. o.kind) os
+    their_kinds : (os : List Output) → AllByRecursion (Gives ks) os → map (kind_in ks) (map (λ o. o.term) os) ≡ map (λ o. data_of o.kind) os
     their_kinds [] h = refl
     their_kinds (o ∷ os) h = let e = h.0.kind in let r = their_kinds os h.1 in λ i. e i ∷ r i
 
-    their_known : (os : List Output) → AllByRecursion (Gives ks) os → AllByRecursion IsKnown (map (λ o. o.kind) os)
+    their_known : (os : List Output) → AllByRecursion (Gives ks) os → AllByRecursion IsKnown (map (λ o. data_of o.kind) os)
     their_known [] h = tt
-    their_known (o ∷ os) h = (h.0.is_known, their_known os h.1)
+    their_known (o ∷ os) h = (data_known o.kind h.0.is_known, their_known os h.1)
 
-    twice : (os : List Output) → map known (map (λ o. o.kind) os) ≡ map (λ o. known o.kind) os
+    twice : (os : List Output) → map known (map (λ o. data_of o.kind) os) ≡ map (λ o. data_kind (known o.kind)) os
     twice [] = refl
-    twice (o ∷ os) = ap (λ ks. known o.kind ∷ ks) (twice os)
+    twice (o ∷ os) = let e = known_data o.kind in let r = twice os in λ i. e i ∷ r i
 
--- the columns of outputs have their kinds
-pub columns_kinds : (k : ℕ) (outputs : List Output) → kinds_of_columns (columns_from k outputs) ≡ map (λ o. known o.kind) outputs
+-- the values of the columns of outputs have their kinds
+pub columns_kinds : (k : ℕ) (outputs : List Output) → data_kinds (columns_from k outputs) ≡ map (λ o. data_kind (known o.kind)) outputs
 columns_kinds k [] = refl
-columns_kinds k (o ∷ outputs) = ap (λ ks. known o.kind ∷ ks) (columns_kinds (k + 1) outputs)
+columns_kinds k (o ∷ outputs) = ap (λ ks. data_kind (known o.kind) ∷ ks) (columns_kinds (k + 1) outputs)
 
 -- a field at its place
 abbrev IsPlaced : List Field → ℕ × Field → Type 0

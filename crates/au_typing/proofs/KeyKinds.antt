@@ -7,6 +7,7 @@ use Rattle.std.proofs.lemmas.List.{length-append}
 use Rattle.std.proofs.lemmas.Option.{slice_get-map}
 use Rattle.std.proofs.Math.Seq.{take-append_seam}
 use Rattle.au_value.specs.declared.kinds.Kind.{Kind}
+use Rattle.au_value.specs.Order.{data_kind}
 use Rattle.au_expr.specs.Terms.{Column as column}
 use Rattle.au_expr.specs.Kinds.{kind_in}
 use Rattle.au_algebra.specs.declared.query.Agg.{Agg}
@@ -37,7 +38,7 @@ keys_known s [] h = tt
 keys_known s (key ∷ keys) h =
     let p = none_of (name_faults s key) (flat_map (name_faults s) keys) h in
     let m = meant s key p.0 in (
-      ap (λ o. is_some (slice_get (field_kinds s) (unwrap_or o 0))) m.found ∙ ap is_some (slice_get-map (λ f. f.kind) s.fields m.place ∙ ap (option_map (λ f. f.kind)) m.there),
+      ap (λ o. is_some (slice_get (field_kinds s) (unwrap_or o 0))) m.found ∙ ap is_some (slice_get-map (λ f. data_kind f.kind) s.fields m.place ∙ ap (option_map (λ f. data_kind f.kind)) m.there),
       keys_known s keys p.1,
     )
 
@@ -110,9 +111,9 @@ pub groups_fit : (s : Scope) (g : Grouping) (back : List Kind) → Fits s (group
 groups_fit s g back at i f there h =
     let j = there_is (key_of g.keys i) (no_fault (is_none (key_of g.keys i)) (fault.NotGrouped at) h) in
     let key = found (λ k. k == i) g.keys j.0 j.1 in
-    let kind : slice_get (field_kinds s) key.item ≡ Some f.kind = ap (slice_get (field_kinds s)) (eqb-true key.item i key.passes) ∙ rows_fit s at i f there refl in
+    let kind : slice_get (field_kinds s) key.item ≡ Some (data_kind f.kind) = ap (slice_get (field_kinds s)) (eqb-true key.item i key.passes) ∙ rows_fit s at i f there refl in
     ap (λ o. slice_get (key_kinds s g.keys ++ back) (unwrap_or o 0)) j.1
-    ∙ in_front (key_kinds s g.keys) back j.0 f.kind
+    ∙ in_front (key_kinds s g.keys) back j.0 (data_kind f.kind)
     (slice_get-map known (map (slice_get (field_kinds s)) g.keys) j.0
     ∙ ap (option_map known) (slice_get-map (slice_get (field_kinds s)) g.keys j.0 ∙ ap (option_map (slice_get (field_kinds s))) key.there)
     ∙ ap (λ o. Some (known o)) kind)

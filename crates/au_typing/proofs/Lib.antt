@@ -10,7 +10,9 @@ pub mod Within
 mod Rows
 mod Faults
 mod Found
+mod Rescaled
 mod TermKinds
+mod SetColumns
 mod ItemKinds
 mod GroupKinds
 mod KeyKinds

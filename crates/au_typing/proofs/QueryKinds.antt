@@ -1,10 +1,12 @@
 -- A statement in which nothing is wrong has a tree that is typed, with the kinds of its columns.
-use Rattle.std.specs.Prelude.{◌≡◌, ℕ, ◌==◌, not, Bool, true, false, List, [], ◌∷◌, length, flat_map, Option, Some, None, option_and_then, option_map, if◌then◌else◌}
+use Rattle.std.specs.Prelude.{◌≡◌, ℕ, ◌==◌, not, Bool, true, false, List, [], ◌∷◌, length, map, flat_map, Option, Some, None, option_and_then, option_map, if◌then◌else◌}
 use Rattle.std.specs.Str.{str_eq_ignore_ascii_case}
 use Rattle.std.proofs.Common.{refl, sym, ◌∙◌, ap}
 use Rattle.std.proofs.lemmas.Bool.{not-false}
 use Rattle.std.proofs.lemmas.Option.{slice_get-map}
+use Rattle.std.proofs.lemmas.Simd.{map-map}
 use Rattle.au_value.specs.declared.kinds.Kind.{Kind}
+use Rattle.au_value.specs.Order.{data_kind}
 use Rattle.au_algebra.specs.Trees.{Tree as Query}
 use Rattle.au_algebra.specs.Typing.{kinds_of, kinds_if, same_kinds}
 use Rattle.au_parse.specs.Tree.{QueryTree, Sources, SetWord}
@@ -12,7 +14,7 @@ use Rattle.au_parse.specs.Whole.{HasSource, WholeQuery, WholeSources}
 use Rattle.au_blocks.specs.declared.column.Column.{Column}
 use Rattle.au_typing.specs.Scopes.{fault_if, then_faults}
 use Rattle.au_typing.specs.Selects.{Typing, FromItem, alias_faults, clauses_faults, from_faults, distinct_if, setting_of, scope_of, is_join, Clauses}
-use Rattle.au_typing.specs.Queries.{Relation, IsWellTyped, tree_of, kinds_of as its_kinds, table_of, table_typing, table_kinds, columns_of, kinds_of_columns, sides_faults, set_typing, typing, from_items}
+use Rattle.au_typing.specs.Queries.{Relation, IsWellTyped, tree_of, kinds_of as its_kinds, table_of, table_typing, table_kinds, columns_of, data_kinds, kinds_fit, set_columns, side_tree, sides_faults, set_typing, typing, from_items}
 use Rattle.au_typing.specs.Laws.{TreeIsTyped}
 use Rattle.au_typing.specs.declared.fault.TypingFault.{TypingFault}
 use Rattle.au_typing.specs.declared.fault.TypingFault.TheVariants as fault
@@ -20,6 +22,7 @@ use Rattle.au_typing.proofs.Faults.{none_of, no_fault, then_none}
 use Rattle.au_typing.proofs.Found.{found}
 use Rattle.au_typing.proofs.FromKinds.{IsTypedAs, FromTyped, HasItem}
 use Rattle.au_typing.proofs.SelectKinds.{select_kinds}
+use Rattle.au_typing.proofs.SetColumns.{same_itself, set_data, side_kinds}
 
 -- a table that was found has its columns' kinds
 table_typed :
@@ -28,39 +31,43 @@ table_typed :
 table_typed tables at word None e h = cc
 table_typed tables at word (Some i) e h =
     let f = found (λ table. str_eq_ignore_ascii_case table.name word) tables i e in
-    slice_get-map (λ table. kinds_of_columns table.columns) tables i
-    ∙ ap (option_map (λ table. kinds_of_columns table.columns)) f.there
-    ∙ ap (λ o. Some (kinds_of_columns (columns_of o))) (sym f.there)
+    slice_get-map (λ table. data_kinds table.columns) tables i
+    ∙ ap (option_map (λ table. data_kinds table.columns)) f.there
+    ∙ ap (λ o. Some (data_kinds (columns_of o))) (sym f.there)
 
 -- a query of which each row is taken once
 once_kinds : (ts : List (List Kind)) (distinct : Bool) (q : Query) → kinds_of ts (distinct_if distinct q) ≡ kinds_of ts q
 once_kinds ts true q = refl
 once_kinds ts false q = refl
 
--- sides of a set that fit have the same kinds
-same_sides :
-    (widths : Bool) (left right : List Kind) (f g : TypingFault) → (if widths then fault_if (not (same_kinds left right)) f else g ∷ []) ≡ [] →
-    same_kinds left right ≡ true
-same_sides true left right f g h = not-false _ (no_fault _ f h)
-same_sides false left right f g h = cc
+-- sides of a set without a fault fit
+sides_fit : (widths : Bool) (left right : List Column) (f g : TypingFault) → (if widths then fault_if (not (kinds_fit left right)) f else g ∷ []) ≡ [] → kinds_fit left right ≡ true
+sides_fit true left right f g h = not-false _ (no_fault _ f h)
+sides_fit false left right f g h = cc
 
-same_columns : (at : ℕ) (left right : List Column) → sides_faults at left right ≡ [] → same_kinds (kinds_of_columns left) (kinds_of_columns right) ≡ true
-same_columns at left right h = same_sides (length left == length right) (kinds_of_columns left) (kinds_of_columns right) (fault.KindMismatch at) (fault.WidthMismatch at) h
+same_columns : (at : ℕ) (left right : List Column) → sides_faults at left right ≡ [] → kinds_fit left right ≡ true
+same_columns at left right h = sides_fit (length left == length right) left right (fault.KindMismatch at) (fault.WidthMismatch at) h
 
--- both sides are typed, and of the same kinds
+-- two trees of the same kinds
+both_kinds : (l r : Option (List Kind)) (ks : List Kind) → l ≡ Some ks → r ≡ Some ks → option_and_then (λ ms. option_and_then (λ js. kinds_if (same_kinds ms js) ms) r) l ≡ Some ks
+both_kinds l r ks p q = rw (p, q, same_itself ks) refl
+
+-- both sides are typed, and brought to the same kinds
 set_typed :
     (ts : List (List Kind)) (word : SetWord) (all : Bool) (at : ℕ) (left right : Typing) → sides_faults at left.columns right.columns ≡ [] →
     IsTypedAs ts left → IsTypedAs ts right → IsTypedAs ts (set_typing word all at left right)
 set_typed ts SetWord.union all at left right h l r =
-    let same = same_columns at left.columns right.columns h in
-    once_kinds ts (not all) _
-    ∙ (λ i. option_and_then (λ ks. option_and_then (λ js. kinds_if (same_kinds ks js) ks) (r i)) (l i))
-    ∙ ap (λ b. kinds_if b (kinds_of_columns left.columns)) same
+    let columns = set_columns left.columns right.columns in
+    let same = set_data left.columns right.columns (same_columns at left.columns right.columns h) in
+    let a = side_kinds ts columns left.columns left.tree same.0 l in
+    let b = side_kinds ts columns right.columns right.tree same.1 r in
+    once_kinds ts (not all) _ ∙ both_kinds _ _ (data_kinds columns) a b
 set_typed ts SetWord.except all at left right h l r =
-    let same = same_columns at left.columns right.columns h in
-    let once = once_kinds ts (not all) left.tree ∙ l in
-    (λ i. option_and_then (λ ks. option_and_then (λ js. kinds_if (same_kinds ks js) ks) (r i)) (once i))
-    ∙ ap (λ b. kinds_if b (kinds_of_columns left.columns)) same
+    let columns = set_columns left.columns right.columns in
+    let same = set_data left.columns right.columns (same_columns at left.columns right.columns h) in
+    let a = once_kinds ts (not all) (side_tree columns left.columns left.tree) ∙ side_kinds ts columns left.columns left.tree same.0 l in
+    let b = side_kinds ts columns right.columns right.tree same.1 r in
+    both_kinds _ _ (data_kinds columns) a b
 
 -- a SELECT with a source has a FROM item
 has_item : (tables : List Relation) (sources : Sources) → HasSource sources → HasItem (from_items tables sources)
@@ -104,10 +111,10 @@ module _ (tables : List Relation) where
 
 -- The tree of a statement without a fault has exactly the kinds that are named.
 pub tree_is_typed : TreeIsTyped
-tree_is_typed tables statement w h = query_typed tables statement w h
+tree_is_typed tables statement w h = query_typed tables statement w h ∙ ap Some (sym (map-map data_kind (λ c. c.kind) (typing tables statement).columns))
 
 -- the same of a tree and kinds that are those of the statement
 pub answer_is_typed :
     (tables : List Relation) (statement : QueryTree) (q : Query) (ks : List Kind) → WholeQuery statement → IsWellTyped tables statement →
-    q ≡ tree_of tables statement → ks ≡ its_kinds tables statement → kinds_of (table_kinds tables) q ≡ Some ks
-answer_is_typed tables statement q ks w h e f = ap (kinds_of (table_kinds tables)) e ∙ tree_is_typed tables statement w h ∙ ap Some (sym f)
+    q ≡ tree_of tables statement → ks ≡ its_kinds tables statement → kinds_of (table_kinds tables) q ≡ Some (map data_kind ks)
+answer_is_typed tables statement q ks w h e f = ap (kinds_of (table_kinds tables)) e ∙ tree_is_typed tables statement w h ∙ ap (λ js. Some (map data_kind js)) (sym f)

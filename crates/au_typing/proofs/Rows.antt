@@ -24,8 +24,12 @@ orders = record { name = codes "orders"; columns = column_of (codes "id") kind.I
 abbrev rates : Relation
 rates = record { name = codes "rates"; columns = column_of (codes "city") kind.Text ∷ column_of (codes "fee") kind.Int ∷ [] }
 
+-- and `prices` with price, of two digits behind the point, and quantity
+abbrev prices : Relation
+prices = record { name = codes "prices"; columns = column_of (codes "price") (kind.Dec 2) ∷ column_of (codes "quantity") kind.Int ∷ [] }
+
 abbrev tables : List Relation
-tables = orders ∷ rates ∷ []
+tables = orders ∷ rates ∷ prices ∷ []
 
 abbrev name_at : ℕ → List ℕ → Tree
 name_at at column = Tree.column (record { at = at; table = None; column = column })
@@ -120,3 +124,49 @@ except_well = refl
 
 except_tree : tree_of tables except ≡ query.Difference (query.Distinct (query.Project (term.Column 1 ∷ []) (query.Table 0))) (query.Project (term.Column 0 ∷ []) (query.Table 1))
 except_tree = refl
+
+abbrev priced : Tree → QueryTree
+priced e = plain_select (item e ∷ []) (Sources.table 20 (codes "prices") None Sources.no_sources) None
+
+abbrev hundredfold : term.Term → term.Term
+hundredfold e = term.Multiply e (term.Literal (value.Int (pos 100)))
+
+-- SELECT price * quantity FROM prices
+cost_kinds : kinds_of tables (priced (Tree.binary 13 Operator.multiply (name_at 7 (codes "price")) (name_at 15 (codes "quantity")))) ≡ kind.Dec 2 ∷ []
+cost_kinds = refl
+
+-- SELECT price + 1 FROM prices
+sum_tree :
+    tree_of tables (priced (Tree.binary 13 Operator.add (name_at 7 (codes "price")) (Tree.number 15 (pos 1))))
+    ≡ query.Project (term.Add (term.Column 0) (hundredfold (term.Literal (value.Int (pos 1)))) ∷ []) (query.Table 2)
+sum_tree = refl
+
+-- SELECT price < 2.6 FROM prices
+comparison_tree :
+    tree_of tables (priced (Tree.binary 13 (Operator.compare comparison.Less) (name_at 7 (codes "price")) (Tree.decimal 15 (pos 26) 1)))
+    ≡ query.Project (term.Compare comparison.Less (term.Column 0) (term.Multiply (term.Literal (value.Int (pos 26))) (term.Literal (value.Int (pos 10)))) ∷ []) (query.Table 2)
+comparison_tree = refl
+
+-- SELECT price * 0.12345678 FROM prices
+ten_digits : defects tables (priced (Tree.binary 13 Operator.multiply (name_at 7 (codes "price")) (Tree.decimal 15 (pos 12345678) 8))) ≡ fault.KindMismatch 13 ∷ []
+ten_digits = refl
+
+-- SELECT CASE WHEN TRUE THEN quantity ELSE price END FROM prices
+abbrev chosen : QueryTree
+chosen = priced (Tree.case 7 (Tree.when (Tree.flag 17 true) (name_at 27 (codes "quantity")) (name_at 41 (codes "price"))))
+
+chosen_tree :
+    tree_of tables chosen ≡ query.Project (term.Case (term.Literal (value.Flag true)) (hundredfold (term.Column 1)) (term.Column 0) ∷ []) (query.Table 2)
+chosen_tree = refl
+
+-- SELECT price FROM prices UNION SELECT quantity FROM prices
+abbrev united : QueryTree
+united = QueryTree.set SetWord.union false 25 (priced (name_at 7 (codes "price"))) (priced (name_at 38 (codes "quantity")))
+
+united_kinds : kinds_of tables united ≡ kind.Dec 2 ∷ []
+united_kinds = refl
+
+united_tree :
+    tree_of tables united
+    ≡ query.Distinct (query.Union (query.Project (term.Column 0 ∷ []) (query.Table 2)) (query.Project (hundredfold (term.Column 0) ∷ []) (query.Project (term.Column 1 ∷ []) (query.Table 2))))
+united_tree = refl

@@ -15,9 +15,10 @@ use Rattle.au_typing.specs.Scopes.{Scope, name_faults}
 use Rattle.au_typing.specs.Terms.{Setting, Grouping, rows, groups, term_kind, term_faults, expression}
 use Rattle.au_typing.specs.Items.{item_written, items_written, item_faults, items_faults, outputs_from, columns_from}
 use Rattle.au_typing.specs.Selects.{Clauses, FromItem, clause_faults, clauses_faults, from_faults, selected, having_written, clauses_written, arguments, grouping, body, outputs, distinct_if, setting_of, is_grouped, is_join, key_places, scope_of, select, product}
-use Rattle.au_typing.specs.Queries.{kinds_of_columns}
+use Rattle.au_typing.specs.Queries.{data_kinds}
 use Rattle.au_typing.proofs.Faults.{none_of, fitting, then_none}
 use Rattle.au_typing.proofs.Found.{all_both, known, StandsAt, stands_parts, stands_behind}
+use Rattle.au_typing.proofs.Rescaled.{flag_data}
 use Rattle.au_typing.proofs.TermKinds.{Fits, field_kinds, rows_fit, written_kind, written_none, term_is, term_known, none_of_three, flag_misfit}
 use Rattle.au_typing.proofs.ItemKinds.{gives_kinds, items_give, columns_kinds}
 use Rattle.au_typing.proofs.GroupKinds.{IsFine, argument_kind, term_aggregates, items_aggregates, written_known}
@@ -41,14 +42,14 @@ module _ (ts : List (List Kind)) (s : Scope) where
       let flag : is_kind Flag (term_kind s c.1) ≡ true =
       held (is_kind Flag (term_kind s c.1)) Flag (fitting c.0 (term_kind s c.1 ∷ []) (kind_if (is_kind Flag (term_kind s c.1)) Flag) p.1 (and_from _ true (term_known s setting c.0 c.1 p.0) refl)) in
       ap (option_and_then (λ js. kinds_if (is_kind Flag (kind_in js (expression s setting n c.1))) js)) t
-      ∙ ap (λ b. kinds_if b ks) (ap (is_kind Flag) (term_is s setting ks columns n c.0 c.1 p.0 w) ∙ flag)
+      ∙ ap (λ b. kinds_if b ks) (ap (is_kind Flag) (term_is s setting ks columns n c.0 c.1 p.0 w) ∙ flag_data (term_kind s c.1) ∙ flag)
 
   -- items over a tree, each row perhaps once
   project_kinds :
       (setting : Setting) (ks : List Kind) → Fits s setting ks → (distinct : Bool) (n : ℕ) (items : List ItemTree) (q : Query) →
       items_faults s setting items ≡ [] → StandsAt (written_kind s) ks n (items_written items) →
       kinds_of ts q ≡ Some ks →
-      kinds_of ts (distinct_if distinct (Project (map (λ o. o.term) (outputs_from s setting n items)) q)) ≡ Some (kinds_of_columns (columns_from 1 (outputs_from s setting n items)))
+      kinds_of ts (distinct_if distinct (Project (map (λ o. o.term) (outputs_from s setting n items)) q)) ≡ Some (data_kinds (columns_from 1 (outputs_from s setting n items)))
   project_kinds setting ks columns true n items q h w t =
       ap (option_and_then (λ js. items_kinds js (map (λ o. o.term) (outputs_from s setting n items)))) t
       ∙ gives_kinds ks (outputs_from s setting n items) (items_give s setting ks columns n items h w)
@@ -112,7 +113,7 @@ module _ (ts : List (List Kind)) (s : Scope) (c : Clauses) (q : Query) (typed : 
   abbrev Fit : Setting → Type 0
   Fit setting =
       clauses_faults s setting c ≡ [] →
-      kinds_of ts (distinct_if c.distinct (Project (map (λ o. o.term) (outputs s setting c)) (body s setting c q))) ≡ Some (kinds_of_columns (columns_from 1 (outputs s setting c)))
+      kinds_of ts (distinct_if c.distinct (Project (map (λ o. o.term) (outputs s setting c)) (body s setting c q))) ≡ Some (data_kinds (columns_from 1 (outputs s setting c)))
 
   -- under WHERE
   where_kinds : clause_faults s rows c.condition ≡ [] → kinds_of ts (selected s rows 0 c.condition q) ≡ Some (field_kinds s)

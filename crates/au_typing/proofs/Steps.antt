@@ -1,5 +1,5 @@
 -- The answer of a term from those of its parts.
-use Rattle.std.proofs.Common.{◌≡◌, ℕ, ◌+◌, List, [], ◌∷◌, ◌++◌, length, map, Some, None, refl, sym, ap, ◌∙◌, arith, append_assoc, subst, inl, inr, length-append}
+use Rattle.std.proofs.Common.{◌≡◌, ℕ, ◌+◌, ◌<◌, ◌≤◌, List, [], ◌∷◌, ◌++◌, length, map, Some, None, refl, sym, ap, ◌∙◌, arith, append_assoc, subst, inl, inr, length-append}
 use Rattle.std.specs.Prelude.{Result, Ok, Err, Contains, Option, option_map}
 use Rattle.std.proofs.lemmas.List.{map-append, length-map}
 use Rattle.std.proofs.lemmas.List.Elements.{Contains-append_left, Contains-append_right}
@@ -8,17 +8,23 @@ use Rattle.au_expr.specs.Terms.{Term, term, Negate, Not, Case}
 use Rattle.au_parse.specs.declared.AggWord.{AggWord}
 use Rattle.au_parse.specs.declared.AggWord.TheVariants as word
 use Rattle.au_expr.specs.declared.expr.Expr.{Expr}
+use Rattle.au_parse.specs.Levels.{arms_tree}
 use Rattle.au_parse.specs.Tree.{Tree, Operator}
+use Rattle.au_parse.specs.Views.{term_tree}
+use Rattle.au_parse.specs.declared.Term.{Term as Node}
+use Rattle.au_parse.specs.declared.Term as node
 use Rattle.au_typing.specs.Aggregates.{Written, written, taken, taken_from}
+use Rattle.au_typing.specs.Scales.{rescaled, scale}
 use Rattle.au_typing.specs.Scopes.{Scope}
-use Rattle.au_typing.specs.Shapes.{signed_tree, signed_kind, signed_term, argument_given}
-use Rattle.au_typing.specs.Terms.{Setting, term_faults, term_kind, expression, argument_of, operation, rows, argument_term, aggregate_faults, is_extreme, counts}
-use Rattle.au_typing.specs.Results.{Answer, Answers, Takes, TermFound, Gathers, Joins, Signs, Chooses, IsFlag, ClauseAnswers, Refuses, next_column}
+use Rattle.au_typing.specs.Shapes.{if_arms, signed_tree, signed_kind, signed_term, argument_given}
+use Rattle.au_typing.specs.Terms.{Setting, term_faults, term_kind, expression, argument_of, branches, operated, rows, argument_term, aggregate_faults, is_extreme, counts}
+use Rattle.au_typing.specs.Results.{Answer, Answers, CaseAnswers, Takes, TermFound, Gathers, Joins, Signs, Chooses, Ends, IsFlag, ClauseAnswers, Refuses, next_column}
 use Rattle.au_typing.specs.declared.fault.TypingFault.{TypingFault}
 use Rattle.au_typing.specs.declared.fault.TypingFault.TheVariants as fault
 use Rattle.au_typing.specs.declared.setting.Gathered.{Gathered}
 use Rattle.au_typing.specs.declared.shape.Sign.{Sign}
 use Rattle.au_typing.specs.declared.shape.Sign.TheVariants as sign
+use Rattle.au_typing.proofs.Rescaled.{choice_few, own_scale, unscaled}
 
 -- what is taken of more aggregates
 taken_from-append : (n : ℕ) (ws vs : List Written) → taken_from n (ws ++ vs) ≡ taken_from n ws ++ taken_from (n + length ws) vs
@@ -53,6 +59,10 @@ pub refuses_right : (xs ys : List TypingFault) (f : TypingFault) → Refuses ys 
 refuses_right xs ys f (inl m) = inl m
 refuses_right xs ys f (inr in_ys) = inr (Contains-append_right xs ys f in_ys)
 
+-- the kinds of the operands of an operator
+kinds_known : (o : Operator) (j k m n : Option Kind) (a b : Term) → j ≡ m → k ≡ n → operated o j k a b ≡ operated o m n a b
+kinds_known o j k m n a b p q = λ i. operated o (p i) (q i) a b
+
 -- the answer of an operator
 pub join_step : (s : Scope) (g : Setting) (around at : ℕ) (o : Operator) (l r : Tree) (old mid new : Gathered) (x y z : Answer)
     → Answers s g around l old mid x → Answers s g around r mid new y → Joins o at x y z → Answers s g around (Tree.binary at o l r) old new z
@@ -62,7 +72,8 @@ join_step s g around at o l r old mid new (Ok x) (Ok y) (Ok z) fx fy j =
       record {
         sound = rw (fx.0.sound, fy.0.sound, fx.0.kind, fy.0.kind, j.0) refl;
         kind = rw (fx.0.kind, fy.0.kind) j.0;
-        term = ap (λ e. operation o e (expression s g (next_column g old + length (written l)) r)) fx.0.term ∙ ap (operation o (term x.0)) right ∙ j.1;
+        term = ap (λ e. operated o (term_kind s l) (term_kind s r) e (expression s g (next_column g old + length (written l)) r)) fx.0.term
+            ∙ ap (operated o (term_kind s l) (term_kind s r) (term x.0)) right ∙ kinds_known o (term_kind s l) (term_kind s r) (Some x.1) (Some y.1) (term x.0) (term y.0) fx.0.kind fy.0.kind ∙ j.1;
       },
       gathers_on s (next_column g old) (written l) (written r) old mid new fx.1 (subst (λ k. Gathers s k (written r) mid new) column fy.1),
     )
@@ -117,9 +128,9 @@ when_third : (s : Scope) (g : Setting) (around : ℕ) (c v r : Tree) (f : Typing
 when_third s g around c v r f h = refuses_left _ _ f (refuses_right (term_faults s g around c ++ term_faults s g around v) (term_faults s g around r) f h)
 
 -- the answer of a WHEN part
-pub choose_step : (s : Scope) (g : Setting) (around : ℕ) (c v r : Tree) (old one two new : Gathered) (x y z w : Answer)
-    → Answers s g around c old one x → Answers s g around v one two y → Answers s g around r two new z → Chooses around x y z w → Answers s g around (Tree.when c v r) old new w
-choose_step s g around c v r old one two new (Ok x) (Ok y) (Ok z) (Ok w) fx fy fz j =
+pub choose_step : (s : Scope) (g : Setting) (around : ℕ) (to : Option Kind) (c v r : Tree) (old one two new : Gathered) (x y z w : Answer)
+    → Answers s g around c old one x → Answers s g around v one two y → CaseAnswers s g around to r two new z → Chooses around to x y z w → CaseAnswers s g around to (Tree.when c v r) old new w
+choose_step s g around to c v r old one two new (Ok x) (Ok y) (Ok z) (Ok w) fx fy fz j =
     let n = next_column g old in
     let first : next_column g one ≡ n + length (written c) = next_after s g n (written c) old one fx.1 in
     let second : next_column g two ≡ n + length (written c) + length (written v) = next_after s g (next_column g one) (written v) one two fy.1 ∙ ap (λ k. k + length (written v)) first in
@@ -128,23 +139,58 @@ choose_step s g around c v r old one two new (Ok x) (Ok y) (Ok z) (Ok w) fx fy f
       record {
         sound = rw (fx.0.sound, fy.0.sound, fz.0.sound, fx.0.kind, fy.0.kind, fz.0.kind, j.0) refl;
         kind = rw (fx.0.kind, fy.0.kind, fz.0.kind) j.0;
-        term = ap (λ e. Case e (expression s g (n + length (written c)) v) (expression s g (n + length (written c) + length (written v)) r)) fx.0.term
-            ∙ ap (λ e. Case (term x.0) e (expression s g (n + length (written c) + length (written v)) r)) (ap (λ k. expression s g k v) (sym first) ∙ fy.0.term)
-            ∙ ap (Case (term x.0) (term y.0)) (ap (λ k. expression s g k r) (sym second) ∙ fz.0.term) ∙ j.1;
+        term = ap (λ e. Case e (rescaled (term_kind s v) to (expression s g (n + length (written c)) v)) (branches s to r (expression s g (n + length (written c) + length (written v)) r))) fx.0.term
+            ∙ ap (λ e. Case (term x.0) (rescaled (term_kind s v) to e) (branches s to r (expression s g (n + length (written c) + length (written v)) r))) (ap (λ k. expression s g k v) (sym first) ∙ fy.0.term)
+            ∙ ap (λ k. Case (term x.0) (rescaled k to (term y.0)) (branches s to r (expression s g (n + length (written c) + length (written v)) r))) fy.0.kind
+            ∙ ap (Case (term x.0) (rescaled (Some y.1) to (term y.0))) (ap (λ k. branches s to r (expression s g k r)) (sym second) ∙ fz.0.term) ∙ j.1;
       },
       gathers_on s n (written c ++ written v) (written r) old two new
           (gathers_on s n (written c) (written v) old one two fx.1 (subst (λ k. Gathers s k (written v) one two) first fy.1))
           (subst (λ k. Gathers s k (written r) two new) third fz.1),
     )
-choose_step s g around c v r old one two new (Ok x) (Ok y) (Ok z) (Err f) fx fy fz (inl m) = inl m
-choose_step s g around c v r old one two new (Ok x) (Ok y) (Ok z) (Err f) fx fy fz (inr j) =
+choose_step s g around to c v r old one two new (Ok x) (Ok y) (Ok z) (Err f) fx fy fz (inl m) = inl m
+choose_step s g around to c v r old one two new (Ok x) (Ok y) (Ok z) (Err f) fx fy fz (inr j) =
     refuses_right (term_faults s g around c ++ term_faults s g around v ++ term_faults s g around r) _ f (rw (fx.0.kind, fy.0.kind, fz.0.kind, j.1) (inr (0, omega arith, sym j.0)))
-choose_step s g around c v r old one two new (Ok x) (Ok y) (Err h) (Ok w) fx fy fz j = absurd (cc)
-choose_step s g around c v r old one two new (Ok x) (Ok y) (Err h) (Err f) fx fy fz j = let same : h ≡ f = cc in subst (Refuses (term_faults s g around (Tree.when c v r))) same (when_third s g around c v r h fz)
-choose_step s g around c v r old one two new (Ok x) (Err h) z (Ok w) fx fy fz j = absurd (cc)
-choose_step s g around c v r old one two new (Ok x) (Err h) z (Err f) fx fy fz j = let same : h ≡ f = cc in subst (Refuses (term_faults s g around (Tree.when c v r))) same (when_second s g around c v r h fy)
-choose_step s g around c v r old one two new (Err h) y z (Ok w) fx fy fz j = absurd (cc)
-choose_step s g around c v r old one two new (Err h) y z (Err f) fx fy fz j = let same : h ≡ f = cc in subst (Refuses (term_faults s g around (Tree.when c v r))) same (when_first s g around c v r h fx)
+choose_step s g around to c v r old one two new (Ok x) (Ok y) (Err h) (Ok w) fx fy fz j = absurd (cc)
+choose_step s g around to c v r old one two new (Ok x) (Ok y) (Err h) (Err f) fx fy fz j = let same : h ≡ f = cc in subst (Refuses (term_faults s g around (Tree.when c v r))) same (when_third s g around c v r h fz)
+choose_step s g around to c v r old one two new (Ok x) (Err h) z (Ok w) fx fy fz j = absurd (cc)
+choose_step s g around to c v r old one two new (Ok x) (Err h) z (Err f) fx fy fz j = let same : h ≡ f = cc in subst (Refuses (term_faults s g around (Tree.when c v r))) same (when_second s g around c v r h fy)
+choose_step s g around to c v r old one two new (Err h) y z (Ok w) fx fy fz j = absurd (cc)
+choose_step s g around to c v r old one two new (Err h) y z (Err f) fx fy fz j = let same : h ≡ f = cc in subst (Refuses (term_faults s g around (Tree.when c v r))) same (when_first s g around c v r h fx)
+
+-- what is no WHEN part is one branch
+term_branch : (s : Scope) (to : Option Kind) (t : Node) (e : Term) → branches s to (term_tree t) e ≡ rescaled (term_kind s (term_tree t)) to e
+term_branch s to (node.Column name) e = refl
+term_branch s to (node.Number at n) e = refl
+term_branch s to (node.Decimal at n digits) e = refl
+term_branch s to (node.Text at w) e = refl
+term_branch s to (node.Flag at b) e = refl
+term_branch s to (node.Add' at p l q r) e = refl
+term_branch s to (node.Subtract' at p l q r) e = refl
+term_branch s to (node.Multiply' at p l q r) e = refl
+term_branch s to (node.Negate' at p x) e = refl
+term_branch s to (node.Compare' at how p l q r) e = refl
+term_branch s to (node.And' at p l q r) e = refl
+term_branch s to (node.Or' at p l q r) e = refl
+term_branch s to (node.Not' at p x) e = refl
+term_branch s to (node.Case' at shape parts p x) e = refl
+term_branch s to (node.CountRows at) e = refl
+term_branch s to (node.Aggregate' at w p x) e = refl
+
+-- the answer of the value of ELSE
+ends_step : (s : Scope) (g : Setting) (around : ℕ) (to : Option Kind) (t : Node) (old new : Gathered) (x z : Answer)
+    → Answers s g around (term_tree t) old new x → Ends to x z → CaseAnswers s g around to (term_tree t) old new z
+ends_step s g around to t old new (Ok x) (Ok z) fx j = (
+  record {
+    sound = fx.0.sound;
+    kind = fx.0.kind ∙ ap Some j.0;
+    term = term_branch s to t (expression s g (next_column g old) (term_tree t)) ∙ (λ i. rescaled (fx.0.kind i) to (fx.0.term i)) ∙ j.1;
+  },
+  fx.1,
+)
+ends_step s g around to t old new (Ok x) (Err f) fx j = inl j
+ends_step s g around to t old new (Err h) (Ok z) fx j = absurd (cc)
+ends_step s g around to t old new (Err h) (Err f) fx j = let same : h ≡ f = cc in subst (Refuses (term_faults s g around (term_tree t))) same fx
 
 -- the argument that is gathered for an aggregate
 argument_is : (s : Scope) (word : AggWord) (e : Tree) (a : Term) → expression s rows 0 e ≡ a → argument_given word a ≡ argument_term s word (Some e)
@@ -178,10 +224,35 @@ pub aggregate_misplaced : (s : Scope) (g : Setting) (around at : ℕ) (w : AggWo
 aggregate_misplaced s g around at w e f h =
     refuses_left (aggregate_faults g at (is_extreme w) (counts w e) ++ term_faults s rows at e) _ f (refuses_left (aggregate_faults g at (is_extreme w) (counts w e)) (term_faults s rows at e) f (inr h))
 
+-- the same of no WHEN part before it
+pub ends_case : (s : Scope) (g : Setting) (around : ℕ) (to : Option Kind) (arms : List (Node × Node)) (t : Node) (old new : Gathered) (x z : Answer) → length arms ≡ 0
+    → Answers s g around (term_tree t) old new x → Ends to x z → CaseAnswers s g around to (arms_tree arms (term_tree t)) old new z
+ends_case s g around to [] t old new x z none found j = ends_step s g around to t old new x z found j
+ends_case s g around to (arm ∷ arms) t old new x z none found j = absurd (omega (arith, none))
+
+-- a CASE without a WHEN part is the value of its ELSE, of whatever kind
+branches_target : (s : Scope) (arms : List (Node × Node)) (otherwise : Node) (e : Term)
+    → let parts = arms_tree arms (term_tree otherwise) in branches s (if_arms arms (term_kind s parts)) parts e ≡ branches s (term_kind s parts) parts e
+branches_target s [] otherwise e =
+    let k = term_kind s (term_tree otherwise) in term_branch s None otherwise e ∙ unscaled k e ∙ sym (own_scale k e) ∙ sym (term_branch s k otherwise e)
+branches_target s (arm ∷ arms) otherwise e = refl
+
+-- the branches of a CASE with a WHEN part have 9 digits behind the point at most
+pub arms_few : (s : Scope) (arms : List (Node × Node)) (otherwise : Node) → 0 < length arms → scale (term_kind s (arms_tree arms (term_tree otherwise))) ≤ 9
+arms_few s [] otherwise some = absurd (omega arith)
+arms_few s (arm ∷ arms) otherwise some = choice_few _ (term_kind s (term_tree arm.1)) (term_kind s (arms_tree arms (term_tree otherwise)))
+
 -- the answer of a CASE
-pub case_step : (s : Scope) (g : Setting) (around at : ℕ) (parts : Tree) (old new : Gathered) (z : Answer) → Answers s g at parts old new z → Answers s g around (Tree.case at parts) old new z
-case_step s g around at parts old new (Ok z) fx = (record { sound = fx.0.sound; kind = fx.0.kind; term = fx.0.term }, record { arguments = fx.1.arguments; aggs = fx.1.aggs })
-case_step s g around at parts old new (Err f) fx = fx
+pub case_step : (s : Scope) (g : Setting) (around at : ℕ) (to : Option Kind) (arms : List (Node × Node)) (otherwise : Node) (old new : Gathered) (z : Answer)
+    → to ≡ if_arms arms (term_kind s (arms_tree arms (term_tree otherwise))) → CaseAnswers s g at to (arms_tree arms (term_tree otherwise)) old new z
+    → Answers s g around (Tree.case at (arms_tree arms (term_tree otherwise))) old new z
+case_step s g around at to arms otherwise old new (Ok z) is fx =
+    let parts = arms_tree arms (term_tree otherwise) in
+    let e = expression s g (next_column g old) parts in (
+      record { sound = fx.0.sound; kind = fx.0.kind; term = sym (branches_target s arms otherwise e) ∙ ap (λ k. branches s k parts e) (sym is) ∙ fx.0.term },
+      record { arguments = fx.1.arguments; aggs = fx.1.aggs },
+    )
+case_step s g around at to arms otherwise old new (Err f) is fx = fx
 
 -- the answer of a WHERE or HAVING
 pub clause_step : (s : Scope) (g : Setting) (at : ℕ) (t : Tree) (old new : Gathered) (x : Answer) (r : Result (Option Expr) TypingFault)

@@ -1,17 +1,21 @@
 -- What the calls answer of a statement, of the sides of a set word and of a FROM item: what it is where nothing is
 -- wrong with it, or else one of its faults.
-use Rattle.std.specs.Prelude.{ℕ, ◌≡◌, List, unwrap_or, Result, Ok, Err}
+use Rattle.std.specs.Prelude.{ℕ, ◌≡◌, ◌≤◌, ◌||◌, List, [], ◌∷◌, Some, unwrap_or, Result, Ok, Err}
+use Rattle.au_algebra.specs.Trees.{tree}
 use Rattle.au_parse.specs.Views.{statement_tree}
 use Rattle.au_parse.specs.declared.Source.{Source}
 use Rattle.au_parse.specs.declared.Source.TheVariants as source
-use Rattle.au_typing.specs.Queries.{Relation, table_of, table_typing, typing}
+use Rattle.au_typing.specs.Queries.{Relation, set_columns, side_tree, sides_faults, table_of, table_typing, typing}
 use Rattle.au_typing.specs.Results.{Refuses, from_view, part_typing}
+use Rattle.au_blocks.specs.declared.column.Column.{Column}
+use Rattle.au_typing.specs.Scales.{scale}
 use Rattle.au_typing.specs.Scopes.{then_faults}
 use Rattle.au_typing.specs.Selects.{FromItem, Typing}
 use Rattle.au_typing.specs.declared.fault.TypingFault.{TypingFault}
 use Rattle.au_typing.specs.declared.fault.TypingFault.TheVariants as fault
 use Rattle.au_typing.specs.declared.select.FromPart.{FromPart}
 use Rattle.au_typing.specs.declared.select.Part.{Part}
+use Rattle.au_typing.specs.declared.typed.Fitted.{Fitted}
 
 -- A query is found to be this, or one of its faults is named.
 abbrev pub Judges : Typing → Result Part TypingFault → Type 0
@@ -22,6 +26,19 @@ Judges t (Err f) = Refuses t.faults f
 abbrev pub JudgesSides : Typing → Typing → Result (Part × Part) TypingFault → Type 0
 JudgesSides left right (Ok parts) = (part_typing parts.0 ≡ left) × (part_typing parts.1 ≡ right)
 JudgesSides left right (Err f) = Refuses (then_faults left.faults right.faults) f
+
+-- No more than 9 digits stand behind the point of the numbers of these columns.
+abbrev pub FewDigits : List Column → Type 0
+FewDigits [] = Unit {0}
+FewDigits (c ∷ columns) = (scale (Some c.kind) ≤ 9) × FewDigits columns
+
+-- The sides of a set word fit and are brought to the kinds of its columns, or one of their faults is named.
+abbrev pub Brings : ℕ → Typing → Typing → Result Fitted TypingFault → Type 0
+Brings at left right (Ok f) =
+    let columns = set_columns left.columns right.columns in
+    (sides_faults at left.columns right.columns ≡ []) × (f.columns.items ≡ columns) × (tree f.left ≡ side_tree columns left.columns left.tree)
+    × (tree f.right ≡ side_tree columns right.columns right.tree) × (f.joins ≡ (left.joins || right.joins))
+Brings at left right (Err f) = Refuses (sides_faults at left.columns right.columns) f
 
 -- the FROM item that is written, and what is wrong with it
 abbrev pub source_item : List Relation → Source → FromItem

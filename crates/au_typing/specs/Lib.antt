@@ -1,3 +1,4 @@
+pub mod Scales
 pub mod Scopes
 pub mod Aggregates
 pub mod Terms

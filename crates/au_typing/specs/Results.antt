@@ -12,6 +12,7 @@ use Rattle.au_typing.specs.Shapes.{signed_kind, signed_term, argument_given}
 use Rattle.au_typing.specs.declared.shape.Sign.{Sign}
 use Rattle.au_typing.specs.Aggregates.{Written, written, taken, taken_from}
 use Rattle.au_typing.specs.Items.{Output, columns_from, items_faults, items_written, outputs_from, star_output, starred}
+use Rattle.au_typing.specs.Scales.{rescaled}
 use Rattle.au_typing.specs.Scopes.{Scope, name_faults}
 use Rattle.au_typing.specs.declared.outputs.Outputs.{Outputs}
 use Rattle.au_typing.specs.declared.select.FromPart.{FromPart}
@@ -22,7 +23,7 @@ use Rattle.au_algebra.specs.Trees.{Tree as Query, tree, Select, Project, Product
 use Rattle.au_algebra.specs.declared.query.Agg.{Agg}
 use Rattle.au_value.specs.declared.kinds.Kind.TheVariants.{Flag}
 use Rattle.au_expr.specs.Kinds.{is_kind, kind_if}
-use Rattle.au_typing.specs.Terms.{Setting, rows, groups, term_faults, term_kind, expression, argument_of, first_column, operator_kind, operation, when_kind, aggregate_kind}
+use Rattle.au_typing.specs.Terms.{Setting, rows, groups, term_faults, term_kind, expression, argument_of, first_column, operator_kind, operated, branches, when_kind, aggregate_kind}
 use Rattle.au_typing.specs.declared.fault.TypingFault.{TypingFault}
 use Rattle.au_typing.specs.declared.fault.TypingFault.TheVariants as fault
 use Rattle.au_typing.specs.declared.scope.Scope.{Scope as HeldScope}
@@ -71,7 +72,7 @@ Misfits at kind f = (f ≡ fault.NoMemory) ⊎ ((f ≡ fault.KindMismatch at) ×
 
 -- The answers of two operands are made that of their operator.
 abbrev pub Joins : Operator → ℕ → Answer → Answer → Answer → Type 0
-Joins o at (Ok x) (Ok y) (Ok r) = (operator_kind o (Some x.1) (Some y.1) ≡ Some r.1) × (operation o (term x.0) (term y.0) ≡ term r.0)
+Joins o at (Ok x) (Ok y) (Ok r) = (operator_kind o (Some x.1) (Some y.1) ≡ Some r.1) × (operated o (Some x.1) (Some y.1) (term x.0) (term y.0) ≡ term r.0)
 Joins o at (Ok x) (Ok y) (Err f) = Misfits at (operator_kind o (Some x.1) (Some y.1)) f
 Joins o at (Ok x) (Err g) r = r ≡ Err g
 Joins o at (Err g) y r = r ≡ Err g
@@ -82,13 +83,31 @@ Signs s at (Ok x) (Ok r) = (signed_kind s (Some x.1) ≡ Some r.1) × (signed_te
 Signs s at (Ok x) (Err f) = Misfits at (signed_kind s (Some x.1)) f
 Signs s at (Err g) r = r ≡ Err g
 
--- The answers of a condition, a value and what follows are made that of a WHEN part.
-abbrev pub Chooses : ℕ → Answer → Answer → Answer → Answer → Type 0
-Chooses at (Ok x) (Ok y) (Ok z) (Ok r) = (when_kind (Some x.1) (Some y.1) (Some z.1) ≡ Some r.1) × (Case (term x.0) (term y.0) (term z.0) ≡ term r.0)
-Chooses at (Ok x) (Ok y) (Ok z) (Err f) = Misfits at (when_kind (Some x.1) (Some y.1) (Some z.1)) f
-Chooses at (Ok x) (Ok y) (Err g) r = r ≡ Err g
-Chooses at (Ok x) (Err g) z r = r ≡ Err g
-Chooses at (Err g) y z r = r ≡ Err g
+-- Nothing is wrong with the parts of a CASE, and this is their expression with each branch brought to a kind, and their own kind.
+pub record BranchesFound (scope : Scope) (setting : Setting) (around n : ℕ) (to : Option Kind) (tree : Tree) (e : Term) (k : Kind) : Type 0 where
+  pub sound : term_faults scope setting around tree ≡ []
+  pub kind : term_kind scope tree ≡ Some k
+  pub term : branches scope to tree (expression scope setting n tree) ≡ e
+
+-- The parts of a CASE are found and their aggregates are gathered, or one of their faults is named.
+abbrev pub CaseAnswers : Scope → Setting → ℕ → Option Kind → Tree → Gathered → Gathered → Answer → Type 0
+CaseAnswers scope setting around to tree old new (Ok r) =
+    BranchesFound scope setting around (next_column setting old) to tree (term r.0) r.1 × Gathers scope (next_column setting old) (written tree) old new
+CaseAnswers scope setting around to tree old new (Err f) = Refuses (term_faults scope setting around tree) f
+
+-- The answer of the value of ELSE is made that of a branch.
+abbrev pub Ends : Option Kind → Answer → Answer → Type 0
+Ends to (Ok x) (Ok r) = (x.1 ≡ r.1) × (rescaled (Some x.1) to (term x.0) ≡ term r.0)
+Ends to (Ok x) (Err f) = f ≡ fault.NoMemory
+Ends to (Err g) r = r ≡ Err g
+
+-- The answers of a condition, a value and what follows are made that of a WHEN part whose value is brought to a kind.
+abbrev pub Chooses : ℕ → Option Kind → Answer → Answer → Answer → Answer → Type 0
+Chooses at to (Ok x) (Ok y) (Ok z) (Ok r) = (when_kind (Some x.1) (Some y.1) (Some z.1) ≡ Some r.1) × (Case (term x.0) (rescaled (Some y.1) to (term y.0)) (term z.0) ≡ term r.0)
+Chooses at to (Ok x) (Ok y) (Ok z) (Err f) = Misfits at (when_kind (Some x.1) (Some y.1) (Some z.1)) f
+Chooses at to (Ok x) (Ok y) (Err g) r = r ≡ Err g
+Chooses at to (Ok x) (Err g) z r = r ≡ Err g
+Chooses at to (Err g) y z r = r ≡ Err g
 
 -- An aggregate of this argument has been put behind those that were gathered.
 pub record TakesOne (setting : Setting) (word : AggWord) (old new : Gathered) (argument e : Term) : Type 0 where

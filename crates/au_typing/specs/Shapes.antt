@@ -1,8 +1,8 @@
 -- The tree of a term that has been taken apart,
 -- and the operators as the tree has them.
-use Rattle.std.specs.Prelude.{ℕ, Option, pos}
+use Rattle.std.specs.Prelude.{ℕ, List, [], ◌∷◌, Option, None, pos}
 use Rattle.au_value.specs.declared.kinds.Kind.{Kind}
-use Rattle.au_value.specs.declared.kinds.Kind.TheVariants.{Int, Flag}
+use Rattle.au_value.specs.declared.kinds.Kind.TheVariants.{Flag}
 use Rattle.au_value.specs.declared.value.Value.TheVariants as value
 use Rattle.au_expr.specs.Terms.{Term, Literal, Negate, Not}
 use Rattle.au_expr.specs.Kinds.{is_kind, kind_if}
@@ -11,6 +11,7 @@ use Rattle.au_parse.specs.declared.AggWord.TheVariants.{Count, Sum, Min, Max}
 use Rattle.au_parse.specs.Tree.{Tree, Operator}
 use Rattle.au_parse.specs.Views.{term_tree}
 use Rattle.au_parse.specs.Levels.{arms_tree}
+use Rattle.au_typing.specs.Scales.{number_if}
 use Rattle.au_typing.specs.declared.shape.Operation.{Operation}
 use Rattle.au_typing.specs.declared.shape.Operation.TheVariants as operation
 use Rattle.au_typing.specs.declared.shape.Sign.{Sign}
@@ -31,12 +32,17 @@ signed_tree at sign.Minus e = Tree.negate at e
 signed_tree at sign.Not e = Tree.not at e
 
 abbrev pub signed_kind : Sign → Option Kind → Option Kind
-signed_kind sign.Minus k = kind_if (is_kind Int k) Int
+signed_kind sign.Minus k = number_if k
 signed_kind sign.Not k = kind_if (is_kind Flag k) Flag
 
 abbrev pub signed_term : Sign → Term → Term
 signed_term sign.Minus e = Negate e
 signed_term sign.Not e = Not e
+
+-- the kind of the branches of a CASE, where there is a WHEN part
+abbrev pub if_arms : {A : Type 0} → List A → Option Kind → Option Kind
+if_arms [] k = None
+if_arms (arm ∷ arms) k = k
 
 -- the argument of an aggregate: 1 where rows are counted
 abbrev pub argument_given : AggWord → Term → Term
@@ -48,6 +54,7 @@ argument_given Max e = e
 abbrev pub shape_tree : Shape → Tree
 shape_tree (shape.Column name) = Tree.column name.now
 shape_tree (shape.Number at n) = Tree.number at n
+shape_tree (shape.Decimal at n digits) = Tree.decimal at n digits
 shape_tree (shape.Text at word) = Tree.text at word.now
 shape_tree (shape.Flag at b) = Tree.flag at b
 shape_tree (shape.Binary at o l r) = Tree.binary at (operator_of o) (term_tree l.now) (term_tree r.now)

@@ -3,46 +3,48 @@
 use Rattle.std.specs.Prelude.{ℕ, ◌+◌, ◌==◌, ◌&&◌, ◌||◌, not, Bool, true, false, List, [], ◌∷◌, ◌++◌, length, Option, Some, None, option_and_then, unwrap_or, is_some, is_none, position, pos}
 use Rattle.std.specs.List.{list_all}
 use Rattle.au_value.specs.declared.kinds.Kind.{Kind}
-use Rattle.au_value.specs.declared.kinds.Kind.TheVariants.{Int, Text, Flag}
+use Rattle.au_value.specs.declared.kinds.Kind.TheVariants.{Int, Dec, Text, Flag}
 use Rattle.au_value.specs.declared.value.Value.TheVariants as value
 use Rattle.au_expr.specs.Terms.{Term, Column, Literal, Add, Subtract, Multiply, Negate, Compare, And, Or, Not, Case}
-use Rattle.au_expr.specs.Kinds.{is_kind, agreed, kind_if, only_if}
+use Rattle.au_expr.specs.Kinds.{is_kind, kind_if, only_if}
 use Rattle.au_parse.specs.declared.AggWord.{AggWord}
 use Rattle.au_parse.specs.declared.AggWord.TheVariants.{Count, Sum, Min, Max}
 use Rattle.au_parse.specs.Tree.{Tree, Operator}
 use Rattle.au_typing.specs.Aggregates.{Written, written}
+use Rattle.au_typing.specs.Scales.{common, number_if, product_kind, rescaled, sum_kind}
 use Rattle.au_typing.specs.Scopes.{Scope, fault_if, place_of, field_kind, name_faults, then_faults}
 use Rattle.au_typing.specs.declared.fault.TypingFault.{TypingFault}
 use Rattle.au_typing.specs.declared.fault.TypingFault.TheVariants as fault
 
 -- the kind that an operator gives, where its operands fit
 abbrev pub operator_kind : Operator → Option Kind → Option Kind → Option Kind
-operator_kind Operator.add j k = kind_if (is_kind Int j && is_kind Int k) Int
-operator_kind Operator.subtract j k = kind_if (is_kind Int j && is_kind Int k) Int
-operator_kind Operator.multiply j k = kind_if (is_kind Int j && is_kind Int k) Int
-operator_kind (Operator.compare how) j k = kind_if (is_some (agreed j k)) Flag
+operator_kind Operator.add j k = sum_kind j k
+operator_kind Operator.subtract j k = sum_kind j k
+operator_kind Operator.multiply j k = product_kind j k
+operator_kind (Operator.compare how) j k = kind_if (is_some (common j k)) Flag
 operator_kind Operator.and j k = kind_if (is_kind Flag j && is_kind Flag k) Flag
 operator_kind Operator.or j k = kind_if (is_kind Flag j && is_kind Flag k) Flag
 
 -- the kind that an aggregate gives
 abbrev pub aggregate_kind : AggWord → Option Kind → Option Kind
 aggregate_kind Count k = kind_if (is_some k) Int
-aggregate_kind Sum k = kind_if (is_kind Int k) Int
+aggregate_kind Sum k = number_if k
 aggregate_kind Min k = k
 aggregate_kind Max k = k
 
 -- the kind of a WHEN part with its condition, its value and what follows
 abbrev pub when_kind : Option Kind → Option Kind → Option Kind → Option Kind
-when_kind i j k = only_if (is_kind Flag i) (agreed j k)
+when_kind i j k = only_if (is_kind Flag i) (common j k)
 
 -- the kind of a term, where its names are known and its parts fit
 abbrev pub term_kind : Scope → Tree → Option Kind
 term_kind scope (Tree.column name) = field_kind scope name
 term_kind scope (Tree.number at n) = Some Int
+term_kind scope (Tree.decimal at n digits) = Some (Dec digits)
 term_kind scope (Tree.text at w) = Some Text
 term_kind scope (Tree.flag at b) = Some Flag
 term_kind scope (Tree.binary at operator left right) = operator_kind operator (term_kind scope left) (term_kind scope right)
-term_kind scope (Tree.negate at e) = kind_if (is_kind Int (term_kind scope e)) Int
+term_kind scope (Tree.negate at e) = number_if (term_kind scope e)
 term_kind scope (Tree.not at e) = kind_if (is_kind Flag (term_kind scope e)) Flag
 term_kind scope (Tree.case at parts) = term_kind scope parts
 term_kind scope (Tree.when condition value rest) = when_kind (term_kind scope condition) (term_kind scope value) (term_kind scope rest)
@@ -111,12 +113,13 @@ aggregate_faults (groups g) at extreme counting = fault_if (extreme && not g.by)
 abbrev pub term_faults : Scope → Setting → ℕ → Tree → List TypingFault
 term_faults scope setting around (Tree.column name) = then_faults (name_faults scope name) (place_faults setting name.at (place_of scope name))
 term_faults scope setting around (Tree.number at n) = []
+term_faults scope setting around (Tree.decimal at n digits) = []
 term_faults scope setting around (Tree.text at w) = []
 term_faults scope setting around (Tree.flag at b) = []
 term_faults scope setting around (Tree.binary at operator left right) =
     term_faults scope setting around left ++ term_faults scope setting around right
     ++ misfit at (term_kind scope left ∷ term_kind scope right ∷ []) (operator_kind operator (term_kind scope left) (term_kind scope right))
-term_faults scope setting around (Tree.negate at e) = term_faults scope setting around e ++ misfit at (term_kind scope e ∷ []) (kind_if (is_kind Int (term_kind scope e)) Int)
+term_faults scope setting around (Tree.negate at e) = term_faults scope setting around e ++ misfit at (term_kind scope e ∷ []) (number_if (term_kind scope e))
 term_faults scope setting around (Tree.not at e) = term_faults scope setting around e ++ misfit at (term_kind scope e ∷ []) (kind_if (is_kind Flag (term_kind scope e)) Flag)
 term_faults scope setting around (Tree.case at parts) = term_faults scope setting at parts
 term_faults scope setting around (Tree.when condition value rest) =
@@ -144,17 +147,35 @@ operation (Operator.compare how) a b = Compare how a b
 operation Operator.and a b = And a b
 operation Operator.or a b = Or a b
 
+-- The operands of a sum, a difference and a comparison are brought to one kind.
+abbrev pub operand : Operator → Option Kind → Option Kind → Term → Term
+operand Operator.add own to e = rescaled own to e
+operand Operator.subtract own to e = rescaled own to e
+operand Operator.multiply own to e = e
+operand (Operator.compare how) own to e = rescaled own to e
+operand Operator.and own to e = e
+operand Operator.or own to e = e
+
+abbrev pub operated : Operator → Option Kind → Option Kind → Term → Term → Term
+operated operator j k a b = operation operator (operand operator j (common j k) a) (operand operator k (common j k) b)
+
+-- the parts of a CASE as an expression, in which each branch is brought to a kind
+abbrev pub branches : Scope → Option Kind → Tree → Term → Term
+branches scope to (Tree.when condition value rest) (Case c a b) = Case c (rescaled (term_kind scope value) to a) (branches scope to rest b)
+branches scope to tree e = rescaled (term_kind scope tree) to e
+
 -- The expression of a term. The number is the column of the first aggregate that is written in it; the others follow.
 abbrev pub expression : Scope → Setting → ℕ → Tree → Term
 expression scope setting n (Tree.column name) = column_term setting (place_of scope name)
 expression scope setting n (Tree.number at m) = Literal (value.Int m)
+expression scope setting n (Tree.decimal at m digits) = Literal (value.Int m)
 expression scope setting n (Tree.text at w) = Literal (value.Text w)
 expression scope setting n (Tree.flag at b) = Literal (value.Flag b)
 expression scope setting n (Tree.binary at operator left right) =
-    operation operator (expression scope setting n left) (expression scope setting (n + length (written left)) right)
+    operated operator (term_kind scope left) (term_kind scope right) (expression scope setting n left) (expression scope setting (n + length (written left)) right)
 expression scope setting n (Tree.negate at e) = Negate (expression scope setting n e)
 expression scope setting n (Tree.not at e) = Not (expression scope setting n e)
-expression scope setting n (Tree.case at parts) = expression scope setting n parts
+expression scope setting n (Tree.case at parts) = branches scope (term_kind scope parts) parts (expression scope setting n parts)
 expression scope setting n (Tree.when condition value rest) =
     Case (expression scope setting n condition) (expression scope setting (n + length (written condition)) value)
     (expression scope setting (n + length (written condition) + length (written value)) rest)

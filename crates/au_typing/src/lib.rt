@@ -13,6 +13,7 @@
 
 mod fault;
 mod outputs;
+mod scales;
 mod schema;
 mod scope;
 mod select;

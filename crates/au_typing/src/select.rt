@@ -149,7 +149,8 @@ fn has_aggregate(what: &Term) -> bool
     ensures { result ≡ nat_lt 0 (length (written (term_tree what.now))) }
 {
     match shape_of(what) {
-        Shape::Column(_) | Shape::Number(_, _) | Shape::Text(_, _) | Shape::Flag(_, _) => false,
+        Shape::Column(_) | Shape::Number(_, _) | Shape::Decimal(_, _, _) => false,
+        Shape::Text(_, _) | Shape::Flag(_, _) => false,
         Shape::CountRows(_) | Shape::Aggregate(_, _, _) => true,
         Shape::Binary(_, _, l, r) => has_aggregate(l) || has_aggregate(r),
         Shape::Unary(_, _, e) => has_aggregate(e),

@@ -29,6 +29,7 @@ pub(crate) enum Sign {
 pub(crate) enum Shape<'a> {
     Column(&'a Name),
     Number(usize, i128),
+    Decimal(usize, i128, u32),
     Text(usize, &'a Word),
     Flag(usize, bool),
     Binary(usize, Operation, &'a Term, &'a Term),
@@ -44,6 +45,7 @@ pub(crate) fn shape_of(term: &Term) -> Shape<'_>
     match term {
         Term::Column(name) => Shape::Column(name),
         Term::Number(at, n) => Shape::Number(*at, *n),
+        Term::Decimal(at, n, digits) => Shape::Decimal(*at, *n, *digits),
         Term::Text(at, word) => Shape::Text(*at, word),
         Term::Flag(at, b) => Shape::Flag(*at, *b),
         Term::Add(at, l, r) => Shape::Binary(*at, Operation::Add, l, r),

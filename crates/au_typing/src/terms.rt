@@ -1,19 +1,21 @@
 //! Terms over a scope: the expression of each and its kind, or what is wrong with it.
-ghost use Rattle.std.specs.Prelude.{◌≡◌, ℕ, [], Some, None, false, true, IfOk, IfErr, IfSome, IfNone, Contains};
+ghost use Rattle.std.specs.Prelude.{◌≡◌, ◌≤◌, ℕ, [], Some, None, false, true, IfOk, IfErr, IfSome, IfNone, Contains};
 ghost use Rattle.au_expr.specs.Terms.{term, Case, Literal};
 ghost use Rattle.au_parse.specs.Levels.{arms_tree};
 ghost use Rattle.au_parse.specs.Tree.{Tree};
 ghost use Rattle.au_parse.specs.Views.{term_tree};
-ghost use Rattle.au_typing.specs.Results.{Answers, Chooses, Joins, Signs, Takes, scope_view, setting_view};
-ghost use Rattle.au_typing.specs.Shapes.{operator_of, signed_kind, signed_term, argument_given};
-ghost use Rattle.au_typing.specs.Scopes.{Scope as ScopeOf};
+ghost use Rattle.au_typing.specs.Results.{Answers, CaseAnswers, Chooses, Ends, Joins, Signs, Takes, scope_view, setting_view};
+ghost use Rattle.au_typing.specs.Shapes.{if_arms, operator_of, signed_kind, signed_term, argument_given};
+ghost use Rattle.au_typing.specs.Scales.{scale};
+ghost use Rattle.au_typing.specs.Scopes.{Scope as ScopeOf, field_kind};
 ghost use Rattle.au_typing.specs.declared.setting.Gathered.{Gathered as GatheredOf};
 ghost use Rattle.au_typing.specs.declared.fault.TypingFault.TheVariants as fault;
 ghost use Rattle.au_value.specs.declared.kinds.Kind.TheVariants as kind;
 ghost use Rattle.au_value.specs.declared.value.Value.TheVariants as value;
-ghost use Rattle.au_typing.specs.Terms.{aggregate_faults, aggregate_kind, column_term, key_of, counts, is_extreme, names_column, operation as operation_of, operator_kind, place_faults, when_kind};
+ghost use Rattle.au_typing.specs.Terms.{aggregate_faults, aggregate_kind, column_term, key_of, counts, is_extreme, names_column, operand, operated, operation as operation_of, operator_kind, place_faults, term_kind, when_kind};
 
 use crate::fault::TypingFault;
+use crate::scales::{common_kind, number_if, product_kind, rescaled, sum_kind};
 use crate::scope::{Scope, column};
 use crate::setting::{Gathered, Setting};
 use crate::shape::{Operation, Shape, Sign, shape_of};
@@ -44,6 +46,16 @@ fn key_of(keys: &[usize], place: usize) -> Option<usize>
     keys.iter().position(|key| *key == place)
 }
 
+// The kind of the column that a name means.
+fn field_kind(scope: &Scope, name: &Name) -> Option<Kind>
+    ensures { result ≡ field_kind (scope_view scope.now) name.now }
+{
+    match column(scope, name) {
+        Ok((_, field)) => Some(field.kind),
+        Err(_) => None,
+    }
+}
+
 fn named(scope: &Scope, setting: &Setting, name: &Name) -> Answer
     ensures { (around : ℕ) (old : GatheredOf) → Answers (scope_view scope.now) (setting_view setting.now) around (Tree.column name.now) old old result }
 {
@@ -69,15 +81,10 @@ fn operator_kind(operation: Operation, left: Kind, right: Kind) -> Option<Kind>
     ensures { result ≡ operator_kind (operator_of operation) (Some left) (Some right) }
 {
     match operation {
-        Operation::Add | Operation::Subtract | Operation::Multiply => {
-            if left == Kind::Int && right == Kind::Int {
-                Some(Kind::Int)
-            } else {
-                None
-            }
-        }
+        Operation::Add | Operation::Subtract => sum_kind(left, right),
+        Operation::Multiply => product_kind(left, right),
         Operation::Compare(_) => {
-            if left == right {
+            if common_kind(left, right).is_some() {
                 Some(Kind::Flag)
             } else {
                 None
@@ -109,12 +116,48 @@ fn joined(alloc: Global, operation: Operation, left: Expr, right: Expr) -> Resul
     }
 }
 
+// An operand of an operator, brought to the kind of both where the operator wants that.
+fn operand(
+    alloc: Global,
+    operation: Operation,
+    own: Kind,
+    to: Option<Kind>,
+    e: Expr,
+) -> Result<Expr, NoMemory>
+    requires { scale to ≤ 9 }
+    ensures { IfOk result (λ x. term x ≡ operand (operator_of operation) (Some own) to (term e)) }
+{
+    match operation {
+        Operation::Add | Operation::Subtract | Operation::Compare(_) => {
+            rescaled(alloc, own, to, e)
+        }
+        Operation::Multiply | Operation::And | Operation::Or => Ok(e),
+    }
+}
+
+// Two operands of these kinds made one.
+fn operated(
+    alloc: Global,
+    operation: Operation,
+    j: Kind,
+    k: Kind,
+    left: Expr,
+    right: Expr,
+) -> Result<Expr, NoMemory>
+    ensures { IfOk result (λ e. term e ≡ operated (operator_of operation) (Some j) (Some k) (term left) (term right)) }
+{
+    let to = common_kind(j, k);
+    let left = operand(alloc, operation, j, to, left)?;
+    let right = operand(alloc, operation, k, to, right)?;
+    joined(alloc, operation, left, right)
+}
+
 // The kind that a sign or a NOT gives, where its operand fits.
 fn signed_kind(sign: Sign, kind: Kind) -> Option<Kind>
     ensures { result ≡ signed_kind sign (Some kind) }
 {
     match (sign, kind) {
-        (Sign::Minus, Kind::Int) => Some(Kind::Int),
+        (Sign::Minus, _) => number_if(kind),
         (Sign::Not, Kind::Flag) => Some(Kind::Flag),
         _ => None,
     }
@@ -130,17 +173,18 @@ fn signed(alloc: Global, sign: Sign, inner: Expr) -> Result<Expr, NoMemory>
     }
 }
 
-// The kind of a WHEN part, where its condition is a flag and its branches have one kind.
+// The kind of a WHEN part, where its condition is a flag and its branches can be brought to one kind.
 fn when_kind(condition: Kind, value: Kind, rest: Kind) -> Option<Kind>
     ensures { result ≡ when_kind (Some condition) (Some value) (Some rest) }
 {
-    if condition == Kind::Flag && value == rest {
-        Some(value)
+    if condition == Kind::Flag {
+        common_kind(value, rest)
     } else {
         None
     }
 }
 
+// A WHEN part before the others.
 fn chosen(alloc: Global, condition: Expr, value: Expr, rest: Expr) -> Result<Expr, NoMemory>
     ensures { IfOk result (λ e. term e ≡ Case (term condition) (term value) (term rest)) }
 {
@@ -156,13 +200,7 @@ fn aggregate_kind(word: AggWord, kind: Kind) -> Option<Kind>
 {
     match word {
         AggWord::Count => Some(Kind::Int),
-        AggWord::Sum => {
-            if kind == Kind::Int {
-                Some(Kind::Int)
-            } else {
-                None
-            }
-        }
+        AggWord::Sum => number_if(kind),
         AggWord::Min | AggWord::Max => Some(kind),
     }
 }
@@ -191,7 +229,8 @@ fn names_column(argument: &Term) -> bool
 {
     match shape_of(argument) {
         Shape::Column(_) => true,
-        Shape::Number(_, _) | Shape::Text(_, _) | Shape::Flag(_, _) | Shape::CountRows(_) => false,
+        Shape::Number(_, _) | Shape::Decimal(_, _, _) | Shape::Text(_, _) => false,
+        Shape::Flag(_, _) | Shape::CountRows(_) => false,
         Shape::Binary(_, _, l, r) => names_column(l) || names_column(r),
         Shape::Unary(_, _, e) | Shape::Aggregate(_, _, e) => names_column(e),
         Shape::Case(_, arms, otherwise) => names_column_in(arms, otherwise),
@@ -253,7 +292,7 @@ fn join(alloc: Global, at: usize, operation: Operation, left: Answer, right: Ans
     match left {
         Ok((a, j)) => match right {
             Ok((b, k)) => match operator_kind(operation, j, k) {
-                Some(kind) => Ok((joined(alloc, operation, a, b)?, kind)),
+                Some(kind) => Ok((operated(alloc, operation, j, k, a, b)?, kind)),
                 None => Err(TypingFault::KindMismatch(at)),
             },
             Err(fault) => Err(fault),
@@ -275,15 +314,37 @@ fn sign(alloc: Global, at: usize, sign: Sign, inner: Answer) -> Answer
     }
 }
 
+// The answer of a value made that of a branch, brought to a kind.
+fn last_branch(alloc: Global, to: Option<Kind>, value: Answer) -> Answer
+    requires { scale to ≤ 9 }
+    ensures { Ends to value result }
+{
+    match value {
+        Ok((e, k)) => Ok((rescaled(alloc, k, to, e)?, k)),
+        Err(fault) => Err(fault),
+    }
+}
+
 // The answers of a condition, a value and what follows made that of a WHEN part.
-fn choose(alloc: Global, at: usize, condition: Answer, value: Answer, rest: Answer) -> Answer
-    ensures { Chooses at condition value rest result }
+fn choose(
+    alloc: Global,
+    at: usize,
+    to: Option<Kind>,
+    condition: Answer,
+    value: Answer,
+    rest: Answer,
+) -> Answer
+    requires { scale to ≤ 9 }
+    ensures { Chooses at to condition value rest result }
 {
     match condition {
         Ok((c, i)) => match value {
             Ok((v, j)) => match rest {
                 Ok((r, k)) => match when_kind(i, j, k) {
-                    Some(kind) => Ok((chosen(alloc, c, v, r)?, kind)),
+                    Some(kind) => {
+                        let value = rescaled(alloc, j, to, v)?;
+                        Ok((chosen(alloc, c, value, r)?, kind))
+                    }
                     None => Err(TypingFault::KindMismatch(at)),
                 },
                 Err(fault) => Err(fault),
@@ -316,6 +377,53 @@ fn aggregated(
     }
 }
 
+// The kind of a term, where its names are known and its parts fit.
+#[cycle(kinds)]
+fn kind_of(scope: &Scope, what: &Term) -> Option<Kind>
+    ensures { result ≡ term_kind (scope_view scope.now) (term_tree what.now) }
+{
+    match shape_of(what) {
+        Shape::Column(name) => field_kind(scope, name),
+        Shape::Number(_, _) | Shape::CountRows(_) => Some(Kind::Int),
+        Shape::Decimal(_, _, digits) => Some(Kind::Dec(digits)),
+        Shape::Text(_, _) => Some(Kind::Text),
+        Shape::Flag(_, _) => Some(Kind::Flag),
+        Shape::Binary(_, operation, l, r) => {
+            let left = kind_of(scope, l)?;
+            let right = kind_of(scope, r)?;
+            operator_kind(operation, left, right)
+        }
+        Shape::Unary(_, sign, e) => signed_kind(sign, kind_of(scope, e)?),
+        Shape::Case(_, arms, otherwise) => kind_of_case(scope, arms, otherwise),
+        Shape::Aggregate(_, word, e) => aggregate_kind(word, kind_of(scope, e)?),
+    }
+}
+
+// The same of the parts of a CASE.
+#[cycle(kinds)]
+fn kind_of_case(scope: &Scope, arms: &[(Term, Term)], otherwise: &Term) -> Option<Kind>
+    ensures { result ≡ term_kind (scope_view scope.now) (arms_tree arms.now (term_tree otherwise.now)) }
+{
+    let Some((arm, others)) = arms.split_first() else {
+        return kind_of(scope, otherwise);
+    };
+    let condition = kind_of(scope, &arm.0)?;
+    let value = kind_of(scope, &arm.1)?;
+    let rest = kind_of_case(scope, others, otherwise)?;
+    when_kind(condition, value, rest)
+}
+
+// The kind that the branches of a CASE are brought to.
+fn branches_kind(scope: &Scope, arms: &[(Term, Term)], otherwise: &Term) -> Option<Kind>
+    ensures kind { result ≡ if_arms arms.now (term_kind (scope_view scope.now) (arms_tree arms.now (term_tree otherwise.now))) }
+    ensures few { scale result ≤ 9 }
+{
+    if arms.is_empty() {
+        return None;
+    }
+    kind_of_case(scope, arms, otherwise)
+}
+
 /// The expression of a term and its kind, with its aggregates put behind those that are gathered. The number is the
 /// place of the CASE around a WHEN part.
 #[cycle(terms)]
@@ -332,6 +440,7 @@ pub(crate) fn typed_term(
     match shape_of(what) {
         Shape::Column(name) => named(scope, setting, name),
         Shape::Number(_, n) => Ok((Expr::Literal(Value::Int(n)), Kind::Int)),
+        Shape::Decimal(_, n, digits) => Ok((Expr::Literal(Value::Int(n)), Kind::Dec(digits))),
         Shape::Text(_, word) => text(word),
         Shape::Flag(_, b) => Ok((Expr::Literal(Value::Flag(b)), Kind::Flag)),
         Shape::Binary(at, operation, l, r) => {
@@ -344,7 +453,8 @@ pub(crate) fn typed_term(
             sign(alloc, at, what_sign, inner)
         }
         Shape::Case(at, arms, otherwise) => {
-            typed_case(alloc, scope, setting, gathered, at, arms, otherwise)
+            let to = branches_kind(scope, arms, otherwise);
+            typed_case(alloc, scope, setting, gathered, to, at, arms, otherwise)
         }
         Shape::CountRows(at) => counted_rows(setting, gathered, at),
         Shape::Aggregate(at, word, e) => {
@@ -353,26 +463,31 @@ pub(crate) fn typed_term(
     }
 }
 
-// The same of the parts of the CASE at this place.
+// The same of the parts of the CASE at this place, each branch brought to a kind.
 #[cycle(terms)]
 fn typed_case(
     alloc: Global,
     scope: &Scope,
     setting: &Setting,
     gathered: &mut Gathered,
+    to: Option<Kind>,
     around: usize,
     arms: &[(Term, Term)],
     otherwise: &Term,
 ) -> Answer
-    ensures { Answers (scope_view scope.now) (setting_view setting.now) around (arms_tree arms.now (term_tree otherwise.now)) gathered.old gathered.new result }
+    requires { scale to ≤ 9 }
+    ensures { CaseAnswers (scope_view scope.now) (setting_view setting.now) around to (arms_tree arms.now (term_tree otherwise.now)) gathered.old gathered.new result }
 {
     let Some((arm, others)) = arms.split_first() else {
-        return typed_term(alloc, scope, setting, gathered, around, otherwise);
+        let value = typed_term(alloc, scope, setting, gathered, around, otherwise);
+        return last_branch(alloc, to, value);
     };
     let condition = typed_term(alloc, scope, setting, gathered, around, &arm.0);
     let value = typed_term(alloc, scope, setting, gathered, around, &arm.1);
-    let rest = typed_case(alloc, scope, setting, gathered, around, others, otherwise);
-    choose(alloc, around, condition, value, rest)
+    let rest = typed_case(
+        alloc, scope, setting, gathered, to, around, others, otherwise,
+    );
+    choose(alloc, around, to, condition, value, rest)
 }
 
 // The same of COUNT(*).

@@ -1,21 +1,25 @@
 //! Statements over tables of known columns.
-ghost use Rattle.std.specs.Prelude.{◌≡◌, ◌<◌, [], Some, Contains, IfOk, IfErr, IfSome, IfNone, flat_map, length, map, position};
+ghost use Rattle.std.specs.Prelude.{◌≡◌, ◌<◌, [], true, Some, Contains, IfOk, IfErr, IfSome, IfNone, flat_map, length, map, position};
 ghost use Rattle.std.specs.Str.{str_eq_ignore_ascii_case};
 ghost use Rattle.au_algebra.specs.Trees.{tree};
-ghost use Rattle.au_algebra.specs.Typing.{kinds_of as kinds_of_tree, same_kinds};
+ghost use Rattle.au_algebra.specs.Typing.{kinds_of as kinds_of_tree};
+ghost use Rattle.au_expr.specs.Terms.{term};
+ghost use Rattle.au_value.specs.Order.{data_kind};
 ghost use Rattle.au_parse.specs.Tree.{SetWord};
 ghost use Rattle.au_parse.specs.Views.{statement_tree};
 ghost use Rattle.au_parse.specs.Whole.{WholeQuery};
-ghost use Rattle.au_typing.specs.Queries.{IsWellTyped, defects, kinds_of, kinds_of_columns, names_of, relations, set_typing, sides_faults, table_kinds, table_of, table_typing, tree_of, typing};
-ghost use Rattle.au_typing.specs.Judged.{Judges, JudgesSides, Shows, source_faults, source_item};
+ghost use Rattle.au_typing.specs.Queries.{IsWellTyped, brought_from, defects, is_narrower, kinds_fit, kinds_of, kinds_of_columns, names_of, relations, set_columns, set_typing, side_tree, sides_faults, table_kinds, table_of, table_typing, tree_of, typing};
+ghost use Rattle.au_typing.specs.Judged.{Brings, FewDigits, Judges, JudgesSides, Shows, source_faults, source_item};
 ghost use Rattle.au_typing.specs.Results.{Refuses, from_view, part_typing};
 
 use crate::fault::TypingFault;
+use crate::scales::{common_kind, rescaled, scale};
 use crate::schema::Schema;
 use crate::scope::same_word;
 use crate::select::{FromPart, Part, distinct_if, select};
 use au_algebra::Query;
 use au_blocks::{Column, copy_columns};
+use au_expr::Expr;
 use au_parse::{Source, Statement};
 use au_value::{Kind, NoMemory, Word};
 use std::alloc::Global;
@@ -26,6 +30,15 @@ pub struct Typed {
     pub query: Query,
     pub names: Vec<Word>,
     pub kinds: Vec<Kind>,
+}
+
+// The sides of a set word, brought to the kinds of its columns, and whether one of them joins.
+#[derive(Drop)]
+struct Fitted {
+    left: Query,
+    right: Query,
+    columns: Vec<Column>,
+    joins: bool,
 }
 
 // The number of the table of a name.
@@ -55,68 +68,182 @@ fn table(alloc: Global, schemas: &[Schema], at: usize, word: &Word) -> Result<Pa
     }
 }
 
-// Whether the columns of two sides are as many and of the same kinds.
-fn same_kinds(left: &[Column], right: &[Column]) -> bool
-    ensures { result ≡ same_kinds (kinds_of_columns left.now) (kinds_of_columns right.now) }
+// Whether the columns of two sides are as many, and in each place of kinds that can be brought to one.
+fn kinds_fit(left: &[Column], right: &[Column]) -> bool
+    ensures { result ≡ kinds_fit left.now right.now }
 {
-    if left.len() != right.len() {
-        return false;
-    }
-    for place in 0..left.len() {
-        if left[place].kind != right[place].kind {
+    let mut own = left;
+    let mut other = right;
+    while let Some((l, more)) = own.split_first() {
+        let Some((r, others)) = other.split_first() else {
+            return false;
+        };
+        if common_kind(l.kind, r.kind).is_none() {
             return false;
         }
+        own = more;
+        other = others;
     }
-    true
+    other.is_empty()
 }
 
 // What is wrong with the columns of the sides of a set word.
 fn sides_fault(at: usize, left: &[Column], right: &[Column]) -> Option<TypingFault>
     ensures some { IfSome result (Contains (sides_faults at left.now right.now)) }
     ensures none { IfNone result (sides_faults at left.now right.now ≡ []) }
+    ensures fit { IfNone result (kinds_fit left.now right.now ≡ true) }
 {
     if left.len() != right.len() {
         Some(TypingFault::WidthMismatch(at))
-    } else if same_kinds(left, right) {
+    } else if kinds_fit(left, right) {
         None
     } else {
         Some(TypingFault::KindMismatch(at))
     }
 }
 
+// The columns of a set: the names of its left side, and in each place the kind that both sides are brought to.
+fn set_columns(alloc: Global, left: &[Column], right: &[Column]) -> Result<Vec<Column>, NoMemory>
+    requires { kinds_fit left.now right.now ≡ true }
+    ensures columns { IfOk result (λ v. v.items ≡ set_columns left.now right.now) }
+    ensures few { IfOk result (λ v. FewDigits v.items) }
+{
+    let mut columns = Vec::new(alloc);
+    let mut own = left;
+    let mut other = right;
+    while let Some((l, more)) = own.split_first() {
+        let Some((r, others)) = other.split_first() else {
+            unreachable!()
+        };
+        let Some(kind) = common_kind(l.kind, r.kind) else {
+            unreachable!()
+        };
+        let name = l.name.copy()?;
+        columns.push(Column { name, kind })?;
+        own = more;
+        other = others;
+    }
+    Ok(columns)
+}
+
+// Whether one of the columns of a side is of lesser scale than in the set.
+fn is_narrower(own: &[Column], columns: &[Column]) -> bool
+    ensures { result ≡ is_narrower own.now columns.now }
+{
+    let mut rest = own;
+    let mut to = columns;
+    while let Some((c, more)) = rest.split_first() {
+        let Some((d, others)) = to.split_first() else {
+            return false;
+        };
+        if scale(Some(c.kind)) < scale(Some(d.kind)) {
+            return true;
+        }
+        rest = more;
+        to = others;
+    }
+    false
+}
+
+// The columns of a side, brought to the kinds of a set.
+fn brought(alloc: Global, own: &[Column], columns: &[Column]) -> Result<Vec<Expr>, NoMemory>
+    requires { FewDigits columns.now }
+    ensures { IfOk result (λ v. map term v.items ≡ brought_from 0 own.now columns.now) }
+{
+    let mut exprs = Vec::new(alloc);
+    let mut rest = own;
+    let mut to = columns;
+    let mut place: usize = 0;
+    while let Some((c, more)) = rest.split_first() {
+        let Some((d, others)) = to.split_first() else {
+            return Ok(exprs);
+        };
+        let column = Expr::Column(place);
+        exprs.push(rescaled(alloc, c.kind, Some(d.kind), column)?)?;
+        rest = more;
+        to = others;
+        place += 1;
+    }
+    Ok(exprs)
+}
+
+// A side of a set of these columns.
+fn side(alloc: Global, columns: &[Column], own: &[Column], query: Query) -> Result<Query, NoMemory>
+    requires { FewDigits columns.now }
+    ensures { IfOk result (λ q. tree q ≡ side_tree columns.now own.now (tree query)) }
+{
+    if is_narrower(own, columns) {
+        let exprs = brought(alloc, own, columns)?;
+        Ok(Query::Project(exprs, Box::new(alloc, query)?))
+    } else {
+        Ok(query)
+    }
+}
+
+// The sides of a set word, brought to the kinds of its columns.
+fn bring(alloc: Global, at: usize, left: Part, right: Part) -> Result<Fitted, TypingFault>
+    ensures { Brings at (part_typing left) (part_typing right) result }
+{
+    let Part {
+        query: a,
+        columns: own,
+        joins: first,
+    } = left;
+    let Part {
+        query: b,
+        columns: other,
+        joins: second,
+    } = right;
+    if let Some(fault) = sides_fault(at, own.as_slice(), other.as_slice()) {
+        return Err(fault);
+    }
+    let columns = set_columns(alloc, own.as_slice(), other.as_slice())?;
+    let left = side(alloc, columns.as_slice(), own.as_slice(), a)?;
+    let right = side(alloc, columns.as_slice(), other.as_slice(), b)?;
+    let joins = first || second;
+    Ok(Fitted {
+        left,
+        right,
+        columns,
+        joins,
+    })
+}
+
 // UNION of two sides.
 fn union(alloc: Global, all: bool, at: usize, left: Part, right: Part) -> Result<Part, TypingFault>
     ensures { Judges (set_typing SetWord.union all at (part_typing left) (part_typing right)) result }
 {
-    if let Some(fault) = sides_fault(at, left.columns.as_slice(), right.columns.as_slice()) {
-        return Err(fault);
+    match bring(alloc, at, left, right) {
+        Ok(sides) => {
+            let a = Box::new(alloc, sides.left)?;
+            let b = Box::new(alloc, sides.right)?;
+            let query = distinct_if(alloc, !all, Query::Union(a, b))?;
+            Ok(Part {
+                query,
+                columns: sides.columns,
+                joins: sides.joins,
+            })
+        }
+        Err(fault) => Err(fault),
     }
-    let joins = left.joins || right.joins;
-    let a = Box::new(alloc, left.query)?;
-    let b = Box::new(alloc, right.query)?;
-    let query = distinct_if(alloc, !all, Query::Union(a, b))?;
-    Ok(Part {
-        query,
-        columns: left.columns,
-        joins,
-    })
 }
 
 // EXCEPT of two sides.
 fn except(alloc: Global, all: bool, at: usize, left: Part, right: Part) -> Result<Part, TypingFault>
     ensures { Judges (set_typing SetWord.except all at (part_typing left) (part_typing right)) result }
 {
-    if let Some(fault) = sides_fault(at, left.columns.as_slice(), right.columns.as_slice()) {
-        return Err(fault);
+    match bring(alloc, at, left, right) {
+        Ok(sides) => {
+            let a = Box::new(alloc, distinct_if(alloc, !all, sides.left)?)?;
+            let b = Box::new(alloc, sides.right)?;
+            Ok(Part {
+                query: Query::Difference(a, b),
+                columns: sides.columns,
+                joins: sides.joins,
+            })
+        }
+        Err(fault) => Err(fault),
     }
-    let joins = left.joins || right.joins;
-    let a = Box::new(alloc, distinct_if(alloc, !all, left.query)?)?;
-    let b = Box::new(alloc, right.query)?;
-    Ok(Part {
-        query: Query::Difference(a, b),
-        columns: left.columns,
-        joins,
-    })
 }
 
 // A statement.
@@ -237,7 +364,7 @@ pub fn resolve(
     ensures tree { IfOk result (λ t. tree t.query ≡ tree_of (relations schemas.now) (statement_tree statement.now)) }
     ensures names { IfOk result (λ t. t.names.items ≡ names_of (relations schemas.now) (statement_tree statement.now)) }
     ensures kinds { IfOk result (λ t. t.kinds.items ≡ kinds_of (relations schemas.now) (statement_tree statement.now)) }
-    ensures typed { IfOk result (λ t. kinds_of_tree (table_kinds (relations schemas.now)) (tree t.query) ≡ Some t.kinds.items) }
+    ensures typed { IfOk result (λ t. kinds_of_tree (table_kinds (relations schemas.now)) (tree t.query) ≡ Some (map data_kind t.kinds.items)) }
     ensures fault { IfErr result (Refuses (defects (relations schemas.now) (statement_tree statement.now))) }
 {
     match query(alloc, schemas, statement) {

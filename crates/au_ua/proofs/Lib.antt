@@ -11,4 +11,5 @@ mod Parts
 mod PositiveCounts
 pub mod PrintedFits
 mod Sizes
+mod SameCells
 mod SummedRows

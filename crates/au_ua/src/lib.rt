@@ -8,7 +8,7 @@
 //! ```text
 //! let table = ua_table(alloc, &table)?;
 //! let rows = ua(alloc, &query, &[table])?;
-//! out.put(ua_text(alloc, names, &rows)?.as_slice())
+//! out.put(ua_text(alloc, names, kinds, &rows)?.as_slice())
 //! ```
 #![tactic(auto)]
 

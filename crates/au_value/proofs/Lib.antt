@@ -1,3 +1,4 @@
+pub mod Decimals
 pub mod Numerals
 pub mod OrderLaws
 pub mod RangeLaws

@@ -37,7 +37,7 @@ tested_fits (pos n) h = record { sfits = grind arith }
 tested_fits (negsuc n) h = record { sfits = grind arith }
 
 -- a text of digits is ASCII
-ascii_digits : (cs : List ℕ) → list_all is_ascii_digit cs ≡ true → IsAscii cs
+pub ascii_digits : (cs : List ℕ) → list_all is_ascii_digit cs ≡ true → IsAscii cs
 ascii_digits [] h i = omega arith
 ascii_digits (c ∷ cs) h zero = digit_ascii c ((and_parts _ _ h).0)
 ascii_digits (c ∷ cs) h (suc i) = ascii_digits cs (and_parts _ _ h).1 i

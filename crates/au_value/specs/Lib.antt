@@ -1,6 +1,10 @@
+-- The definitions, in the order in which they are to be read.
+pub mod Order
+pub mod Ranges
+pub mod Numeral
+pub mod Decimal
 pub mod Adding
 pub mod Joining
 pub mod Laws
-pub mod Numeral
-pub mod Order
-pub mod Ranges
+-- What the contracts of inner calls and the proofs speak of.
+pub mod KindLaws

@@ -1,4 +1,4 @@
-//! Values, ranges of values and their order, numerals, and exact sums.
+//! Values, ranges of values and their order, numerals, fixed-point numbers, and exact sums.
 //!
 //! The crate at the bottom: everything above speaks of its `Value` (a whole number of 128 bits, a text or a
 //! flag), of its `Range` (a lower bound, a guess and an upper bound of one kind) and of its `Word` (a text).
@@ -13,6 +13,7 @@
 
 mod adding;
 mod comparison;
+mod decimal;
 mod faults;
 mod kinds;
 mod numeral;
@@ -23,6 +24,7 @@ mod word;
 
 pub use adding::Adder;
 pub use comparison::Comparison;
+pub use decimal::read_decimal;
 pub use faults::{NoMemory, Overflow};
 pub use kinds::Kind;
 pub use numeral::read_numeral;

@@ -20,7 +20,7 @@ pub fn read_numeral(text: &[u8]) -> Option<i128>
     }
 }
 
-fn without_minus(text: &[u8]) -> &[u8]
+pub(crate) fn without_minus(text: &[u8]) -> &[u8]
     ensures { result.now ≡ without_minus_of text.now }
 {
     match text.split_first() {
@@ -29,7 +29,7 @@ fn without_minus(text: &[u8]) -> &[u8]
     }
 }
 
-fn is_digits(text: &[u8]) -> bool
+pub(crate) fn is_digits(text: &[u8]) -> bool
     ensures { result ≡ is_digits_of text.now }
 {
     !text.is_empty() && text.len() <= 39 && all_digits(text)

@@ -5,7 +5,7 @@ use Rattle.std.specs.Prelude.{Option, MatchOption}
 use Rattle.std.specs.Borrow.{Bor}
 use Rattle.std.specs.List.{list_any, position_or_len}
 use Rattle.std.proofs.lemmas.Str.Pattern.{IsSplitOnceResult, split_once_first}
-use Rattle.au_words.specs.Words.{is_equal_sign, table_name, table_path}
+use Rattle.au_words.specs.Words.{is_equal_sign, name_part, value_part}
 
 none_step : (b : Bool) (n len : ℕ) (others : Bool) → (n ≡ len → others ≡ false) → cond (not b) (1 + n) 0 ≡ suc len → (b || others) ≡ false
 none_step true n len others below at_end = absurd (omega arith)
@@ -26,7 +26,7 @@ some_found p (x ∷ xs) within = some_step (p x) (position_or_len p xs) (length 
 -- what `split_once` answers at `=`
 pub cut_at_first : (word : List ℕ) (r : Option (Bor (List ℕ) × Bor (List ℕ))) → IsSplitOnceResult 61 word r
     → MatchOption r (list_any is_equal_sign word ≡ false)
-    (λ parts. (list_any is_equal_sign word ≡ true) × (parts.0.now ≡ table_name word) × (parts.1.now ≡ table_path word))
+    (λ parts. (list_any is_equal_sign word ≡ true) × (parts.0.now ≡ name_part word) × (parts.1.now ≡ value_part word))
 cut_at_first word None split = none_found is_equal_sign word (split_once_first 61 word None split (omega arith))
 cut_at_first word (Some parts) split = (
   some_found is_equal_sign word (split_once_first 61 word (Some parts) split (omega arith)).0,
@@ -43,7 +43,7 @@ at_end (b ∷ bs) none = end_step (is_equal_sign b) (position_or_len is_equal_si
     end_step true n len others below none = absurd (true≢false none)
     end_step false n len others below none = omega (arith, below none)
 
-pub name_alone : (word : List ℕ) → list_any is_equal_sign word ≡ false → (table_name word ≡ word) × (table_path word ≡ [])
+pub name_alone : (word : List ℕ) → list_any is_equal_sign word ≡ false → (name_part word ≡ word) × (value_part word ≡ [])
 name_alone word none =
     let e = at_end word none in
     (rw e (take-length word), rw e (drop_of_length-le word (omega arith)))

@@ -53,6 +53,12 @@ pub struct Request<'a> {
     /// Whether the rows of the answer are combined.
     pub combine: bool,
 
+    /// How many workers a join is split among, 1 to 64.
+    pub workers: usize,
+
+    /// To how many rows each side of a join is compressed, 1 to 1,000, if that is asked for.
+    pub compress: Option<u32>,
+
     /// The query's text.
     pub query: &'a str,
 
@@ -73,6 +79,30 @@ pub enum Asked<'a> {
 
         /// The number of blocks.
         blocks: u32,
+
+        /// How many workers a join is split among, 1 to 64.
+        workers: usize,
+    },
+
+    /// The plan of a query, as a text.
+    Rewrite {
+        /// The query's text.
+        query: &'a str,
+
+        /// The tables, in the order of their words.
+        tables: Vec<TableWord<'a>>,
+    },
+
+    /// A table with its rows encoded.
+    Encode(TableWord<'a>),
+
+    /// The rows of a plan that is read from a file.
+    Plain {
+        /// The path of the plan's file.
+        plan: &'a str,
+
+        /// The tables, in the order of their words.
+        tables: Vec<TableWord<'a>>,
     },
 }
 

@@ -3,9 +3,10 @@
 
 use au_cli::{Outcome, UsageFault, fault_line, run};
 use au_io::{RealShelf, RealSink, Sink};
+use au_par::NoGate;
 use au_value::Word;
 use std::process::ExitCode;
-use std::thread::Builder;
+use std::thread::{Builder, Threads};
 use std::{env, io};
 
 // The bytes of the stack on which all work is done. The deepest recursion is over the tree of a query of 4,096 tokens.
@@ -39,8 +40,8 @@ fn refuse(rt: &HostRuntime, outcome: Outcome) -> Outcome {
     outcome
 }
 
-// Does all that the program does.
-fn work(rt: &HostRuntime) -> Outcome {
+// Does all that the program does, in threads of this kind.
+fn work<T: Threads + Sync>(rt: &HostRuntime, threads: &T) -> Outcome {
     let words = match words(rt) {
         Ok(words) => words,
         Err(outcome) => return refuse(rt, outcome),
@@ -48,17 +49,25 @@ fn work(rt: &HostRuntime) -> Outcome {
     let mut shelf = RealShelf::new(rt);
     let mut out = RealSink::new(rt.stdout());
     let mut err = RealSink::new(rt.stderr());
-    run(rt.alloc(), words.as_slice(), &mut shelf, &mut out, &mut err)
+    run(
+        threads,
+        rt.alloc(),
+        words.as_slice(),
+        &mut shelf,
+        &mut out,
+        &mut err,
+        NoGate,
+    )
 }
 
 // Where no thread can be had, the work is done in place.
 fn main(rt: HostRuntime) -> ExitCode {
     let thread = Builder::new()
         .stack_size(STACK_SIZE)
-        .spawn(&rt, move || work(&rt));
+        .spawn(&rt, move || work(&rt, &rt));
     let outcome = match thread {
         Ok(thread) => thread.join(&rt),
-        Err(_) => work(&rt),
+        Err(_) => work(&rt, &rt),
     };
     ExitCode::from(outcome.code())
 }

@@ -1,23 +1,51 @@
 //! The form of the words behind a command.
-ghost use Rattle.std.specs.Prelude.{◌≡◌, ◌∷◌, false, codes, length, not, nat_le, nat_lt};
-ghost use Rattle.std.specs.List.{list_all, filter};
+ghost use Rattle.std.specs.Prelude.{◌≡◌, ◌&&◌, ◌||◌, true, false, codes, length, not, nat_le, nat_lt};
+ghost use Rattle.std.specs.List.{list_all, list_any, filter};
 ghost use Rattle.std.specs.Str.{bytes_eq};
-ghost use Rattle.au_words.specs.Words.{are_options, is_option, is_query_form, options_of, query_command, positionals};
-ghost use Rattle.au_words.specs.CommandLine.{HasForm, is_demo_form, is_taken, takes_options, texts};
+ghost use Rattle.au_words.specs.Words.{all_options, are_options, has_name, is_count, is_equal_sign, is_form, is_number, is_option, is_taken, is_written, name_part, options_of, positionals, value_part, verb_of};
+ghost use Rattle.au_words.specs.CommandLine.{texts};
 
 use crate::words::Command;
+use crate::words::numbers::read_number;
+use crate::words::table_words::parts;
 
-/// The form of a command line.
-#[derive(Clone, Copy, Debug)]
-pub enum Form {
-    /// A query's words, the parts of table words apart.
+/// The greatest number of workers.
+pub const MAX_WORKERS: u32 = 64;
+
+/// The greatest number of rows that a side of a join is compressed to.
+pub const MAX_COMPRESS: u32 = 1000;
+
+/// What a command line's first word names.
+#[derive(Clone, Copy, Debug, PartialEq, Eq)]
+pub enum Verb {
+    /// The answer of a query.
     Query(Command),
 
-    /// A demonstration's words, the numbers apart.
+    /// A demonstration.
     Demo,
 
-    /// None of the program.
-    Other,
+    /// The plan of a query.
+    Rewrite,
+
+    /// A table with its rows encoded.
+    Encode,
+
+    /// The rows of a plan.
+    Plain,
+}
+
+/// The command that a word names.
+pub fn verb_of(word: &str) -> Option<Verb>
+    ensures { result ≡ verb_of word.now }
+{
+    match word {
+        "answer" => Some(Verb::Query(Command::Answer)),
+        "direct" => Some(Verb::Query(Command::Direct)),
+        "guess" => Some(Verb::Query(Command::Guess)),
+        "ua" => Some(Verb::Query(Command::Ua)),
+        "demo" => Some(Verb::Demo),
+        _ => None,
+    }
 }
 
 // Whether a word is an option.
@@ -27,59 +55,92 @@ fn is_option(word: &str) -> bool
     word.as_bytes().first() == Some(&b'-')
 }
 
+// Whether a word is an option that stands alone.
+fn is_flag(word: &str) -> bool
+    ensures { result ≡ (bytes_eq word.now (codes "--table") || bytes_eq word.now (codes "--combine")) }
+{
+    word == "--table" || word == "--combine"
+}
+
+// Whether a word is the option of this name with a number from 1 to the greatest.
+fn is_numbered(name: &str, most: u32, word: &str) -> bool
+    ensures { result ≡ (list_any is_equal_sign word.now && has_name name.now word.now && is_number 1 most (value_part word.now)) }
+{
+    match parts(word) {
+        Some((front, number)) => front == name && read_number(number, 1, most).is_some(),
+        None => false,
+    }
+}
+
+// Whether an option is one that this command takes.
+fn is_own_option(verb: Verb, word: &str) -> bool
+    ensures { result ≡ list_any (λ option. is_written option word.now) (options_of verb) }
+{
+    match verb {
+        Verb::Query(Command::Answer) => {
+            is_flag(word)
+                || is_numbered("--workers", MAX_WORKERS, word)
+                || is_numbered("--compress", MAX_COMPRESS, word)
+        }
+        Verb::Query(Command::Direct) => is_flag(word),
+        Verb::Demo => is_numbered("--workers", MAX_WORKERS, word),
+        Verb::Query(Command::Guess | Command::Ua) | Verb::Rewrite | Verb::Encode | Verb::Plain => {
+            false
+        }
+    }
+}
+
 // Whether a word is no option or one that this command takes.
-fn is_taken(command: Command, word: &str) -> bool
-    ensures { result ≡ is_taken (options_of command) word.now }
+fn is_taken(verb: Verb, word: &str) -> bool
+    ensures { result ≡ is_taken (options_of verb) word.now }
 {
-    if !is_option(word) {
-        return true;
-    }
-    match command {
-        Command::Answer | Command::Direct => word == "--table" || word == "--combine",
-        Command::Guess | Command::Ua => false,
+    !is_option(word) || is_own_option(verb, word)
+}
+
+fn all_taken(verb: Verb, words: &[&str]) -> bool
+    ensures { result ≡ list_all (λ word. is_taken (options_of verb) word.now) words.now }
+{
+    words.iter().all(|word| is_taken(verb, word))
+}
+
+// Whether a word has this name before its first `=`, if there is one.
+fn has_name(name: &str, word: &str) -> bool
+    ensures { result ≡ has_name name.now word.now }
+{
+    match parts(word) {
+        Some((front, _)) => front == name,
+        None => word == name,
     }
 }
 
-fn all_taken(command: Command, words: &[&str]) -> bool
-    ensures { result ≡ list_all (λ word. is_taken (options_of command) word.now) words.now }
-{
-    words.iter().all(|word| is_taken(command, word))
-}
-
-// How many of the words are this one.
+// How many of the words have this name.
 fn count_of(name: &str, words: &[&str]) -> usize
-    ensures { result ≡ length (filter (λ word. bytes_eq name.now word.now) words.now) }
+    ensures { result ≡ length (filter (λ word. has_name name.now word.now) words.now) }
 {
-    words.iter().filter(|word| name == **word).count()
+    words.iter().filter(|word| has_name(name, word)).count()
 }
 
 fn is_once(name: &str, words: &[&str]) -> bool
-    ensures { result ≡ nat_le (length (filter (bytes_eq name.now) (texts words.now))) 1 }
+    ensures { result ≡ nat_le (length (filter (has_name name.now) (texts words.now))) 1 }
 {
     count_of(name, words) <= 1
 }
 
-// Whether the command takes options.
-fn takes_options(command: Command) -> bool
-    ensures { result ≡ takes_options command }
+// Whether each option stands at most once.
+fn are_once(words: &[&str]) -> bool
+    ensures { result ≡ list_all (λ option. nat_le (length (filter (has_name option.0) (texts words.now))) 1) all_options }
 {
-    command == Command::Answer || command == Command::Direct
-}
-
-// Whether each option that this command takes stands at most once.
-fn are_once(command: Command, words: &[&str]) -> bool
-    ensures { result ≡ list_all (λ option. nat_le (length (filter (bytes_eq option) (texts words.now))) 1) (options_of command) }
-{
-    let table = is_once("--table", words);
-    let combine = is_once("--combine", words);
-    !takes_options(command) || (table && combine)
+    is_once("--table", words)
+        && is_once("--combine", words)
+        && is_once("--workers", words)
+        && is_once("--compress", words)
 }
 
 // Whether the options are such as this command takes, each at most once.
-fn are_options(command: Command, words: &[&str]) -> bool
-    ensures { result ≡ are_options (options_of command) (texts words.now) }
+fn are_options(verb: Verb, words: &[&str]) -> bool
+    ensures { result ≡ are_options (options_of verb) (texts words.now) }
 {
-    all_taken(command, words) && are_once(command, words)
+    all_taken(verb, words) && are_once(words)
 }
 
 fn positional_count(words: &[&str]) -> usize
@@ -88,72 +149,20 @@ fn positional_count(words: &[&str]) -> usize
     words.iter().filter(|word| !is_option(word)).count()
 }
 
-// Whether there is a query and at least one table word.
-fn has_tables(words: &[&str]) -> bool
-    ensures { result ≡ nat_lt 1 (length (positionals (texts words.now))) }
+// Whether there are as many positional words as this command takes.
+fn is_count(verb: Verb, count: usize) -> bool
+    ensures { result ≡ is_count verb count }
 {
-    positional_count(words) > 1
-}
-
-// The command that a word names, if it is one that answers a query.
-fn query_command(word: &str) -> Option<Command>
-    ensures { result ≡ query_command word.now }
-{
-    match word {
-        "answer" => Some(Command::Answer),
-        "direct" => Some(Command::Direct),
-        "guess" => Some(Command::Guess),
-        "ua" => Some(Command::Ua),
-        _ => None,
+    match verb {
+        Verb::Demo => count == 2,
+        Verb::Encode => count == 1,
+        Verb::Query(_) | Verb::Rewrite | Verb::Plain => count > 1,
     }
 }
 
-// Whether the words are options that this command takes, each at most once, a query and at least one table word.
-fn is_query_form(command: Command, words: &[&str]) -> bool
-    ensures { result ≡ is_query_form command (texts words.now) }
+/// Whether the words behind a command are of its form, the parts of table words and the numbers of a demonstration apart.
+pub fn is_form(verb: Verb, words: &[&str]) -> bool
+    ensures { result ≡ is_form verb (texts words.now) }
 {
-    are_options(command, words) && has_tables(words)
-}
-
-// Whether the words are two, and no options.
-fn is_demo_form(words: &[&str]) -> bool
-    ensures { result ≡ is_demo_form (texts words.now) }
-{
-    match words {
-        [start, blocks] => !is_option(start) && !is_option(blocks),
-        _ => false,
-    }
-}
-
-fn query_form(word: &str, rest: &[&str]) -> Form
-    requires { bytes_eq word.now (codes "demo") ≡ false }
-    ensures { HasForm (word.now ∷ texts rest.now) result }
-{
-    match query_command(word) {
-        Some(command) if is_query_form(command, rest) => Form::Query(command),
-        _ => Form::Other,
-    }
-}
-
-fn form_behind(word: &str, rest: &[&str]) -> Form
-    ensures { HasForm (word.now ∷ texts rest.now) result }
-{
-    if word != "demo" {
-        return query_form(word, rest);
-    }
-    if is_demo_form(rest) {
-        Form::Demo
-    } else {
-        Form::Other
-    }
-}
-
-/// The form of these words.
-pub fn form_of(words: &[&str]) -> Form
-    ensures { HasForm (texts words.now) result }
-{
-    match words.split_first() {
-        Some((word, rest)) => form_behind(word, rest),
-        None => Form::Other,
-    }
+    are_options(verb, words) && is_count(verb, positional_count(words))
 }

@@ -1,10 +1,13 @@
 //! The command line as `clap` reads it.
-ghost use Rattle.std.specs.Prelude.{◌≡◌, [], Bool, Some, false, true, drop, codes, is_some, option_map, slice_index_or, IfOk};
-ghost use Rattle.clap.specs.Words.{all_of, app_of, first_of, found_of, one_of, rows_of, new_app, rule_of, subcommand_of, subcommand_rows_of, takes};
+ghost use Rattle.std.specs.Prelude.{◌≡◌, Bool, None, Some, false, true, drop, codes, is_some, option_and_then, option_map, if◌then◌else◌, IfOk};
+ghost use Rattle.std.specs.Str.Parse.{digits_value};
+ghost use Rattle.clap.specs.Words.{all_of, app_of, first_of, found_of, one_of, rows_of, new_app, new_rule, rule_of, subcommand_of, subcommand_rows_of, takes, with_subcommand};
 ghost use Rattle.clap.specs.Simple.{on_top};
-ghost use Rattle.au_words.specs.CommandLine.{HasDemo, HasNoGlobals, HasQuery, IsDemo, IsFlag, IsQuery, audb, bare, demo_line, flag, query_line, texts, with_options};
+ghost use Rattle.au_words.specs.Words.{is_number};
+ghost use Rattle.au_words.specs.CommandLine.{HasForm, HasNoGlobals, HasWords, IsFlag, audb, bare, command_line, flag, repeated, texts, valued};
 
-use crate::words::Command;
+use crate::words::form::Verb;
+use crate::words::numbers::read_number;
 use au_value::NoMemory;
 use clap::error::ErrorKind;
 use clap::{Arg, ArgAction, ArgMatches};
@@ -18,42 +21,48 @@ fn flag<'a>(alloc: Global, name: &'a str) -> Arg<'a>
     Arg::new(alloc, name).long(name).action(ArgAction::SetTrue)
 }
 
-fn with_options<'a>(alloc: Global, line: clap::Command<'a>) -> Result<clap::Command<'a>, AllocError>
-    ensures app { IfOk result (λ r. app_of r ≡ with_options true (app_of line.entry)) }
-    ensures local { IfOk result (λ r. HasNoGlobals line.entry → HasNoGlobals r) }
+// An option with a value.
+fn valued<'a>(alloc: Global, name: &'a str) -> Arg<'a>
+    ensures rule { rule_of result ≡ valued name.entry.now }
+    ensures local { result.global ≡ false }
+{
+    Arg::new(alloc, name).long(name)
+}
+
+// A positional word.
+fn positional<'a>(alloc: Global, name: &'a str) -> Arg<'a>
+    ensures rule { rule_of result ≡ new_rule name.entry.now }
+    ensures local { result.global ≡ false }
+{
+    Arg::new(alloc, name)
+}
+
+// A positional word that may stand several times.
+fn repeated<'a>(alloc: Global, name: &'a str) -> Arg<'a>
+    ensures rule { rule_of result ≡ repeated name.entry.now }
+    ensures local { result.global ≡ false }
+{
+    Arg::new(alloc, name).action(ArgAction::Append)
+}
+
+// The words of a command: each option may be given, and which of them it takes is judged beside.
+fn command_line<'a>(alloc: Global, name: &'a str) -> Result<clap::Command<'a>, AllocError>
+    ensures app { IfOk result (λ r. app_of r ≡ command_line name.entry.now) }
+    ensures local { IfOk result HasNoGlobals }
 {
     let table = flag(alloc, "table");
     let combine = flag(alloc, "combine");
-    line.arg(table)?.arg(combine)
-}
-
-// The command line of a query behind this command.
-fn query_line<'a>(
-    alloc: Global,
-    options: bool,
-    name: &'a str,
-) -> Result<clap::Command<'a>, AllocError>
-    ensures app { IfOk result (λ r. app_of r ≡ query_line options name.entry.now) }
-    ensures local { IfOk result HasNoGlobals }
-{
-    let plain = clap::Command::new(alloc, name);
-    let line = if options {
-        with_options(alloc, plain)?
-    } else {
-        plain
-    };
-    let query = Arg::new(alloc, "SQL");
-    let tables = Arg::new(alloc, "TABLE").action(ArgAction::Append);
-    line.arg(query)?.arg(tables)
-}
-
-fn demo_line<'a>(alloc: Global) -> Result<clap::Command<'a>, AllocError>
-    ensures app { IfOk result (λ r. app_of r ≡ demo_line) }
-    ensures local { IfOk result HasNoGlobals }
-{
-    let start = Arg::new(alloc, "START");
-    let blocks = Arg::new(alloc, "N");
-    clap::Command::new(alloc, "demo").arg(start)?.arg(blocks)
+    let workers = valued(alloc, "workers");
+    let compress = valued(alloc, "compress");
+    let first = positional(alloc, "FIRST");
+    let later = repeated(alloc, "LATER");
+    clap::Command::new(alloc, name)
+        .arg(table)?
+        .arg(combine)?
+        .arg(workers)?
+        .arg(compress)?
+        .arg(first)?
+        .arg(later)
 }
 
 // The program, without help and without its name before the words.
@@ -66,21 +75,30 @@ fn bare_line<'a>(alloc: Global) -> clap::Command<'a>
         .disable_help_subcommand(true)
 }
 
+// A line with one more command.
+fn with_command<'a>(
+    alloc: Global,
+    line: clap::Command<'a>,
+    name: &'a str,
+) -> Result<clap::Command<'a>, AllocError>
+    ensures { IfOk result (λ r. app_of r ≡ with_subcommand (app_of line.entry) (command_line name.entry.now).top) }
+{
+    let command = command_line(alloc, name)?;
+    line.subcommand(command)
+}
+
 // The command line of the program.
-fn command_line<'a>(alloc: Global) -> Result<clap::Command<'a>, AllocError>
+fn program_line<'a>(alloc: Global) -> Result<clap::Command<'a>, AllocError>
     ensures { IfOk result (λ r. app_of r ≡ audb) }
 {
-    let answer = query_line(alloc, true, "answer")?;
-    let direct = query_line(alloc, true, "direct")?;
-    let guess = query_line(alloc, false, "guess")?;
-    let ua = query_line(alloc, false, "ua")?;
-    let demo = demo_line(alloc)?;
-    bare_line(alloc)
-        .subcommand(answer)?
-        .subcommand(direct)?
-        .subcommand(guess)?
-        .subcommand(ua)?
-        .subcommand(demo)
+    let line = with_command(alloc, bare_line(alloc), "answer")?;
+    let line = with_command(alloc, line, "direct")?;
+    let line = with_command(alloc, line, "guess")?;
+    let line = with_command(alloc, line, "ua")?;
+    let line = with_command(alloc, line, "demo")?;
+    let line = with_command(alloc, line, "rewrite")?;
+    let line = with_command(alloc, line, "encode")?;
+    with_command(alloc, line, "plain")
 }
 
 // The matches of words that the command line takes.
@@ -88,7 +106,7 @@ fn parse<'a>(alloc: Global, words: &'a [&'a str]) -> Result<ArgMatches<'a>, NoMe
     requires { takes audb (texts words.now) ≡ true }
     ensures { IfOk result (λ m. subcommand_rows_of m ≡ subcommand_of audb (texts words.entry.now)) }
 {
-    let line = command_line(alloc)?;
+    let line = program_line(alloc)?;
     match line.try_get_matches_from(words) {
         Ok(matches) => Ok(matches),
         Err(error) if error.kind() == ErrorKind::OutOfMemory => Err(NoMemory),
@@ -136,22 +154,24 @@ pub fn texts_at<'m, 'a>(matches: &'m ArgMatches<'a>, id: &str) -> &'m [&'a str]
     }
 }
 
-/// The matches of a query's words.
-pub fn query_matches<'a>(
-    alloc: Global,
-    command: Command,
-    words: &'a [&'a str],
-) -> Result<ArgMatches<'a>, NoMemory>
-    requires { IsQuery command (texts words.now) }
-    ensures { IfOk result (λ m. HasQuery (drop 1 (texts words.entry.now)) (rows_of (found_of m))) }
+/// The number behind an option, if it was given.
+pub fn number_at(matches: &ArgMatches<'_>, id: &str, most: u32) -> Option<u32>
+    ensures { result ≡ option_and_then (λ text. if is_number 1 most text then Some (digits_value 10 text) else None) (first_of id.now (rows_of (found_of matches.now))) }
 {
-    Ok(below(parse(alloc, words)?))
+    match matches.get_str(id) {
+        Some(text) => read_number(text, 1, most),
+        None => None,
+    }
 }
 
-/// The matches of a demonstration's words.
-pub fn demo_matches<'a>(alloc: Global, words: &'a [&'a str]) -> Result<ArgMatches<'a>, NoMemory>
-    requires { IsDemo (texts words.now) }
-    ensures { IfOk result (λ m. HasDemo (slice_index_or (texts words.entry.now) 1 []) (slice_index_or (texts words.entry.now) 2 []) (rows_of (found_of m))) }
+/// The matches of the words of a command, of its form.
+pub fn matches_of<'a>(
+    alloc: Global,
+    verb: Verb,
+    words: &'a [&'a str],
+) -> Result<ArgMatches<'a>, NoMemory>
+    requires { HasForm verb (texts words.now) }
+    ensures { IfOk result (λ m. HasWords (drop 1 (texts words.entry.now)) (rows_of (found_of m))) }
 {
     Ok(below(parse(alloc, words)?))
 }

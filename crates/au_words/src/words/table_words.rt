@@ -1,17 +1,17 @@
 //! Table words, NAME=PATH.
-ghost use Rattle.std.specs.Prelude.{◌≡◌, ◌<◌, [], None, Some, false, true, not, length, map, position, slice_index_or, IfOk, IfErr, MatchOption};
+ghost use Rattle.std.specs.Prelude.{◌≡◌, ◌<◌, ◌∷◌, [], None, Some, false, true, not, length, map, position, slice_index_or, IfOk, IfErr, MatchOption};
 ghost use Rattle.std.specs.List.{list_any};
 ghost use Rattle.std.specs.Str.{str_eq_ignore_ascii_case};
-ghost use Rattle.au_words.specs.Words.{is_bad_table, is_equal_sign, same_names, table_fault, table_name, table_path, table_of};
+ghost use Rattle.au_words.specs.Words.{is_bad_table, is_equal_sign, same_names, table_fault, name_part, value_part, table_of};
 ghost use Rattle.au_words.specs.CommandLine.{IsUsage, name_of, seen_table, texts};
 
 use crate::fault::UsageFault;
 use crate::words::{TableWord, WordsFault};
 use std::alloc::{AllocError, Global};
 
-// What stands before the first `=` of a word and behind it, if there is one.
-fn parts(word: &str) -> Option<(&str, &str)>
-    ensures { MatchOption result (list_any is_equal_sign word.now ≡ false) (λ parts. (list_any is_equal_sign word.now ≡ true) × (parts.0.now ≡ table_name word.now) × (parts.1.now ≡ table_path word.now)) }
+/// What stands before the first `=` of a word and behind it, if there is one.
+pub fn parts(word: &str) -> Option<(&str, &str)>
+    ensures { MatchOption result (list_any is_equal_sign word.now ≡ false) (λ parts. (list_any is_equal_sign word.now ≡ true) × (parts.0.now ≡ name_part word.now) × (parts.1.now ≡ value_part word.now)) }
 {
     word.split_once('=')
 }
@@ -86,6 +86,19 @@ fn same_names(tables: &[TableWord<'_>]) -> Option<(usize, usize)>
         }
     }
     None
+}
+
+/// Reads the only table word.
+#[tactic(auto, using(crate::proofs::TableFaults::one_bad, crate::proofs::TableFaults::one_fine))]
+pub fn read_table(word: &str) -> Result<TableWord<'_>, UsageFault>
+    ensures table { IfOk result (λ table. (table_fault (word.now ∷ []) ≡ None) × (seen_table table ≡ table_of word.now)) }
+    ensures refused { IfErr result (λ fault. table_fault (word.now ∷ []) ≡ Some fault) }
+{
+    if is_bad_table(word) {
+        Err(UsageFault::BadTable(0))
+    } else {
+        Ok(cut(word))
+    }
 }
 
 /// Reads the table words.

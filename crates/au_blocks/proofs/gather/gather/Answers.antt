@@ -1,5 +1,5 @@
 -- One record more, and the end.
-use Rattle.std.proofs.Common.{◌≡◌, ◌∙◌, ◌++◌, ◌∷◌, [], List, true, Some, map, drop, get_or, refl, sym, ap, append_assoc}
+use Rattle.std.proofs.Common.{◌≡◌, ◌∙◌, ◌++◌, ◌∷◌, [], List, Some, map, get_or, refl, sym, ap, append_assoc}
 use Rattle.std.specs.Prelude.{bytes_eq}
 use Rattle.std.specs.List.{list_any, position_or_len}
 use Rattle.std.specs.Vec.Iter.{into_iter_items}
@@ -7,8 +7,11 @@ use Rattle.std.proofs.lemmas.List.{append-nil, get_or_read, nil_from_length}
 use Rattle.au_value.specs.declared.kinds.Kind.{Kind}
 use Rattle.au_csv.specs.Texts.{Record}
 use Rattle.au_blocks.specs.declared.column.Column.{Column}
+use Rattle.au_blocks.specs.declared.format.Format.{Format}
 use Rattle.au_blocks.specs.declared.role.Role.{Role}
-use Rattle.au_blocks.specs.Entries.{entry, entry_of, label_of, role_of}
+use Rattle.au_blocks.specs.Entries.{entry, entry_of, label_of, role_of, copies_in}
+use Rattle.au_blocks.specs.Blocks.{Copies}
+use Rattle.au_blocks.specs.Headers.{cells_of}
 use Rattle.au_blocks.specs.Gathered.{Gathered, nothing}
 use Rattle.au_blocks.specs.Labels.{label_bytes}
 use Rattle.au_blocks.proofs.Distinct.{Text}
@@ -16,23 +19,25 @@ use Rattle.au_blocks.proofs.GatherStep.{labels, builders, with_builder, labels-p
 use Rattle.au_blocks.proofs.gather.gather.Goals as goal
 
 -- the builders with one more where the label is new
-builders-are : (kinds : List Kind) (rows : List Record) (l : Text) (ls : List Text) (gs hs : List Gathered) → ls ≡ labels rows → gs ≡ builders kinds rows
-    → hs ≡ with_builder gs (list_any (bytes_eq l) ls) → hs ≡ with_builder (builders kinds rows) (list_any (bytes_eq l) (labels rows))
-builders-are kinds rows l ls gs hs same are later =
-    later ∙ ap (λ (g : List Gathered). with_builder g (list_any (bytes_eq l) ls)) are ∙ ap (λ (x : List Text). with_builder (builders kinds rows) (list_any (bytes_eq l) x)) same
+builders-are : (f : Format) (kinds : List Kind) (rows : List Record) (l : Text) (ls : List Text) (gs hs : List Gathered) → ls ≡ labels rows → gs ≡ builders f kinds rows
+    → hs ≡ with_builder gs (list_any (bytes_eq l) ls) → hs ≡ with_builder (builders f kinds rows) (list_any (bytes_eq l) (labels rows))
+builders-are f kinds rows l ls gs hs same are later =
+    later ∙ ap (λ (g : List Gathered). with_builder g (list_any (bytes_eq l) ls)) are ∙ ap (λ (x : List Text). with_builder (builders f kinds rows) (list_any (bytes_eq l) x)) same
 
 -- the entry of a record
-entry-is : (r : Record) (x : Role) (cells : Record) → role_of true r ≡ Some x → cells ≡ drop 2 r → entry_of true r ≡ Some (entry x cells)
-entry-is r x cells has rest = rw (has, rest) refl
+entry-is : (f : Format) (r : Record) (x : Role) (copies : Copies) (cells : Record) → role_of f r ≡ Some x → copies ≡ copies_in f r → cells ≡ cells_of f r
+    → entry_of f r ≡ Some (entry x copies cells)
+entry-is f r x copies cells has times rest = rw (has, times, rest) refl
 
 pub index_mut-requires : goal.index_mut-requires
 index_mut-requires c =
     let inv = c.loop-record.invariant in
     let kinds = map (λ (x : Column). x.kind) c.args.columns.now in
+    let f = c.args.format in
     let l = c.parts-label.result.0 in
-    let are = builders-are kinds c.loop-record.yielded l (label_bytes c.loop-record.labels) c.loop-record.builders.items c.place_of.new.builders.items inv.labels inv.builders c.in_ok-place.ensures.builders in
+    let are = builders-are f kinds c.loop-record.yielded l (label_bytes c.loop-record.labels) c.loop-record.builders.items c.place_of.new.builders.items inv.labels inv.builders c.in_ok-place.ensures.builders in
     let place : c.in_ok-place.place ≡ position_or_len (bytes_eq l) (labels c.loop-record.yielded) = c.in_ok-place.ensures.place ∙ ap (position_or_len (bytes_eq l)) inv.labels in
-    let low = place-within kinds c.loop-record.yielded l c.place_of.new.builders.items are in
+    let low = place-within f kinds c.loop-record.yielded l c.place_of.new.builders.items are in
     rw (place, c.place_of.new.builders.ok.0) low
 
 pub loop-record-preserved : goal.loop-record-preserved
@@ -40,16 +45,17 @@ loop-record-preserved c =
     let inv = c.loop-record.invariant in
     let rows = c.loop-record.yielded in
     let kinds = map (λ (x : Column). x.kind) c.args.columns.now in
+    let f = c.args.format in
     let l = c.parts-label.result.0 in
     let label : l ≡ label_of c.in-Some.record = c.parts-label.ensures.label in
-    let are = builders-are kinds rows l (label_bytes c.loop-record.labels) c.loop-record.builders.items c.place_of.new.builders.items inv.labels inv.builders c.in_ok-place.ensures.builders in
+    let are = builders-are f kinds rows l (label_bytes c.loop-record.labels) c.loop-record.builders.items c.place_of.new.builders.items inv.labels inv.builders c.in_ok-place.ensures.builders in
     let place : c.in_ok-place.place ≡ position_or_len (bytes_eq l) (labels rows) = c.in_ok-place.ensures.place ∙ ap (position_or_len (bytes_eq l)) inv.labels in
-    let low = place-within kinds rows l c.place_of.new.builders.items are in
-    let is = entry-is c.in-Some.record c.parts-label.result.1 c.parts-label.result.2.items c.parts-label.ensures.role c.parts-label.ensures.cells in
+    let low = place-within f kinds rows l c.place_of.new.builders.items are in
+    let is = entry-is f c.in-Some.record c.parts-label.result.1 c.times_in-times.result c.parts-label.result.2.items c.parts-label.ensures.role (rw c.fields.ensures at c.times_in-times.ensures) c.parts-label.ensures.cells in
     let gs = c.place_of.new.builders.items in
     let at : c.index_mut.result.now ≡ get_or gs c.in_ok-place.place nothing = get_or_read gs c.in_ok-place.place c.index_mut.result.now (rw place low) c.index_mut.ensures.value nothing in
-    let e = entry c.parts-label.result.1 c.parts-label.result.2.items in
-    let pushed = builders-push kinds rows c.in-Some.record e is gs (rw label at are) in
+    let e = entry c.parts-label.result.1 c.times_in-times.result c.parts-label.result.2.items in
+    let pushed = builders-push f kinds rows c.in-Some.record e is gs (rw label at are) in
     record {
       all = append_assoc rows (c.in-Some.record ∷ []) (into_iter_items c.next.new.self) ∙ sym (ap (λ (rest : List Record). rows ++ rest) c.in-Some.ensures.steps.0) ∙ inv.all;
       labels = c.in_ok-place.ensures.labels ∙ rw (label, inv.labels) (sym (labels-push rows c.in-Some.record));
@@ -60,8 +66,9 @@ pub returns : goal.returns
 returns c =
     let inv = c.loop-record.invariant in
     let kinds = map (λ (x : Column). x.kind) c.args.columns.now in
+    let f = c.args.format in
     let rest = c.loop-record.record-iterator.rest in
     let empty : rest.items ≡ [] = nil_from_length rest.items (sym rest.ok.0 ∙ c.in-None.ensures.steps.0) in
     let all : c.loop-record.yielded ≡ c.args.rows.items =
     sym (append-nil c.loop-record.yielded) ∙ sym (ap (λ (more : List Record). c.loop-record.yielded ++ more) empty) ∙ inv.all in
-    inv.builders ∙ ap (builders kinds) all ∙ builders-blocks kinds c.args.rows.items
+    inv.builders ∙ ap (builders f kinds) all ∙ builders-blocks f kinds c.args.rows.items c.requires.blocks

@@ -9,5 +9,5 @@ abbrev pub invariant-loop-record : goal.invariant-loop-record
 invariant-loop-record l = record {
   all : l.yielded ++ into_iter_items l.record-iterator ≡ l.fn.rows.items;
   labels : label_bytes l.labels ≡ labels l.yielded;
-  builders : l.builders.items ≡ builders (map (λ c. c.kind) l.columns) l.yielded;
+  builders : l.builders.items ≡ builders l.format (map (λ c. c.kind) l.columns) l.yielded;
 }

@@ -5,4 +5,4 @@ use Rattle.au_blocks.proofs.header.column_names.Given as goal
 
 -- the names so far
 abbrev pub invariant-loop-place : goal.invariant-loop-place
-invariant-loop-place l = l.names.items ≡ map (column_name l.blocks) (enumerate_from 0 (take l.place l.fields))
+invariant-loop-place l = l.names.items ≡ map (column_name l.format) (enumerate_from 0 (take l.place l.fields))

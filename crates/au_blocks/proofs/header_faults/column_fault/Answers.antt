@@ -12,6 +12,6 @@ returns-in-None c =
     let at : c.index-names-place.result ≡ get_or names c.args.place [] = get_or_read names c.args.place c.index-names-place.result c.requires c.index-names-place.is [] in
     let name : c.as_str-name.result.now ≡ get_or names c.args.place [] = c.as_str-name.ensures ∙ at in
     let short : ltb 128 (length (get_or names c.args.place [])) ≡ false = rw name at (le-ltb 128 (length c.as_str-name.result.now) c.if-name-gt-MAX_NAME.false) in
-    let known : is_unknown c.args.blocks c.args.field.now ≡ false = sym c.if-is_unknown.ensures in
+    let known : is_unknown c.args.format c.args.field.now ≡ false = sym c.if-is_unknown.ensures in
     let other : same_name names c.args.place (get_or names c.args.place []) ≡ None = rw name at (sym c.in-None.ensures) in
     rw (short, known, other) refl

@@ -8,4 +8,4 @@ use Rattle.au_blocks.proofs.header_faults.header_fault.Given as goal
 -- the columns so far have no defect
 abbrev pub invariant-loop-place : goal.invariant-loop-place
 invariant-loop-place l =
-    first (header_defects l.blocks l.fields) ≡ first (flat_map (λ c. column_defects l.blocks l.names (c.0, c.1.0, c.1.1)) (enumerate_from l.place (drop l.place (zip l.names l.fields))))
+    first (header_defects l.format l.fields) ≡ first (flat_map (λ c. column_defects l.format l.names (c.0, c.1.0, c.1.1)) (enumerate_from l.place (drop l.place (zip l.names l.fields))))

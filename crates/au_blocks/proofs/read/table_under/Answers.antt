@@ -4,7 +4,7 @@ use Rattle.au_blocks.specs.declared.column.Column.{Column}
 use Rattle.au_blocks.specs.declared.faults.TableFault.{TableFault}
 use Rattle.au_blocks.specs.Defects.{schema_defects, blocks_defects}
 use Rattle.au_blocks.specs.Entries.{blocks_of}
-use Rattle.au_blocks.specs.Headers.{has_blocks}
+use Rattle.au_blocks.specs.Headers.{format_of, has_blocks}
 use Rattle.au_blocks.specs.Read.{unless, header_columns}
 use Rattle.au_blocks.proofs.First.{first-behind}
 use Rattle.au_blocks.proofs.WellFormed.{roles-of, header-kinds, well-formed}
@@ -18,7 +18,7 @@ unless-ok (Some x) t u is = cc
 pub blocks-requires : goal.blocks-requires
 blocks-requires c block =
     let sound = rw (c.as_slice.ensures.value) at c.in_ok-columns.ensures.sound in
-    roles-of c.args.header.now c.args.rows.items sound (sym c.has_blocks.ensures ∙ block)
+    roles-of c.args.header.now c.args.rows.items sound (sym (ap has_blocks c.of-format.ensures) ∙ block)
 
 pub of-requires : goal.of-requires
 of-requires c =
@@ -27,7 +27,7 @@ of-requires c =
     let sound = rw (c.as_slice.ensures.value) at c.in_ok-columns.ensures.sound in
     let columns : c.in_ok-columns.columns.items ≡ header_columns header rows = rw (c.as_slice.ensures.value) at c.in_ok-columns.ensures.columns in
     let kinds = ap (map (λ (x : Column). x.kind)) (c.as_slice-2.ensures.value ∙ columns) ∙ header-kinds header rows in
-    let blocks = unless-ok _ _ _ (rw (c.has_blocks.ensures, kinds) at c.in_ok-blocks.ensures.blocks) in
+    let blocks = unless-ok _ _ _ (rw (c.of-format.ensures, kinds) at c.in_ok-blocks.ensures.blocks) in
     rw (columns, ← blocks.1) (well-formed header rows sound blocks.0)
 
 pub returns-clause-table : goal.returns-clause-table
@@ -37,5 +37,5 @@ returns-clause-table c =
     let sound = rw (c.as_slice.ensures.value) at c.in_ok-columns.ensures.sound in
     let columns : c.in_ok-columns.columns.items ≡ header_columns header rows = rw (c.as_slice.ensures.value) at c.in_ok-columns.ensures.columns in
     let kinds = ap (map (λ (x : Column). x.kind)) (c.as_slice-2.ensures.value ∙ columns) ∙ header-kinds header rows in
-    let blocks = unless-ok _ _ _ (rw (c.has_blocks.ensures, kinds) at c.in_ok-blocks.ensures.blocks) in
-    rw (first-behind (schema_defects header rows) (blocks_defects (blocks_of (has_blocks header) rows)) sound, blocks.0, c.of.ensures, columns, ← blocks.1) refl
+    let blocks = unless-ok _ _ _ (rw (c.of-format.ensures, kinds) at c.in_ok-blocks.ensures.blocks) in
+    rw (first-behind (schema_defects header rows) (blocks_defects (blocks_of (format_of header) rows)) sound, blocks.0, c.of.ensures, columns, ← blocks.1) refl

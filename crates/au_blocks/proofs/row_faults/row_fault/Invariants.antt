@@ -8,4 +8,4 @@ use Rattle.au_blocks.proofs.row_faults.row_fault.Given as goal
 -- the records so far have no defect
 abbrev pub invariant-loop-place : goal.invariant-loop-place
 invariant-loop-place l =
-    first (rows_defects l.blocks l.width l.written l.rows) ≡ first (flat_map (record_defects l.blocks l.width l.written) (enumerate_from (l.place + 1) (drop l.place l.rows)))
+    first (rows_defects l.format l.width l.written l.rows) ≡ first (flat_map (record_defects l.format l.width l.written) (enumerate_from (l.place + 1) (drop l.place l.rows)))

@@ -1,9 +1,16 @@
 -- The printed counts are those of the guess world.
-use Rattle.std.proofs.Common.{ap, Err}
+use Rattle.std.proofs.Common.{ap, Err, length, sym, ◌∙◌}
 use Rattle.au_parse.specs.Views.{statement_tree}
 use Rattle.au_engine.specs.Answers.{guess_answer, guess_answer_fits}
 use Rattle.au_cli.proofs.GuessFits.{guess_fits, guess_left}
+use Rattle.au_cli.proofs.AnswerColumns.{columns_fit}
 use Rattle.au_cli.proofs.answering.guess_world_text.Goals as goal
+
+pub guess_text-requires-clause-columns : goal.guess_text-requires-clause-columns
+guess_text-requires-clause-columns c =
+    ap length c.as_slice-2.ensures.value
+    ∙ columns_fit c.args.tables.now (statement_tree c.args.statement.now) c.in-Ok.guess.names.items c.in-Ok.guess.kinds.items c.in-Ok.ensures.names c.in-Ok.ensures.kinds
+    ∙ ap length (sym c.as_slice.ensures.value)
 
 pub returns-in-Ok-guess_text-clause-fits : goal.returns-in-Ok-guess_text-clause-fits
 returns-in-Ok-guess_text-clause-fits c =

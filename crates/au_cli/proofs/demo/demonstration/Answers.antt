@@ -8,19 +8,19 @@ use Rattle.au_cli.proofs.DemoLaws.{generated_is, statement_is, no_defects_of_dem
 use Rattle.au_cli.proofs.demo.demonstration.Goals as goal
 
 pub answered-requires-clause-typed : goal.answered-requires-clause-typed
-answered-requires-clause-typed c =
+answered-requires-clause-typed g c κs within =
     let table = c.in-Ok-generated.table in
     let tree = statement_tree c.in-Ok.statement in
     let known = generated_is c.args.start c.args.blocks table c.requires.few c.in-Ok-generated.ensures in
     no_defects_of_demo table tree known.columns (statement_is tree c.in-Ok.ensures.tree)
 
 pub unreachable-requires : goal.unreachable-requires
-unreachable-requires c =
+unreachable-requires g c =
     let table = c.in-Ok-generated.table in
     let tree = statement_tree c.in-Ok.statement in
     let known = generated_is c.args.start c.args.blocks table c.requires.few c.in-Ok-generated.ensures in
     let fits : in_range (sum_of c.in-Ok-answered.answer.rows) ≡ true =
     ap (λ rows. in_range (sum_of rows)) c.in-Ok-answered.ensures.rows
-    ∙ sum_fits c.args.blocks table tree c.requires.few known.columns known.count (statement_is tree c.in-Ok.ensures.tree) in
+    ∙ sum_fits c.args.blocks table tree c.requires.few known.columns known.count known.copies (statement_is tree c.in-Ok.ensures.tree) in
     let over : in_range (sum_of c.in-Ok-answered.answer.rows) ≡ false = c.demo_text.ensures.overflow (c.in-Err-Overflow.is ∙ ap Err c.in-Err-Overflow.field-0-is) in
     true≢false (sym fits ∙ over)

@@ -1,6 +1,7 @@
 -- The rows of the tree are given, and hold in every world.
 use Rattle.std.proofs.Common.{ap, sym, subst, ◌∙◌, rules, map}
 use Rattle.std.specs.Prelude.{is_some}
+use Rattle.au_value.specs.Order.{data_kind}
 use Rattle.au_annot.specs.Pairs.{in_range}
 use Rattle.au_expr.specs.Numbers.{of_values}
 use Rattle.au_expr.specs.Ordinary.{ordinary}
@@ -17,7 +18,7 @@ use Rattle.au_engine.proofs.certainty.ua_rows.Goals as goal
 
 pub ua-requires : goal.ua-requires
 ua-requires c =
-    can_pair (blocks_of c.args.tables.now) (tree c.args.typed.now.query) c.args.typed.now.kinds.items c.as_slice.result.now c.requires.typed c.requires.positive
+    can_pair (blocks_of c.args.tables.now) (tree c.args.typed.now.query) (map data_kind c.args.typed.now.kinds.items) c.as_slice.result.now c.requires.typed c.requires.positive
     (c.as_slice.ensures.value ∙ c.in-Ok.ensures.rows) c.in-Ok.ensures.tables
 
 pub returns-in-Ok-ua-clause-rows : goal.returns-in-Ok-ua-clause-rows
@@ -26,8 +27,8 @@ returns-in-Ok-ua-clause-rows c =
 
 pub returns-in-Ok-ua-clause-widths : goal.returns-in-Ok-ua-clause-widths
 returns-in-Ok-ua-clause-widths c names columns named kinds =
-    pair_widths (blocks_of c.args.tables.now) (tree c.args.typed.now.query) c.args.typed.now.kinds.items c.as_slice.result.now c.in-Ok-ua.rows names columns
-    c.requires.typed (c.as_slice.ensures.value ∙ c.in-Ok.ensures.rows) c.in-Ok.ensures.tables c.in-Ok-ua.ensures.kinds named kinds
+    pair_widths (blocks_of c.args.tables.now) (tree c.args.typed.now.query) (map data_kind c.args.typed.now.kinds.items) c.as_slice.result.now c.in-Ok-ua.rows names columns
+    c.requires.typed (c.as_slice.ensures.value ∙ c.in-Ok.ensures.rows) c.in-Ok.ensures.tables c.in-Ok-ua.ensures.kinds named (ap (map data_kind) kinds)
 
 pub returns-in-Ok-ua-clause-holds : goal.returns-in-Ok-ua-clause-holds
 returns-in-Ok-ua-clause-holds c =

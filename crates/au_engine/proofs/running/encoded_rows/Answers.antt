@@ -2,7 +2,6 @@
 use Rattle.std.proofs.Common.{◌≡◌, Err, map, subst}
 use Rattle.au_expr.specs.declared.fault.EvalFault.TheVariants.{Overflow}
 use Rattle.au_algebra.specs.Trees.{tree}
-use Rattle.au_translate.specs.Translate.{bounded_table}
 use Rattle.au_plain.specs.Plans.{plan_tree}
 use Rattle.au_exec.specs.Outcomes.{rows_of}
 use Rattle.au_engine.specs.Answers.{blocks_of}
@@ -11,30 +10,30 @@ use Rattle.au_engine.proofs.PlanRuns.{shown_found, shown_leaves, shown_runs, tre
 use Rattle.au_engine.proofs.running.encoded_rows.Goals as goal
 
 pub returns-in-Err-clause-overflow : goal.returns-in-Err-clause-overflow
-returns-in-Err-clause-overflow c e =
+returns-in-Err-clause-overflow g c e =
     let is : c.in-Err.fault ≡ Overflow = cc in
-    tree_leaves c.args.combined (tree c.args.query.now) (map bounded_table (blocks_of c.args.tables.now)) (c.in-Err.ensures.overflow (λ i. Err (is i)))
+    tree_leaves c.args.options.compress c.args.options.combine c.args.tables.now (tree c.args.query.now) (c.in-Err.ensures.overflow (λ i. Err (is i)))
 
-pub run-requires : goal.run-requires
-run-requires c =
-    shown_runs c.args.combined (blocks_of c.args.tables.now) (tree c.args.query.now) c.requires (map rows_of c.staged.new.tables.items) (plan_tree c.in-Ok.planned.plan) (plan_tree c.in-Ok-shown.planned.plan)
+pub run-requires-clause-runs : goal.run-requires-clause-runs
+run-requires-clause-runs g c κs within =
+    shown_runs c.args.options.compress c.args.options.combine c.args.tables.now (tree c.args.query.now) c.requires.typed (map rows_of c.staged.new.tables.items) (plan_tree c.in-Ok.planned.plan) (plan_tree c.in-Ok-shown.planned.plan)
     c.in-Ok.planned.layout.columns c.in-Ok-shown.planned.layout.columns c.in-Ok-shown.ensures.columns c.in-Ok-shown.ensures.plan
-    (subst (λ xs. AddsTree (blocks_of c.args.tables.now) (tree c.args.query.now) (map rows_of xs) (map rows_of c.staged.new.tables.items) (plan_tree c.in-Ok.planned.plan) c.in-Ok.planned.layout.columns)
+    (subst (λ xs. AddsTree c.args.options.compress (blocks_of c.args.tables.now) (tree c.args.query.now) (map rows_of xs) (map rows_of c.staged.new.tables.items) (plan_tree c.in-Ok.planned.plan) c.in-Ok.planned.layout.columns)
     c.new-held.ensures.items c.in-Ok.ensures.plan)
 
 pub returns-in-Ok-run-clause-rows : goal.returns-in-Ok-run-clause-rows
-returns-in-Ok-run-clause-rows c =
-    shown_found c.args.combined (blocks_of c.args.tables.now) (tree c.args.query.now) c.requires (map rows_of c.staged.new.tables.items) (plan_tree c.in-Ok.planned.plan) (plan_tree c.in-Ok-shown.planned.plan)
+returns-in-Ok-run-clause-rows g c =
+    shown_found c.args.options.compress c.args.options.combine c.args.tables.now (tree c.args.query.now) c.requires.typed (map rows_of c.staged.new.tables.items) (plan_tree c.in-Ok.planned.plan) (plan_tree c.in-Ok-shown.planned.plan)
     c.in-Ok.planned.layout.columns c.in-Ok-shown.planned.layout.columns c.in-Ok-shown.ensures.columns c.in-Ok-shown.ensures.plan
-    (subst (λ xs. AddsTree (blocks_of c.args.tables.now) (tree c.args.query.now) (map rows_of xs) (map rows_of c.staged.new.tables.items) (plan_tree c.in-Ok.planned.plan) c.in-Ok.planned.layout.columns)
+    (subst (λ xs. AddsTree c.args.options.compress (blocks_of c.args.tables.now) (tree c.args.query.now) (map rows_of xs) (map rows_of c.staged.new.tables.items) (plan_tree c.in-Ok.planned.plan) c.in-Ok.planned.layout.columns)
     c.new-held.ensures.items c.in-Ok.ensures.plan)
     (rows_of c.in-Ok-run.rows) c.in-Ok-run.ensures.rows
 
 pub returns-in-Err-run-clause-overflow : goal.returns-in-Err-run-clause-overflow
-returns-in-Err-run-clause-overflow c e =
+returns-in-Err-run-clause-overflow g c e =
     let is : c.in-Err-run.fault ≡ Overflow = cc in
-    shown_leaves c.args.combined (blocks_of c.args.tables.now) (tree c.args.query.now) c.requires (map rows_of c.staged.new.tables.items) (plan_tree c.in-Ok.planned.plan) (plan_tree c.in-Ok-shown.planned.plan)
+    shown_leaves c.args.options.compress c.args.options.combine c.args.tables.now (tree c.args.query.now) c.requires.typed (map rows_of c.staged.new.tables.items) (plan_tree c.in-Ok.planned.plan) (plan_tree c.in-Ok-shown.planned.plan)
     c.in-Ok.planned.layout.columns c.in-Ok-shown.planned.layout.columns c.in-Ok-shown.ensures.columns c.in-Ok-shown.ensures.plan
-    (subst (λ xs. AddsTree (blocks_of c.args.tables.now) (tree c.args.query.now) (map rows_of xs) (map rows_of c.staged.new.tables.items) (plan_tree c.in-Ok.planned.plan) c.in-Ok.planned.layout.columns)
+    (subst (λ xs. AddsTree c.args.options.compress (blocks_of c.args.tables.now) (tree c.args.query.now) (map rows_of xs) (map rows_of c.staged.new.tables.items) (plan_tree c.in-Ok.planned.plan) c.in-Ok.planned.layout.columns)
     c.new-held.ensures.items c.in-Ok.ensures.plan)
     (c.in-Err-run.ensures.overflow (λ i. Err (is i)))

@@ -3,14 +3,13 @@ use Rattle.std.proofs.Common.{◌∙◌, ap}
 use Rattle.au_algebra.specs.Bounded.{normal}
 use Rattle.au_algebra.specs.Trees.{tree}
 use Rattle.au_exec.specs.Outcomes.{rows_of}
-use Rattle.au_engine.specs.Answers.{blocks_of}
 use Rattle.au_engine.proofs.PlanRuns.{decodable, decoded}
 use Rattle.au_engine.proofs.running.evaluated_by_plan.Goals as goal
 
-pub decode-requires : goal.decode-requires
-decode-requires c = decodable c.args.combined (blocks_of c.args.tables.now) (tree c.args.query.now) c.in-Ok.found.1 (rows_of c.in-Ok.found.0) c.in-Ok.ensures.rows
+pub decoded-requires-clause-rows : goal.decoded-requires-clause-rows
+decoded-requires-clause-rows g c κs within = decodable c.args.options.compress c.args.options.combine c.args.tables.now (tree c.args.query.now) c.in-Ok.found.1 (rows_of c.in-Ok.found.0) c.in-Ok.ensures.rows
 
-pub returns-in-Ok-decode-clause-rows : goal.returns-in-Ok-decode-clause-rows
-returns-in-Ok-decode-clause-rows c =
-    ap normal c.in-Ok-decode.ensures.rows
-    ∙ decoded c.args.combined (blocks_of c.args.tables.now) (tree c.args.query.now) c.in-Ok.found.1 (rows_of c.in-Ok.found.0) c.in-Ok.ensures.rows
+pub returns-in-Ok-decoded-clause-rows : goal.returns-in-Ok-decoded-clause-rows
+returns-in-Ok-decoded-clause-rows g c =
+    ap normal c.in-Ok-decoded.ensures.rows
+    ∙ decoded c.args.options.compress c.args.options.combine c.args.tables.now (tree c.args.query.now) c.in-Ok.found.1 (rows_of c.in-Ok.found.0) c.in-Ok.ensures.rows

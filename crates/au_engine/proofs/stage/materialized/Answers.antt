@@ -8,10 +8,10 @@ use Rattle.au_engine.proofs.Materialized.{materializes}
 use Rattle.au_engine.proofs.stage.materialized.Goals as goal
 
 pub returns-in-Err-clause-overflow : goal.returns-in-Err-clause-overflow
-returns-in-Err-clause-overflow c e = let is : c.in-Err.fault ≡ Overflow = cc in c.in-Err.ensures.overflow (λ i. Err (is i))
+returns-in-Err-clause-overflow g c e = let is : c.in-Err.fault ≡ Overflow = cc in c.in-Err.ensures.overflow (λ i. Err (is i))
 
 pub returns-in-Ok-put-clause-plan : goal.returns-in-Ok-put-clause-plan
-returns-in-Ok-put-clause-plan c =
+returns-in-Ok-put-clause-plan g c =
     let before = c.args.tables.now.items in
     let columns = c.args.planned.layout.columns in
     materializes (map rows_of c.args.own.items) (plan_tree c.args.planned.plan) columns (rows_of c.in-Ok.rows) (map rows_of before) (map rows_of c.put.new.tables.items)

@@ -5,7 +5,10 @@ use Rattle.au_exec.specs.Chains.{plan_size}
 use Rattle.au_exec.proofs.open.+openings.Given as goal
 
 abbrev pub decreases-open : goal.decreases-open
-decreases-open l = 2 * plan_size (physical_tree l.plan.now)
+decreases-open g l = 2 * plan_size (physical_tree l.plan.now)
 
 abbrev pub decreases-chained : goal.decreases-chained
-decreases-chained l = 2 * plan_size (physical_tree l.plan.now) + 1
+decreases-chained g l = 2 * plan_size (physical_tree l.plan.now) + 1
+
+abbrev pub decreases-ready : goal.decreases-ready
+decreases-ready g l = 2 * plan_size (physical_tree l.plan.now) + 1

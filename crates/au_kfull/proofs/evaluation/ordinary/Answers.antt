@@ -7,7 +7,7 @@ use Rattle.au_algebra.specs.Trees.{tree}
 use Rattle.au_kfull.specs.Embedding.{embedded}
 use Rattle.au_kfull.specs.TreeFits.{tree_fits}
 use Rattle.au_kfull.specs.Typed.{HasValueKinds}
-use Rattle.au_kfull.proofs.CertainTables.{stands_for, has_value_kinds, single_rows}
+use Rattle.au_kfull.proofs.CertainTables.{stands_for, has_value_kinds, present_rows}
 use Rattle.au_kfull.proofs.GivesMore.{gives_ok, gives_fits, gives_overflow}
 use Rattle.au_kfull.proofs.TreeNumbers.{tree_numbers}
 use Rattle.au_kfull.proofs.evaluation.ordinary.Goals as goal
@@ -36,5 +36,5 @@ returns-clause-overflow c =
     let ts = map embedded c.args.tables.now in
     gives_overflow c.guessed.result (λ rel. rel ≡ guessed_rows (bounded q ts)) (tree_fits q ts) c.guessed.ensures _ (tree_numbers ts q)
 
-pub returns-clause-single : goal.returns-clause-single
-returns-clause-single c = λ worlds e. ap (numbers (tree c.args.query.now)) (single_rows c.args.tables.now worlds e)
+pub returns-clause-present : goal.returns-clause-present
+returns-clause-present c = λ e. ap (numbers (tree c.args.query.now)) (present_rows c.args.tables.now e)

@@ -8,5 +8,5 @@ use Rattle.au_print.proofs.csv_form.write_rows.Given as goal
 abbrev pub invariant-loop-ranges : goal.invariant-loop-ranges
 invariant-loop-ranges l = record {
   ready : IsReady l.writer;
-  so_far : written l.writer (λ v. v.items) ≡ written l.initial.writer (λ v. v.items) ++ flat_map (λ r. record_text (row_fields (entry r.0.items r.1))) (take l.ranges-index l.rows);
+  so_far : written l.writer (λ v. v.items) ≡ written l.initial.writer (λ v. v.items) ++ flat_map (λ r. record_text (row_fields l.kinds (entry r.0.items r.1))) (take l.ranges-index l.rows);
 }

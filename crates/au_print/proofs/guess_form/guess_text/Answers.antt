@@ -12,7 +12,7 @@ pub returns-in-Ok-printed-clause-text : goal.returns-in-Ok-printed-clause-text
 returns-in-Ok-printed-clause-text c =
     let rows = c.args.rows.now in
     let places = c.in-Ok.places.items in
-    let printed = λ (r : CountedRow). record_text (counted_fields r) in
+    let printed = λ (r : CountedRow). record_text (counted_fields c.args.kinds.now r) in
     let header = record_text (codes "row" ∷ c.args.names.now) in
     c.in-Ok-printed.ensures
     ∙ ap (λ ps. header ++ flat_map (λ p. printed (row_at rows p)) ps) c.as_slice.ensures.value
@@ -20,4 +20,4 @@ returns-in-Ok-printed-clause-text c =
 
 pub returns-in-Ok-printed-clause-world : goal.returns-in-Ok-printed-clause-world
 returns-in-Ok-printed-clause-world c world stands =
-    returns-in-Ok-printed-clause-text c ∙ ap (counted_text c.args.names.now) (guess_world c.args.rows.now world stands)
+    returns-in-Ok-printed-clause-text c ∙ ap (counted_text c.args.names.now c.args.kinds.now) (guess_world c.args.rows.now world stands)

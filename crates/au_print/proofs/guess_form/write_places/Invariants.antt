@@ -9,5 +9,5 @@ use Rattle.au_print.proofs.guess_form.write_places.Given as goal
 abbrev pub invariant-loop-place : goal.invariant-loop-place
 invariant-loop-place l = record {
   ready : IsReady l.writer;
-  so_far : written l.writer (λ v. v.items) ≡ written l.initial.writer (λ v. v.items) ++ flat_map (λ p. record_text (counted_fields (row_at l.rows p))) (take l.place-index l.places);
+  so_far : written l.writer (λ v. v.items) ≡ written l.initial.writer (λ v. v.items) ++ flat_map (λ p. record_text (counted_fields l.kinds (row_at l.rows p))) (take l.place-index l.places);
 }

@@ -6,6 +6,6 @@ use Rattle.au_print.proofs.widths.measure.Given as goal
 
 abbrev pub invariant-loop-ranges : goal.invariant-loop-ranges
 invariant-loop-ranges l = record {
-  columns : l.columns.items ≡ column_widths l.fn.names (map (λ r. entry r.0.items r.1) (take l.ranges-index l.rows));
+  columns : l.columns.items ≡ column_widths l.fn.names l.fn.kinds (map (λ r. entry r.0.items r.1) (take l.ranges-index l.rows));
   row : l.row ≡ triple_width (map (λ r. entry r.0.items r.1) (take l.ranges-index l.rows));
 }

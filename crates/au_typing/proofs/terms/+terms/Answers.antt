@@ -3,10 +3,10 @@ use Rattle.std.proofs.Common.{◌≡◌, [], sym, subst}
 use Rattle.std.specs.Prelude.{Contains}
 use Rattle.au_parse.specs.Levels.{arms_tree}
 use Rattle.au_parse.specs.Views.{term_tree}
-use Rattle.au_typing.specs.Results.{Answers, scope_view, setting_view}
+use Rattle.au_typing.specs.Results.{Answers, CaseAnswers, scope_view, setting_view}
 use Rattle.au_typing.specs.Shapes.{operator_of}
 use Rattle.au_typing.specs.Terms.{aggregate_faults, counts, is_extreme}
-use Rattle.au_typing.proofs.Steps.{join_step, sign_step, choose_step, case_step, aggregate_step, aggregate_misplaced}
+use Rattle.au_typing.proofs.Steps.{join_step, sign_step, choose_step, case_step, ends_case, aggregate_step, aggregate_misplaced}
 use Rattle.au_typing.proofs.terms.+terms.Goals as goal
 
 pub typed_term-returns-in-Column : goal.typed_term-returns-in-Column
@@ -30,8 +30,8 @@ typed_term-returns-in-Unary t c =
 pub typed_term-returns-in-Case : goal.typed_term-returns-in-Case
 typed_term-returns-in-Case t c =
     subst (λ tree. Answers (scope_view c.args.scope.now) (setting_view c.args.setting.now) c.args.around tree c.args.gathered.now c.typed_case.new.gathered c.typed_case.result) (sym c.in-Case.ensures)
-    (case_step (scope_view c.args.scope.now) (setting_view c.args.setting.now) c.args.around c.in-Case.at (arms_tree c.in-Case.arms.now (term_tree c.in-Case.otherwise.now))
-    c.args.gathered.now c.typed_case.new.gathered c.typed_case.result c.typed_case.ensures)
+    (case_step (scope_view c.args.scope.now) (setting_view c.args.setting.now) c.args.around c.in-Case.at c.branches_kind-to.result c.in-Case.arms.now c.in-Case.otherwise.now
+    c.args.gathered.now c.typed_case.new.gathered c.typed_case.result c.branches_kind-to.ensures.kind c.typed_case.ensures)
 
 pub typed_term-returns-in-CountRows : goal.typed_term-returns-in-CountRows
 typed_term-returns-in-CountRows t c =
@@ -43,12 +43,17 @@ typed_term-returns-in-Aggregate t c =
     subst (λ tree. Answers (scope_view c.args.scope.now) (setting_view c.args.setting.now) c.args.around tree c.args.gathered.now c.typed_aggregate.new.gathered c.typed_aggregate.result) (sym c.in-Aggregate.ensures)
     (c.typed_aggregate.ensures c.args.around)
 
+pub typed_case-returns-in_default : goal.typed_case-returns-in_default
+typed_case-returns-in_default t c =
+    ends_case (scope_view c.args.scope.now) (setting_view c.args.setting.now) c.args.around c.args.to c.args.arms.now c.args.otherwise.now c.args.gathered.now c.typed_term-value.new.gathered
+    c.typed_term-value.result c.last_branch.result c.in_default.ensures.cases c.typed_term-value.ensures c.last_branch.ensures
+
 pub typed_case-returns : goal.typed_case-returns
 typed_case-returns t c =
-    subst (λ arms. Answers (scope_view c.args.scope.now) (setting_view c.args.setting.now) c.args.around (arms_tree arms (term_tree c.args.otherwise.now)) c.args.gathered.now c.typed_case-rest.new.gathered c.choose.result) (sym c.in-Some.ensures.cases.0)
-    (choose_step (scope_view c.args.scope.now) (setting_view c.args.setting.now) c.args.around (term_tree c.in-Some.arm.now.0) (term_tree c.in-Some.arm.now.1) (arms_tree c.in-Some.others.now (term_tree c.args.otherwise.now))
-    c.args.gathered.now c.typed_term-condition.new.gathered c.typed_term-value.new.gathered c.typed_case-rest.new.gathered
-    c.typed_term-condition.result c.typed_term-value.result c.typed_case-rest.result c.choose.result c.typed_term-condition.ensures c.typed_term-value.ensures c.typed_case-rest.ensures c.choose.ensures)
+    subst (λ arms. CaseAnswers (scope_view c.args.scope.now) (setting_view c.args.setting.now) c.args.around c.args.to (arms_tree arms (term_tree c.args.otherwise.now)) c.args.gathered.now c.typed_case-rest.new.gathered c.choose.result) (sym c.in-Some.ensures.cases.0)
+    (choose_step (scope_view c.args.scope.now) (setting_view c.args.setting.now) c.args.around c.args.to (term_tree c.in-Some.arm.now.0) (term_tree c.in-Some.arm.now.1) (arms_tree c.in-Some.others.now (term_tree c.args.otherwise.now))
+    c.args.gathered.now c.typed_term-condition.new.gathered c.typed_term-value-2.new.gathered c.typed_case-rest.new.gathered
+    c.typed_term-condition.result c.typed_term-value-2.result c.typed_case-rest.result c.choose.result c.typed_term-condition.ensures c.typed_term-value-2.ensures c.typed_case-rest.ensures c.choose.ensures)
 
 pub typed_aggregate-returns-in-Some : goal.typed_aggregate-returns-in-Some
 typed_aggregate-returns-in-Some t c = λ around.

@@ -9,11 +9,13 @@ use Rattle.au_exec.proofs.TypedPhysical.{can_open}
 use Rattle.au_exec.proofs.batches.Run.start.Goals as goal
 
 pub invariant_of-result : goal.invariant_of-result
-invariant_of-result c =
+invariant_of-result g c =
     let ts = map rows_of c.args.tables.items in
-    let is : c.in_ok-plan.plan.value ≡ c.args.plan = search (rules, c.in_ok-plan.ensures) in
-    record {
-      can = λ none. subst (λ (p : Physical). CanOpen ts (physical_tree p)) (sym is) (can_open ts (physical_tree c.args.plan) c.requires);
-      same = λ none. same_fit c.args.plan c.in_ok-plan.plan.value c.of-given.result.value c.args.tables c.of.result.value is c.of-given.ensures c.of.ensures;
-      over = λ never. cc;
-    }
+    let is : c.in_ok-plan.plan.value ≡ c.args.plan = search (rules, c.in_ok-plan.ensures) in (
+      c.requires.workers,
+      record {
+        can = λ none. subst (λ (p : Physical). CanOpen ts (physical_tree p)) (sym is) (can_open ts (physical_tree c.args.plan) c.requires.plan);
+        same = λ none. same_fit c.args.plan c.in_ok-plan.plan.value c.of-given.result.value c.args.tables c.of.result.value is c.of-given.ensures c.of.ensures;
+        over = λ never. cc;
+      },
+    )

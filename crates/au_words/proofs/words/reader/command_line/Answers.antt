@@ -1,13 +1,23 @@
-use Rattle.std.proofs.Common.{◌∙◌, ap, ap₂}
+-- The arguments are added one after the other, and none is global.
+use Rattle.std.proofs.Common.{◌∙◌, ◌||◌, ap₂}
 use Rattle.std.proofs.lemmas.Result.{IfOk-weaker}
-use Rattle.clap.specs.Words.{App, with_subcommand}
+use Rattle.clap.specs.Words.{with_rule}
 use Rattle.au_words.proofs.words.reader.command_line.Goals as goal
 
-pub returns : goal.returns
-returns c =
-    let top = λ (a : App). a.top in
-    let first = c.in_ok-subcommand.ensures.shape c.in_ok-answer.ensures.local ∙ ap₂ with_subcommand c.bare_line.ensures (ap top c.in_ok-answer.ensures.app) in
-    let second = c.in_ok-subcommand-2.ensures.shape c.in_ok-direct.ensures.local ∙ ap₂ with_subcommand first (ap top c.in_ok-direct.ensures.app) in
-    let third = c.in_ok-subcommand-3.ensures.shape c.in_ok-guess.ensures.local ∙ ap₂ with_subcommand second (ap top c.in_ok-guess.ensures.app) in
-    let fourth = c.in_ok-subcommand-4.ensures.shape c.in_ok-ua.ensures.local ∙ ap₂ with_subcommand third (ap top c.in_ok-ua.ensures.app) in
-    IfOk-weaker c.subcommand-5.result _ _ (λ r adds. adds.shape c.in_ok-demo.ensures.local ∙ ap₂ with_subcommand fourth (ap top c.in_ok-demo.ensures.app)) c.subcommand-5.ensures
+pub returns-clause-app : goal.returns-clause-app
+returns-clause-app c =
+    let first = c.in_ok-arg.ensures.shape c.flag-table.ensures.local ∙ ap₂ with_rule c.new.ensures.app c.flag-table.ensures.rule in
+    let second = c.in_ok-arg-2.ensures.shape c.flag-combine.ensures.local ∙ ap₂ with_rule first c.flag-combine.ensures.rule in
+    let third = c.in_ok-arg-3.ensures.shape c.valued-workers.ensures.local ∙ ap₂ with_rule second c.valued-workers.ensures.rule in
+    let fourth = c.in_ok-arg-4.ensures.shape c.valued-compress.ensures.local ∙ ap₂ with_rule third c.valued-compress.ensures.rule in
+    let fifth = c.in_ok-arg-5.ensures.shape c.positional-first.ensures.local ∙ ap₂ with_rule fourth c.positional-first.ensures.rule in
+    IfOk-weaker c.arg-6.result _ _ (λ r adds. adds.shape c.repeated-later.ensures.local ∙ ap₂ with_rule fifth c.repeated-later.ensures.rule) c.arg-6.ensures
+
+pub returns-clause-local : goal.returns-clause-local
+returns-clause-local c =
+    let first = c.in_ok-arg.ensures.globals ∙ ap₂ (λ a b. a || b) c.new.ensures.local c.flag-table.ensures.local in
+    let second = c.in_ok-arg-2.ensures.globals ∙ ap₂ (λ a b. a || b) first c.flag-combine.ensures.local in
+    let third = c.in_ok-arg-3.ensures.globals ∙ ap₂ (λ a b. a || b) second c.valued-workers.ensures.local in
+    let fourth = c.in_ok-arg-4.ensures.globals ∙ ap₂ (λ a b. a || b) third c.valued-compress.ensures.local in
+    let fifth = c.in_ok-arg-5.ensures.globals ∙ ap₂ (λ a b. a || b) fourth c.positional-first.ensures.local in
+    IfOk-weaker c.arg-6.result _ _ (λ r adds. adds.globals ∙ ap₂ (λ a b. a || b) fifth c.repeated-later.ensures.local) c.arg-6.ensures

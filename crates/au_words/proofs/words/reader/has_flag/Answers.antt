@@ -8,4 +8,4 @@ pub returns : goal.returns
 returns c given is =
     let same = one_text-rows (found_of c.args.matches.now) c.args.id.now in
     let got = c.get_flag.ensures in
-    flag_is given (one_of c.args.id.now (rows_of (found_of c.args.matches.now))) c.get_flag.result (λ e. got.none (same ∙ e)) (λ e. got.value (same ∙ e)) (λ e. got.other (same ∙ e)) is
+    flag_is given (one_of c.args.id.now (rows_of (found_of c.args.matches.now))) c.get_flag.result (λ e. got.value (same ∙ e)) (λ e. got.other (same ∙ e)) is

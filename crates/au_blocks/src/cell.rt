@@ -1,0 +1,85 @@
+//! A cell of an alternative.
+ghost use Rattle.std.specs.Prelude.{◌≡◌};
+ghost use Rattle.au_value.specs.Ranges.{certain, is_certain};
+
+use au_value::{Range, Value, compare};
+use std::marker::Model;
+
+/// What is known of a value: itself, or a range that holds it. Contracts see a range in either case; a value is kept once.
+#[derive(Drop)]
+pub struct Cell {
+    content: Content,
+}
+
+/// A value, or a range.
+#[derive(Drop)]
+pub(crate) enum Content {
+    Certain(Value),
+    Between(Range),
+}
+
+impl Model for Cell {
+    ghost use Rattle.au_value.specs.Ranges.{Span};
+    ghost use Rattle.au_blocks.specs.Cells.{span_of};
+
+    ghost Value = { Span };
+
+    ghost view = { λ c. span_of c.content };
+}
+
+impl Cell {
+    // The cell of one value. It takes no memory.
+    pub(crate) fn certain(value: Value) -> Cell
+        ensures { result ≡ certain value }
+    {
+        Cell {
+            content: Content::Certain(value),
+        }
+    }
+
+    // The cell of a range. It takes no memory.
+    pub(crate) fn between(range: Range) -> Cell
+        ensures { result ≡ range }
+    {
+        Cell {
+            content: Content::Between(range),
+        }
+    }
+
+    /// The least value that the cell may have.
+    pub fn lo(&self) -> &Value
+        ensures { result.now ≡ self.now.lo }
+    {
+        match &self.content {
+            Content::Certain(value) => value,
+            Content::Between(range) => range.lo(),
+        }
+    }
+
+    /// The guess of the cell's value.
+    pub fn sg(&self) -> &Value
+        ensures { result.now ≡ self.now.sg }
+    {
+        match &self.content {
+            Content::Certain(value) => value,
+            Content::Between(range) => range.sg(),
+        }
+    }
+
+    /// The greatest value that the cell may have.
+    pub fn hi(&self) -> &Value
+        ensures { result.now ≡ self.now.hi }
+    {
+        match &self.content {
+            Content::Certain(value) => value,
+            Content::Between(range) => range.hi(),
+        }
+    }
+
+    /// Whether the cell may have one value alone.
+    pub fn is_certain(&self) -> bool
+        ensures { result ≡ is_certain self.now }
+    {
+        compare(self.lo(), self.hi()).is_eq()
+    }
+}

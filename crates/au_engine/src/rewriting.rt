@@ -1,0 +1,84 @@
+//! The plan of a whole tree, for those who run it themselves.
+ghost use Rattle.std.specs.Prelude.{◌≡◌, IfOk, true};
+ghost use Rattle.au_algebra.specs.Trees.{tree};
+ghost use Rattle.au_algebra.specs.Typing.{IsTyped};
+ghost use Rattle.au_plain.specs.Plans.{plan_tree};
+ghost use Rattle.au_sqltext.specs.Fitting.{numbers_fit, widths_fit};
+ghost use Rattle.au_typing.specs.Queries.{relations, table_kinds};
+ghost use Rattle.au_engine.specs.Rewriting.{GivesTree, IsPlanOf};
+
+use crate::steps::{
+    Planned, combined_of, difference_of, distinct_of, group_of, product_of, project_of, scan,
+    select_of, total_of, union_of,
+};
+use au_algebra::Query;
+use au_plain::Plan;
+use au_sqltext::read_numbers;
+use au_typing::{Schema, Typed};
+use au_value::NoMemory;
+use std::alloc::Global;
+
+/// The plan of a typed tree over the encoded rows of tables, of which the i-th has the columns of the i-th schema. The
+/// tree is typed for these columns.
+///
+/// The plan is one tree of operators, made for a reader or another engine: a grouping holds its input twice, and a
+/// difference its combined left side. `NoMemory` comes also where a row cannot have so many columns.
+pub fn rewritten(alloc: Global, typed: &Typed, schemas: &[Schema]) -> Result<Plan, NoMemory>
+    requires { IsTyped (table_kinds (relations schemas.now)) (tree typed.now.query) }
+    ensures plan { IfOk result (λ p. IsPlanOf (table_kinds (relations schemas.now)) (tree typed.now.query) (plan_tree p)) }
+    ensures widths { IfOk result (λ p. widths_fit (plan_tree p) ≡ true) }
+    ensures numbers { IfOk result (λ p. numbers_fit (plan_tree p) ≡ true) }
+{
+    let planned = plan_of(alloc, &typed.query, schemas)?;
+    read_numbers(&planned.plan);
+    Ok(planned.plan)
+}
+
+// The plan of a tree, with the number of its columns.
+fn plan_of(alloc: Global, query: &Query, schemas: &[Schema]) -> Result<Planned, NoMemory>
+    requires { IsTyped (table_kinds (relations schemas.now)) (tree query.now) }
+    ensures { IfOk result (λ p. GivesTree (table_kinds (relations schemas.now)) (tree query.now) (plan_tree p.plan) p.layout.columns) }
+{
+    match query {
+        Query::Table(i) => match schemas.get(*i) {
+            Some(schema) => scan(*i, schema.columns.len()),
+            None => unreachable!(),
+        },
+        Query::Select(condition, of) => {
+            let of = plan_of(alloc, of, schemas)?;
+            select_of(alloc, condition, of)
+        }
+        Query::Project(items, of) => {
+            let of = plan_of(alloc, of, schemas)?;
+            project_of(alloc, items.as_slice(), of)
+        }
+        Query::Product(left, right) => {
+            let left = plan_of(alloc, left, schemas)?;
+            let right = plan_of(alloc, right, schemas)?;
+            product_of(alloc, left, right)
+        }
+        Query::Union(left, right) => {
+            let left = plan_of(alloc, left, schemas)?;
+            let right = plan_of(alloc, right, schemas)?;
+            union_of(alloc, left, right)
+        }
+        Query::Difference(left, right) => {
+            let left = plan_of(alloc, left, schemas)?;
+            let left = combined_of(alloc, left)?;
+            let right = plan_of(alloc, right, schemas)?;
+            difference_of(alloc, left, right)
+        }
+        Query::Distinct(of) => {
+            let of = plan_of(alloc, of, schemas)?;
+            distinct_of(alloc, of)
+        }
+        Query::Group(keys, aggs, of) => {
+            let of = plan_of(alloc, of, schemas)?;
+            group_of(alloc, *keys, aggs.as_slice(), of)
+        }
+        Query::Total(aggs, of) => {
+            let of = plan_of(alloc, of, schemas)?;
+            total_of(alloc, aggs.as_slice(), of)
+        }
+    }
+}

@@ -1,0 +1,91 @@
+//! Those who run plans: so many workers, and the gate that is told of their pieces.
+ghost use Rattle.std.specs.Prelude.{◌≡◌, ◌≤◌, IfOk, IfErr, false, true, map};
+ghost use Rattle.au_expr.specs.Figures.{fit};
+ghost use Rattle.au_expr.specs.declared.fault.EvalFault.TheVariants as fault;
+ghost use Rattle.au_physical.specs.PhysicalKinds.{IsPhysicalFor};
+ghost use Rattle.au_physical.specs.PhysicalMeaning.{physical_rows};
+ghost use Rattle.au_physical.specs.PhysicalNumbers.{physical_numbers};
+ghost use Rattle.au_physical.specs.Physicals.{physical_tree};
+ghost use Rattle.au_encode.specs.Encode.{AreEncoded, decode as decode_of};
+ghost use Rattle.au_exec.specs.Outcomes.{rows_of};
+
+use au_algebra::Rel;
+use au_annot::Triple;
+use au_encode::{decode, decode_rows};
+use au_exec::Run;
+use au_expr::EvalFault;
+use au_par::Gate;
+use au_physical::Physical;
+use au_plain::PRow;
+use au_value::{NoMemory, Range};
+use std::alloc::Global;
+use std::marker::Model;
+use std::thread::Threads;
+
+/// So many workers, 1 to 64, with the gate that is told of each piece of their work.
+#[derive(Drop)]
+pub(crate) struct Runner<'a, R, G: Gate> {
+    rt: &'a R,
+    workers: usize,
+    gate: G,
+}
+
+impl<'a, R, G: Gate> Model for Runner<'a, R, G> {
+    ghost use Rattle.std.specs.Prelude.{◌≤◌, ℕ};
+
+    ghost Value = { ℕ };
+
+    ghost view = { λ r. r.workers };
+
+    ghost invariant = { λ r. (1 ≤ r.workers) × (r.workers ≤ 64) };
+}
+
+impl<'a, R: Threads + Sync, G: Gate + Sync> Runner<'a, R, G> {
+    /// The runner of so many workers, 1 to 64.
+    pub(crate) fn new(rt: &'a R, workers: usize, gate: G) -> Runner<'a, R, G>
+        requires { (1 ≤ workers) × (workers ≤ 64) }
+    {
+        Runner { rt, workers, gate }
+    }
+
+    /// All rows of a plan that is typed for the tables, which are let go.
+    ///
+    /// `Overflow` comes only where a number of the plan leaves 128 bits.
+    pub(crate) fn all(
+        &self,
+        alloc: Global,
+        plan: Physical,
+        tables: Vec<Vec<PRow>>,
+    ) -> Result<Vec<PRow>, EvalFault>
+        requires plan { IsPhysicalFor (map rows_of tables.items) (physical_tree plan) }
+        ensures rows { IfOk result (λ held. rows_of held ≡ physical_rows (physical_tree plan) (map rows_of tables.items)) }
+        ensures fits { IfOk result (λ _. fit (physical_numbers (physical_tree plan) (map rows_of tables.items)) ≡ true) }
+        ensures overflow { IfErr result (λ f. f ≡ fault.Overflow → fit (physical_numbers (physical_tree plan) (map rows_of tables.items)) ≡ false) }
+    {
+        let run = match Run::start(alloc, plan, tables, self.workers, self.gate) {
+            Ok(run) => run,
+            Err(NoMemory) => return Err(EvalFault::NoMemory),
+        };
+        match run.all(self.rt) {
+            Ok(rows) => Ok(rows),
+            Err(fault) => Err(fault),
+        }
+    }
+
+    /// The relation that rows encode, each with so many columns, in their order.
+    pub(crate) fn decoded(
+        &self,
+        alloc: Global,
+        rows: Vec<PRow>,
+        columns: usize,
+    ) -> Result<Rel<Range, Triple>, NoMemory>
+        requires rows { AreEncoded columns (map (λ row. row.items) rows.items) }
+        ensures rows { IfOk result (λ rel. rel ≡ decode_of columns (map (λ row. row.items) rows.items)) }
+    {
+        if self.workers == 1 {
+            decode(alloc, rows, columns)
+        } else {
+            decode_rows(self.rt, alloc, rows.as_slice(), columns)
+        }
+    }
+}
