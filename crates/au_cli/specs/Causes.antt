@@ -150,14 +150,12 @@ abbrev pub IsAskedText : Result Asked UsageFault → Option (List File) → List
 IsAskedText (Err fault) told text = ⊥
 IsAskedText (Ok (words.query r)) told text = IsRead r × Gives told r (IsAnswer r text)
 IsAskedText (Ok (words.demo start blocks workers)) told text = Demonstrates start blocks (λ ts s. text ≡ DemoText ts s)
-IsAskedText (Ok _) told text = ⊥
 
 -- why what the words ask for is not made
 abbrev pub AskedCause : Result Asked UsageFault → Option (List File) → ℕ → ℕ → ℕ → ℕ → Outcome → Type 0
 AskedCause (Err fault) told faults faults_now absences absences_now o = (o ≡ outcome.Usage fault) ⊎ (o ≡ outcome.NoMemory)
 AskedCause (Ok (words.query r)) told faults faults_now absences absences_now o = RequestCause r told faults faults_now absences absences_now o
 AskedCause (Ok (words.demo start blocks workers)) told faults faults_now absences absences_now o = DemoCause start blocks o
-AskedCause (Ok _) told faults faults_now absences absences_now o = o ≡ outcome.NoMemory
 
 -- the words ask for `ua`, and its statement is not positive at this place
 abbrev pub AskedNotPositive : Result Asked UsageFault → ℕ → Type 0

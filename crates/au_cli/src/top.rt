@@ -132,9 +132,6 @@ fn line_text<R: Threads + Sync, S: Shelf, G: Gate + Sync>(
                 workers,
             },
         ) => demo_text(rt, alloc, start, blocks, workers, gate),
-        Ok(Asked::Rewrite { .. }) => Err(Outcome::NoMemory),
-        Ok(Asked::Encode(_)) => Err(Outcome::NoMemory),
-        Ok(Asked::Plain { .. }) => Err(Outcome::NoMemory),
         Err(WordsFault::Usage(fault)) => Err(Outcome::Usage(fault)),
         Err(WordsFault::NoMemory) => Err(Outcome::NoMemory),
     }

@@ -94,9 +94,6 @@ taken_widely (verb.Query Guess) word h = no_option (any word) (is_option word) h
 taken_widely (verb.Query Ua) word h = no_option (any word) (is_option word) h
 taken_widely verb.Demo word h =
     third (is_written (codes "--table", None) word) (is_written (codes "--combine", None) word) (is_written (codes "--workers", Some 64) word) (is_written (codes "--compress", Some 1000) word) (is_option word) h
-taken_widely verb.Rewrite word h = no_option (any word) (is_option word) h
-taken_widely verb.Encode word h = no_option (any word) (is_option word) h
-taken_widely verb.Plain word h = no_option (any word) (is_option word) h
 
 pub all_taken_widely : (v : Verb) (words : List Text) → list_all (is_taken (options_of v)) words ≡ true → list_all (is_taken all_options) words ≡ true
 all_taken_widely v [] h = refl

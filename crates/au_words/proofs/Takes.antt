@@ -52,9 +52,6 @@ word_of (verb.Query Direct) = codes "direct"
 word_of (verb.Query Guess) = codes "guess"
 word_of (verb.Query Ua) = codes "ua"
 word_of verb.Demo = codes "demo"
-word_of verb.Rewrite = codes "rewrite"
-word_of verb.Encode = codes "encode"
-word_of verb.Plain = codes "plain"
 
 stops : (v : Verb) (rest : List Text) → fold (walked top.rules names) (state false 1 [] None) (word_of v ∷ rest) ≡ stopped (word_of v) rest
 unfolding walked
@@ -63,9 +60,6 @@ stops (verb.Query Direct) rest = keeps (codes "direct") [] rest
 stops (verb.Query Guess) rest = keeps (codes "guess") [] rest
 stops (verb.Query Ua) rest = keeps (codes "ua") [] rest
 stops verb.Demo rest = keeps (codes "demo") [] rest
-stops verb.Rewrite rest = keeps (codes "rewrite") [] rest
-stops verb.Encode rest = keeps (codes "encode") [] rest
-stops verb.Plain rest = keeps (codes "plain") [] rest
 
 passes_above : (v : Verb) (rest : List Text) → walk_passes top names (state false 1 [] None) (word_of v ∷ rest) ≡ true
 unfolding walked walk_passes
@@ -74,9 +68,6 @@ passes_above (verb.Query Direct) rest = kept_pass (codes "direct") [] rest
 passes_above (verb.Query Guess) rest = kept_pass (codes "guess") [] rest
 passes_above (verb.Query Ua) rest = kept_pass (codes "ua") [] rest
 passes_above verb.Demo rest = kept_pass (codes "demo") [] rest
-passes_above verb.Rewrite rest = kept_pass (codes "rewrite") [] rest
-passes_above verb.Encode rest = kept_pass (codes "encode") [] rest
-passes_above verb.Plain rest = kept_pass (codes "plain") [] rest
 
 -- ---- the form
 
@@ -92,9 +83,6 @@ just m n h = grind arith
 some_words : (v : Verb) (n : ℕ) → is_count v n ≡ true → 0 < n
 some_words (verb.Query c) n h = more_than_one n h
 some_words verb.Demo n h = omega (arith, just 2 n h)
-some_words verb.Rewrite n h = more_than_one n h
-some_words verb.Encode n h = omega (arith, just 1 n h)
-some_words verb.Plain n h = more_than_one n h
 
 -- the walk behind a command, over words of its form
 pub form_walk : (v : Verb) (name : Text) (rest : List Text) → is_form v rest ≡ true → Ends name (state false 1 [] None) rest (given_by nothing rest) (positionals rest)
@@ -118,9 +106,6 @@ takes_by (verb.Query Direct) rest below = rw (simple, stops (verb.Query Direct) 
 takes_by (verb.Query Guess) rest below = rw (simple, stops (verb.Query Guess) rest, passes_above (verb.Query Guess) rest, below) refl
 takes_by (verb.Query Ua) rest below = rw (simple, stops (verb.Query Ua) rest, passes_above (verb.Query Ua) rest, below) refl
 takes_by verb.Demo rest below = rw (simple, stops verb.Demo rest, passes_above verb.Demo rest, below) refl
-takes_by verb.Rewrite rest below = rw (simple, stops verb.Rewrite rest, passes_above verb.Rewrite rest, below) refl
-takes_by verb.Encode rest below = rw (simple, stops verb.Encode rest, passes_above verb.Encode rest, below) refl
-takes_by verb.Plain rest below = rw (simple, stops verb.Plain rest, passes_above verb.Plain rest, below) refl
 
 -- words of the form are taken
 pub form_takes : (v : Verb) (rest : List Text) → is_form v rest ≡ true → takes audb (word_of v ∷ rest) ≡ true
@@ -132,9 +117,6 @@ found_by (verb.Query Direct) rest = rw (stops (verb.Query Direct) rest) refl
 found_by (verb.Query Guess) rest = rw (stops (verb.Query Guess) rest) refl
 found_by (verb.Query Ua) rest = rw (stops (verb.Query Ua) rest) refl
 found_by verb.Demo rest = rw (stops verb.Demo rest) refl
-found_by verb.Rewrite rest = rw (stops verb.Rewrite rest) refl
-found_by verb.Encode rest = rw (stops verb.Encode rest) refl
-found_by verb.Plain rest = rw (stops verb.Plain rest) refl
 
 -- and so their matches are known
 pub form_found : (v : Verb) (rest : List Text) → is_form v rest ≡ true

@@ -116,14 +116,10 @@ pub record Request : Type 0 where
   pub query : Text
   pub tables : List (Text × Text)
 
--- a query; a demonstration of so many blocks, by so many workers; the plan of a query; a table with encoded rows; or the
--- rows of the plan in a file
+-- a query, or a demonstration of so many blocks, by so many workers
 pub data Asked : Type 0 where
   query : Request → Asked
   demo : ℕ → ℕ → ℕ → Asked
-  rewrite : Text → List (Text × Text) → Asked
-  encode : Text × Text → Asked
-  plain : Text → List (Text × Text) → Asked
 
 -- the thing that is asked, unless something is wrong
 abbrev pub unless : Option UsageFault → Asked → Result Asked UsageFault
@@ -148,10 +144,9 @@ options_of (verb.Query Direct) = (codes "--table", None) ∷ (codes "--combine",
 options_of verb.Demo = (codes "--workers", Some 64) ∷ []
 options_of _ = []
 
--- whether there are so many positional words as a command takes: two numbers, a table, or a first word and tables
+-- whether there are so many positional words as a command takes: two numbers, or a query and tables
 abbrev pub is_count : Verb → ℕ → Bool
 is_count verb.Demo n = n == 2
-is_count verb.Encode n = n == 1
 is_count _ n = nat_lt 1 n
 
 abbrev pub is_form : Verb → List Text → Bool
@@ -185,9 +180,6 @@ abbrev pub asked_by : Verb → List Text → Result Asked UsageFault
 asked_by (verb.Query command) words = unless (table_fault (later_words words)) (query (request_of command words))
 asked_by verb.Demo words =
     demo_of (unwrap_or (number_of (codes "--workers") words) 1) (first_word words) (slice_index_or (later_words words) 0 [])
-asked_by verb.Rewrite words = unless (table_fault (later_words words)) (rewrite (first_word words) (map table_of (later_words words)))
-asked_by verb.Encode words = unless (table_fault (positionals words)) (encode (table_of (first_word words)))
-asked_by verb.Plain words = unless (table_fault (later_words words)) (plain (first_word words) (map table_of (later_words words)))
 
 -- ---- all words
 

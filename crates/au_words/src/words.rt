@@ -83,27 +83,6 @@ pub enum Asked<'a> {
         /// How many workers a join is split among, 1 to 64.
         workers: usize,
     },
-
-    /// The plan of a query, as a text.
-    Rewrite {
-        /// The query's text.
-        query: &'a str,
-
-        /// The tables, in the order of their words.
-        tables: Vec<TableWord<'a>>,
-    },
-
-    /// A table with its rows encoded.
-    Encode(TableWord<'a>),
-
-    /// The rows of a plan that is read from a file.
-    Plain {
-        /// The path of the plan's file.
-        plan: &'a str,
-
-        /// The tables, in the order of their words.
-        tables: Vec<TableWord<'a>>,
-    },
 }
 
 /// Why a command line is not read.

@@ -23,15 +23,6 @@ pub enum Verb {
 
     /// A demonstration.
     Demo,
-
-    /// The plan of a query.
-    Rewrite,
-
-    /// A table with its rows encoded.
-    Encode,
-
-    /// The rows of a plan.
-    Plain,
 }
 
 /// The command that a word names.
@@ -84,9 +75,7 @@ fn is_own_option(verb: Verb, word: &str) -> bool
         }
         Verb::Query(Command::Direct) => is_flag(word),
         Verb::Demo => is_numbered("--workers", MAX_WORKERS, word),
-        Verb::Query(Command::Guess | Command::Ua) | Verb::Rewrite | Verb::Encode | Verb::Plain => {
-            false
-        }
+        Verb::Query(Command::Guess | Command::Ua) => false,
     }
 }
 
@@ -155,8 +144,7 @@ fn is_count(verb: Verb, count: usize) -> bool
 {
     match verb {
         Verb::Demo => count == 2,
-        Verb::Encode => count == 1,
-        Verb::Query(_) | Verb::Rewrite | Verb::Plain => count > 1,
+        Verb::Query(_) => count > 1,
     }
 }
 

@@ -95,10 +95,7 @@ fn program_line<'a>(alloc: Global) -> Result<clap::Command<'a>, AllocError>
     let line = with_command(alloc, line, "direct")?;
     let line = with_command(alloc, line, "guess")?;
     let line = with_command(alloc, line, "ua")?;
-    let line = with_command(alloc, line, "demo")?;
-    let line = with_command(alloc, line, "rewrite")?;
-    let line = with_command(alloc, line, "encode")?;
-    with_command(alloc, line, "plain")
+    with_command(alloc, line, "demo")
 }
 
 // The matches of words that the command line takes.
