@@ -36,7 +36,6 @@ asked_printed (Ok (words.query r)) told old new text is put = (
       (λ ts s h. record { text = subst (λ bytes. Appends old new bytes) h.is put; holds = h.holds; fits = h.fits }) is.1,
 )
 asked_printed (Ok (words.demo start blocks workers)) told old new text is put = (is.0, is.1, is.2, is.3, subst (λ bytes. Appends old new bytes) is.4 put)
-asked_printed (Ok _) told old new text is put = elim is [ ]
 
 pub asked_front : (asked : Result Asked UsageFault) (told : Option (List File)) (old new : Option (List ℕ)) (text : List ℕ) → IsAskedText asked told text → AppendsFront old new text → PrintsAskedFront asked told old new
 asked_front (Err fault) told old new text is put = elim is [ ]
@@ -45,13 +44,11 @@ asked_front (Ok (words.query r)) told old new text is put = (
   gives_along (IsAnswer r text) (PrintsFront r old new) told r (λ ts s h. subst (λ bytes. AppendsFront old new bytes) h.is put) is.1,
 )
 asked_front (Ok (words.demo start blocks workers)) told old new text is put = (is.0, is.1, is.2, is.3, subst (λ bytes. AppendsFront old new bytes) is.4 put)
-asked_front (Ok _) told old new text is put = elim is [ ]
 
 pub memory_cause : (asked : Result Asked UsageFault) (told : Option (List File)) (f fn a an : ℕ) → AskedCause asked told f fn a an outcome.NoMemory
 memory_cause (Err fault) told f fn a an = inr refl
 memory_cause (Ok (words.query r)) told f fn a an = tt
 memory_cause (Ok (words.demo start blocks workers)) told f fn a an = tt
-memory_cause (Ok _) told f fn a an = refl
 
 -- what a text that is put ends in
 pub put_ends : (asked : Result Asked UsageFault) (told : Option (List File)) (f fn a an p pn : ℕ) (old new : Option (List ℕ)) (text : List ℕ) (o : Outcome)
@@ -70,8 +67,6 @@ refused_ends (Ok (words.query r)) told f fn a an p pn old new outcome.Done h put
 refused_ends (Ok (words.query r)) told f fn a an p pn old new outcome.WriteFault h put = elim h [ ]
 refused_ends (Ok (words.demo start blocks workers)) told f fn a an p pn old new outcome.Done h put = elim h [ ]
 refused_ends (Ok (words.demo start blocks workers)) told f fn a an p pn old new outcome.WriteFault h put = elim h [ ]
-refused_ends (Ok _) told f fn a an p pn old new outcome.Done h put = cc
-refused_ends (Ok _) told f fn a an p pn old new outcome.WriteFault h put = cc
 refused_ends asked told f fn a an p pn old new _ h put = (h, put)
 
 -- ---- refusals

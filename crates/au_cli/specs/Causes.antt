@@ -167,13 +167,11 @@ abbrev pub PrintsAsked : Result Asked UsageFault → Option (List File) → Opti
 PrintsAsked (Err fault) told old new = ⊥
 PrintsAsked (Ok (words.query r)) told old new = IsRead r × Gives told r (Prints r old new)
 PrintsAsked (Ok (words.demo start blocks workers)) told old new = Demonstrates start blocks (λ ts s. Appends old new (DemoText ts s))
-PrintsAsked (Ok _) told old new = ⊥
 
 abbrev pub PrintsAskedFront : Result Asked UsageFault → Option (List File) → Option (List ℕ) → Option (List ℕ) → Type 0
 PrintsAskedFront (Err fault) told old new = ⊥
 PrintsAskedFront (Ok (words.query r)) told old new = IsRead r × Gives told r (PrintsFront r old new)
 PrintsAskedFront (Ok (words.demo start blocks workers)) told old new = Demonstrates start blocks (λ ts s. AppendsFront old new (DemoText ts s))
-PrintsAskedFront (Ok _) told old new = ⊥
 
 -- what became of a text that was put by one call
 abbrev pub TextPut : ℕ → ℕ → Option (List ℕ) → Option (List ℕ) → List ℕ → Outcome → Type 0

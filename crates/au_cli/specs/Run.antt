@@ -20,17 +20,16 @@ Yields result wanted = (result ≡ wanted) ⊎ (result ≡ outcome.NoMemory)
 abbrev pub refused_before : Result Asked UsageFault → Option Refusal
 refused_before (Err fault) = Some (exactly (outcome.Usage fault))
 refused_before (Ok (words.query r)) = refused_request r
-refused_before (Ok _) = None
+refused_before (Ok (words.demo start blocks workers)) = None
 
 -- the first refusal over told files, if one stands
 abbrev pub first_refusal : Result Asked UsageFault → List File → Option Refusal
 first_refusal (Err fault) files = Some (exactly (outcome.Usage fault))
 first_refusal (Ok (words.query r)) files = result_err (given_of r files)
-first_refusal (Ok _) files = None
+first_refusal (Ok (words.demo start blocks workers)) files = None
 
 -- nothing is refused over told files, and each number of the answer lies in 128 bits
 abbrev pub CanAnswer : Result Asked UsageFault → List File → Type 0
 CanAnswer (Err fault) files = ⊥
 CanAnswer (Ok (words.query r)) files = (g : Given) × (given_of r files ≡ Ok g) × (numbers_fit r g.0 g.1 ≡ true)
 CanAnswer (Ok (words.demo start blocks workers)) files = Demonstrates start blocks (λ ts s. answer_fits false ts s ≡ true)
-CanAnswer (Ok _) files = ⊥
