@@ -129,21 +129,18 @@ cause_comes : (asked : Result Asked UsageFault) (files : List File) (f fn a an :
 cause_comes (Err fault) files f fn a an refusal o h calm k = usage_comes fault refusal o h k
 cause_comes (Ok (words.query r)) files f fn a an refusal o h calm k = decided_comes r files refusal o (request_decides r files f fn a an o h calm) k
 cause_comes (Ok (words.demo start blocks workers)) files f fn a an refusal o h calm k = cc
-cause_comes (Ok _) files f fn a an refusal o h calm k = cc
 
 printed_comes : (asked : Result Asked UsageFault) (files : List File) (old new : Option (List ℕ)) (refusal : Refusal) (o : Outcome)
     → PrintsAsked asked (Some files) old new → first_refusal asked files ≡ Some refusal → IsRefusal refusal o ⊎ (o ≡ outcome.NoMemory)
 printed_comes (Err fault) files old new refusal o h k = elim h [ ]
 printed_comes (Ok (words.query r)) files old new refusal o h k = given_comes (given_of r files) (h.1.0, h.1.1) refusal o h.1.2 k
 printed_comes (Ok (words.demo start blocks workers)) files old new refusal o h k = cc
-printed_comes (Ok _) files old new refusal o h k = elim h [ ]
 
 front_comes : (asked : Result Asked UsageFault) (files : List File) (old new : Option (List ℕ)) (refusal : Refusal) (o : Outcome)
     → PrintsAskedFront asked (Some files) old new → first_refusal asked files ≡ Some refusal → IsRefusal refusal o ⊎ (o ≡ outcome.NoMemory)
 front_comes (Err fault) files old new refusal o h k = elim h [ ]
 front_comes (Ok (words.query r)) files old new refusal o h k = given_comes (given_of r files) (h.1.0, h.1.1) refusal o h.1.2 k
 front_comes (Ok (words.demo start blocks workers)) files old new refusal o h k = cc
-front_comes (Ok _) files old new refusal o h k = elim h [ ]
 
 pub refusal_comes : (asked : Result Asked UsageFault) (files : List File) (f fn a an p pn : ℕ) (old new : Option (List ℕ)) (refusal : Refusal) (o : Outcome)
     → Ends asked (Some files) f fn a an p pn old new o → ¬ Rose f fn → first_refusal asked files ≡ Some refusal → IsRefusal refusal o ⊎ (o ≡ outcome.NoMemory)
@@ -180,21 +177,18 @@ early_cause_comes : (asked : Result Asked UsageFault) (told : Option (List File)
 early_cause_comes (Err fault) told f fn a an refusal o h k = usage_comes fault refusal o h k
 early_cause_comes (Ok (words.query r)) told f fn a an refusal o h k = request_comes r told f fn a an refusal o h k
 early_cause_comes (Ok (words.demo start blocks workers)) told f fn a an refusal o h k = cc
-early_cause_comes (Ok _) told f fn a an refusal o h k = cc
 
 early_printed : (asked : Result Asked UsageFault) (told : Option (List File)) (old new : Option (List ℕ)) (refusal : Refusal) (o : Outcome)
     → PrintsAsked asked told old new → refused_before asked ≡ Some refusal → IsRefusal refusal o ⊎ (o ≡ outcome.NoMemory)
 early_printed (Err fault) told old new refusal o h k = elim h [ ]
 early_printed (Ok (words.query r)) told old new refusal o h k = read_not_refused r refusal o h.0 k
 early_printed (Ok (words.demo start blocks workers)) told old new refusal o h k = cc
-early_printed (Ok _) told old new refusal o h k = elim h [ ]
 
 early_front : (asked : Result Asked UsageFault) (told : Option (List File)) (old new : Option (List ℕ)) (refusal : Refusal) (o : Outcome)
     → PrintsAskedFront asked told old new → refused_before asked ≡ Some refusal → IsRefusal refusal o ⊎ (o ≡ outcome.NoMemory)
 early_front (Err fault) told old new refusal o h k = elim h [ ]
 early_front (Ok (words.query r)) told old new refusal o h k = read_not_refused r refusal o h.0 k
 early_front (Ok (words.demo start blocks workers)) told old new refusal o h k = cc
-early_front (Ok _) told old new refusal o h k = elim h [ ]
 
 pub early_comes : (asked : Result Asked UsageFault) (told : Option (List File)) (f fn a an p pn : ℕ) (old new : Option (List ℕ)) (refusal : Refusal) (o : Outcome)
     → Ends asked told f fn a an p pn old new o → refused_before asked ≡ Some refusal → IsRefusal refusal o ⊎ (o ≡ outcome.NoMemory)
@@ -238,7 +232,6 @@ cause_memory : (asked : Result Asked UsageFault) (files : List File) (f fn a an 
 cause_memory (Err fault) files f fn a an o h calm can = elim can [ ]
 cause_memory (Ok (words.query r)) files f fn a an o h calm can = not_decided r files o (request_decides r files f fn a an o h calm) can.0 can.1 can.2
 cause_memory (Ok (words.demo start blocks workers)) files f fn a an o h calm can = demo_not_refused start blocks o h can
-cause_memory (Ok _) files f fn a an o h calm can = elim can [ ]
 
 pub is_complete : (asked : Result Asked UsageFault) (files : List File) (f fn a an p pn : ℕ) (old new : Option (List ℕ)) (o : Outcome)
     → Ends asked (Some files) f fn a an p pn old new o → ¬ Rose f fn → ¬ Rose p pn → CanAnswer asked files → Yields o outcome.Done
@@ -252,7 +245,6 @@ usage_asked : (asked : Result Asked UsageFault) (told : Option (List File)) (f f
 usage_asked (Err x) told f fn a an fault h = elim h [ inl e ↦ cc | inr e ↦ cc ]
 usage_asked (Ok (words.query r)) told f fn a an fault h = elim h [ ]
 usage_asked (Ok (words.demo start blocks workers)) told f fn a an fault h = elim h [ ]
-usage_asked (Ok _) told f fn a an fault h = cc
 
 pub usage_cause : (asked : Result Asked UsageFault) (told : Option (List File)) (f fn a an p pn : ℕ) (old new : Option (List ℕ)) (o : Outcome) (fault : UsageFault)
     → Ends asked told f fn a an p pn old new o → o ≡ outcome.Usage fault → result_err asked ≡ Some fault
@@ -279,7 +271,6 @@ absence_rose : (asked : Result Asked UsageFault) (told : Option (List File)) (f 
 absence_rose (Err x) told f fn a an i h = elim h [ inl e ↦ cc | inr e ↦ cc ]
 absence_rose (Ok (words.query r)) told f fn a an i h = h.0
 absence_rose (Ok (words.demo start blocks workers)) told f fn a an i h = elim h [ ]
-absence_rose (Ok _) told f fn a an i h = cc
 
 pub no_file_rose : (asked : Result Asked UsageFault) (told : Option (List File)) (f fn a an p pn : ℕ) (old new : Option (List ℕ)) (o : Outcome) (i : ℕ)
     → Ends asked told f fn a an p pn old new o → o ≡ outcome.NoFile i → Rose a an
@@ -290,7 +281,6 @@ fault_rose : (asked : Result Asked UsageFault) (told : Option (List File)) (f fn
 fault_rose (Err x) told f fn a an i h = elim h [ inl e ↦ cc | inr e ↦ cc ]
 fault_rose (Ok (words.query r)) told f fn a an i h = h.1
 fault_rose (Ok (words.demo start blocks workers)) told f fn a an i h = elim h [ ]
-fault_rose (Ok _) told f fn a an i h = cc
 
 pub read_fault_rose : (asked : Result Asked UsageFault) (told : Option (List File)) (f fn a an p pn : ℕ) (old new : Option (List ℕ)) (o : Outcome) (i : ℕ)
     → Ends asked told f fn a an p pn old new o → o ≡ outcome.ReadFault i → Rose f fn
@@ -301,7 +291,6 @@ placed : (asked : Result Asked UsageFault) (told : Option (List File)) (f fn a a
 placed (Err x) told f fn a an at h = elim h [ inl e ↦ cc | inr e ↦ cc ]
 placed (Ok (words.query r)) told f fn a an at h = refused_not_positive r at h
 placed (Ok (words.demo start blocks workers)) told f fn a an at h = elim h [ ]
-placed (Ok _) told f fn a an at h = cc
 
 pub not_positive_cause : (asked : Result Asked UsageFault) (told : Option (List File)) (f fn a an p pn : ℕ) (old new : Option (List ℕ)) (o : Outcome) (at : ℕ)
     → Ends asked told f fn a an p pn old new o → o ≡ outcome.Query (query.NotPositive at) → AskedNotPositive asked at
