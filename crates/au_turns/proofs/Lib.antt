@@ -1,0 +1,5 @@
+pub mod RecordTexts
+pub mod FieldValues
+pub mod NumberedColumns
+pub mod PlainRecords
+pub mod PlainTables
