@@ -3,3 +3,5 @@ pub mod FieldValues
 pub mod NumberedColumns
 pub mod PlainRecords
 pub mod PlainTables
+pub mod WritableRows
+pub mod ReadValues

@@ -1,10 +1,22 @@
 //! What is written of rows is read back.
 #![tactic(auto)]
 
-ghost use Rattle.au_turns.specs.Turns.{TextsAreRead};
+ghost use Rattle.au_turns.specs.Turns.{ReadTables, TablesAreRead, TextsAreRead};
 
 /// Shows that the text of rows is the text of a plain table with these rows.
 pub fn texts_are_read()
     ensures { TextsAreRead }
+{
+}
+
+/// Shows that the text of a table's encoded rows is read as a table with these rows.
+pub fn tables_are_read()
+    ensures { TablesAreRead }
+{
+}
+
+/// Shows that the values of each table that is read from a text can be written.
+pub fn read_tables()
+    ensures { ReadTables }
 {
 }
