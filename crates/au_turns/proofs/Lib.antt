@@ -5,3 +5,4 @@ pub mod PlainRecords
 pub mod PlainTables
 pub mod WritableRows
 pub mod ReadValues
+pub mod PlanTurns

@@ -1,6 +1,7 @@
 //! What is written of rows is read back.
 #![tactic(auto)]
 
+ghost use Rattle.au_turns.specs.Plans.{PlansAreTurned};
 ghost use Rattle.au_turns.specs.Turns.{ReadTables, TablesAreRead, TextsAreRead};
 
 /// Shows that the text of rows is the text of a plain table with these rows.
@@ -18,5 +19,11 @@ pub fn tables_are_read()
 /// Shows that the values of each table that is read from a text can be written.
 pub fn read_tables()
     ensures { ReadTables }
+{
+}
+
+/// Shows that the plan of a tree gives the encoded rows over the tables that encoded texts are read as.
+pub fn plans_are_turned()
+    ensures { PlansAreTurned }
 {
 }
