@@ -6,3 +6,4 @@ pub mod PlainTables
 pub mod WritableRows
 pub mod ReadValues
 pub mod PlanTurns
+pub mod GuessCounts

@@ -1,5 +1,5 @@
 -- The text of rows, read as a table.
-use Rattle.std.specs.Prelude.{◌≡◌, ℕ, ◌≤◌, ◌<◌, ◌&&◌, Bool, true, IsTrue, List, [], ◌∷◌, length, map, Ok}
+use Rattle.std.specs.Prelude.{◌≡◌, ℕ, ◌+◌, ◌*◌, ◌≤◌, ◌<◌, ◌&&◌, sum, Bool, true, IsTrue, List, [], ◌∷◌, length, map, Ok}
 use Rattle.std.specs.List.{AllByRecursion, list_all}
 use Rattle.std.specs.Str.{is_utf8}
 use Rattle.au_value.specs.declared.kinds.Kind.{Kind}
@@ -14,7 +14,7 @@ use Rattle.au_blocks.specs.Read.{table_of}
 use Rattle.au_blocks.specs.Tables.{BlockTable, IsBlockTable, column_kinds}
 use Rattle.au_blocks.specs.Worlds.{guess_choice, rows_in}
 use Rattle.au_algebra.specs.Ordinary.{Rows}
-use Rattle.au_translate.specs.Translate.{bounded_table}
+use Rattle.au_translate.specs.Translate.{bounded_table, guessed_copies}
 use Rattle.au_plain.specs.PlanKinds.{FitRows, HaveKinds}
 use Rattle.au_encode.specs.Encode.{encode, encoded_kinds}
 use Rattle.au_turns.specs.Records.{rows_text}
@@ -77,3 +77,14 @@ TablesAreRead = (t : BlockTable) → IsBlockTable t → IsWritableTable t → le
 -- Each table that is read from a text is a block table whose values can be written.
 abbrev pub ReadTables : Type 0
 ReadTables = (bytes : List ℕ) (t : BlockTable) → table_of bytes ≡ Ok t → IsBlockTable t × IsWritableTable t
+
+-- how many guess rows a table has, and with them the values of these rows and one more for each
+abbrev pub guess_count : BlockTable → ℕ
+guess_count t = sum (map guessed_copies t.blocks)
+
+abbrev pub plain_size : BlockTable → ℕ
+plain_size t = guess_count t * (length t.columns + 1)
+
+-- The text of rows has at least half as many bytes as that.
+abbrev pub SizesAreSmall : Type 0
+SizesAreSmall = (ks : List Kind) (rows : Rows) (t : BlockTable) → AreWritable ks rows → IsTableOf ks rows t → plain_size t ≤ 2 * length (rows_text ks rows)

@@ -2,7 +2,7 @@
 #![tactic(auto)]
 
 ghost use Rattle.au_turns.specs.Plans.{PlansAreTurned};
-ghost use Rattle.au_turns.specs.Turns.{ReadTables, TablesAreRead, TextsAreRead};
+ghost use Rattle.au_turns.specs.Turns.{ReadTables, SizesAreSmall, TablesAreRead, TextsAreRead};
 
 /// Shows that the text of rows is the text of a plain table with these rows.
 pub fn texts_are_read()
@@ -25,5 +25,11 @@ pub fn read_tables()
 /// Shows that the plan of a tree gives the encoded rows over the tables that encoded texts are read as.
 pub fn plans_are_turned()
     ensures { PlansAreTurned }
+{
+}
+
+/// Shows that a table that is read from the text of rows has few guess rows.
+pub fn sizes_are_small()
+    ensures { SizesAreSmall }
 {
 }
