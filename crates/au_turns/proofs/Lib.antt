@@ -7,3 +7,4 @@ pub mod WritableRows
 pub mod ReadValues
 pub mod PlanTurns
 pub mod GuessCounts
+pub mod StatementTurns

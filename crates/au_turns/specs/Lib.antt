@@ -1,3 +1,10 @@
 pub mod Records
 pub mod Turns
 pub mod Plans
+pub mod EngineAnswers
+pub mod Texts
+pub mod Fitting
+pub mod Brackets
+pub mod GuessTexts
+pub mod Exchange
+pub mod Statements

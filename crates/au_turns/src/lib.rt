@@ -2,6 +2,7 @@
 #![tactic(auto)]
 
 ghost use Rattle.au_turns.specs.Plans.{PlansAreTurned};
+ghost use Rattle.au_turns.specs.Statements.{StatementsAreTurned};
 ghost use Rattle.au_turns.specs.Turns.{ReadTables, SizesAreSmall, TablesAreRead, TextsAreRead};
 
 /// Shows that the text of rows is the text of a plain table with these rows.
@@ -31,5 +32,11 @@ pub fn plans_are_turned()
 /// Shows that a table that is read from the text of rows has few guess rows.
 pub fn sizes_are_small()
     ensures { SizesAreSmall }
+{
+}
+
+/// Shows that the plan of a statement gives the encoded rows of the statement's bounded relation.
+pub fn statements_are_turned()
+    ensures { StatementsAreTurned }
 {
 }
