@@ -11,15 +11,17 @@ use Rattle.au_value.specs.Order.{data_kind, kind_of}
 use Rattle.au_value.specs.Ranges.{guesses}
 use Rattle.au_blocks.specs.declared.column.Column.{Column}
 use Rattle.au_blocks.specs.Blocks.{Choices, IsBlock, MayMark, candidate, once}
-use Rattle.au_blocks.specs.Tables.{BlockTable, column_kinds}
+use Rattle.au_blocks.specs.Tables.{BlockTable, IsBlockTable, column_kinds}
 use Rattle.au_blocks.specs.Worlds.{chosen, guess_choice, rows_in, taken}
 use Rattle.au_algebra.specs.Ordinary.{Rows}
-use Rattle.au_translate.specs.Translate.{guessed_copies, shown}
+use Rattle.au_translate.specs.Translate.{bounded_table, guessed_copies, shown}
 use Rattle.au_translate.proofs.BlockRelation.{place_within}
 use Rattle.au_plain.specs.PlanKinds.{HaveKinds}
 use Rattle.au_turns.specs.Records.{cell_field, header_from, record_text, rows_text}
-use Rattle.au_turns.specs.Turns.{AreWritable, IsTableOf, guess_count, plain_size}
+use Rattle.au_encode.specs.Encode.{encode, encoded_kinds}
+use Rattle.au_turns.specs.Turns.{AreWritable, IsEncodedTable, IsTableOf, IsWritableTable, encoded_text, guess_count, plain_size}
 use Rattle.au_turns.proofs.ReadValues.{read_good}
+use Rattle.au_turns.proofs.WritableRows.{encoded_writable, kinds_again}
 
 -- ---- the guess rows of a table are as many as are guessed
 
@@ -87,3 +89,8 @@ size_small ks rows t h is =
     let long = rows_long ks rows h.some h.kinds in
     let whole = length-append (record_text (header_from 0 ks)) (flat_map (λ row. record_text (map cell_field row)) rows) in
     rw (count, wide) (omega (arith, long, whole))
+
+pub encoded_size : (t u : BlockTable) → IsBlockTable t → IsWritableTable t → length t.columns ≤ 20 → IsEncodedTable t u → plain_size u ≤ 2 * length (encoded_text t)
+encoded_size t u ok h few is =
+    size_small (encoded_kinds (column_kinds t)) (encode (bounded_table t)) u (encoded_writable t ok h few)
+    (record { reads = is.reads; columns = is.columns ∙ sym (kinds_again t.columns); guesses = is.guesses })

@@ -8,3 +8,4 @@ pub mod ReadValues
 pub mod PlanTurns
 pub mod GuessCounts
 pub mod StatementTurns
+pub mod EncodedFiles

@@ -166,13 +166,13 @@ triple_long (k ∷ ks) = let more = triple_long ks in omega (arith, more)
 encoded_long : (ks : List Kind) → length (encoded_kinds ks) ≡ 3 * length ks + 3
 encoded_long ks = let more = triple_long ks in length-append (triple_kinds ks) (kind.Int ∷ kind.Int ∷ kind.Int ∷ []) ∙ omega (arith, more)
 
-kinds_again : (cs : List Column) → map data_kind (encoded_kinds (map (λ c. data_kind c.kind) cs)) ≡ encoded_kinds (map (λ c. data_kind c.kind) cs)
+pub kinds_again : (cs : List Column) → map data_kind (encoded_kinds (map (λ c. data_kind c.kind) cs)) ≡ encoded_kinds (map (λ c. data_kind c.kind) cs)
 kinds_again [] = refl
 kinds_again (c ∷ cs) = rw (data_again c.kind) (ap (λ ks. data_kind c.kind ∷ data_kind c.kind ∷ data_kind c.kind ∷ ks) (kinds_again cs))
 
 -- ---- the table
 
-encoded_writable : (t : BlockTable) → IsBlockTable t → IsWritableTable t → length t.columns ≤ 20 → AreWritable (encoded_kinds (column_kinds t)) (encode (bounded_table t))
+pub encoded_writable : (t : BlockTable) → IsBlockTable t → IsWritableTable t → length t.columns ≤ 20 → AreWritable (encoded_kinds (column_kinds t)) (encode (bounded_table t))
 encoded_writable t ok h few =
     let long = encoded_long (column_kinds t) in
     let columns : length (column_kinds t) ≡ length t.columns = length-map t.columns (λ (c : Column). data_kind c.kind) in

@@ -37,3 +37,6 @@ plain_fits ts p = fit (plan_numbers p (guess_tables ts))
 
 abbrev pub plain_text : List Named → PlanTree → List ℕ
 plain_text ts p = rows_text (unwrap_or (plain_kinds ts p) []) (plain_answer ts p)
+
+abbrev pub greatest_size : ℕ
+greatest_size = 16777216

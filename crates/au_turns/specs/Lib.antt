@@ -8,3 +8,8 @@ pub mod Brackets
 pub mod GuessTexts
 pub mod Exchange
 pub mod Statements
+pub mod CliTypes
+pub mod IoFiles
+pub mod CliFiles
+pub mod CliRun
+pub mod Outputs

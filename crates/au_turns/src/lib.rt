@@ -1,6 +1,7 @@
 //! What is written of rows is read back.
 #![tactic(auto)]
 
+ghost use Rattle.au_turns.specs.Outputs.{OutputsCanRun};
 ghost use Rattle.au_turns.specs.Plans.{PlansAreTurned};
 ghost use Rattle.au_turns.specs.Statements.{StatementsAreTurned};
 ghost use Rattle.au_turns.specs.Turns.{ReadTables, SizesAreSmall, TablesAreRead, TextsAreRead};
@@ -38,5 +39,11 @@ pub fn sizes_are_small()
 /// Shows that the plan of a statement gives the encoded rows of the statement's bounded relation.
 pub fn statements_are_turned()
     ensures { StatementsAreTurned }
+{
+}
+
+/// Shows that a plan can be run over the texts that are printed for its tables, and what is printed then.
+pub fn outputs_can_run()
+    ensures { OutputsCanRun }
 {
 }
