@@ -1,16 +1,13 @@
 -- The texts that `encode` and `rewrite` print, as files: their tables, and that the plan can be run over them.
-use Rattle.std.proofs.Common.{◌≡◌, ℕ, ◌+◌, ◌*◌, ◌<◌, ◌≤◌, Bool, true, false, cond, List, [], ◌∷◌, ◌++◌, length, map, Option, Some, None, Result, Ok, Err, refl, ap, sym, ◌∙◌, subst, arith, codes, le-leb}
-use Rattle.std.specs.Prelude.{if◌then◌else◌, nat_le, nat_lt}
+use Rattle.std.proofs.Common.{◌≡◌, ℕ, ◌+◌, ◌*◌, ◌≤◌, Bool, true, false, cond, List, [], ◌∷◌, ◌++◌, length, Option, Some, None, Result, Ok, Err, refl, ap, sym, ◌∙◌, subst, arith, le-leb}
+use Rattle.std.specs.Prelude.{nat_le, nat_lt}
 use Rattle.std.specs.List.{AllByRecursion, AllZip}
 use Rattle.std.specs.Str.{is_utf8}
-use Rattle.std.proofs.lemmas.Bool.{le-ltb, cases_Bool}
+use Rattle.std.proofs.lemmas.Bool.{le-ltb}
 use Rattle.au_parse.specs.Tree.{QueryTree}
 use Rattle.au_blocks.specs.declared.faults.TableFault.{TableFault}
 use Rattle.au_blocks.specs.Read.{table_of}
-use Rattle.au_blocks.specs.Tables.{BlockTable, IsBlockTable, column_kinds}
-use Rattle.au_translate.specs.Translate.{bounded_table}
-use Rattle.au_encode.specs.Encode.{encode, encoded_kinds}
-use Rattle.au_turns.specs.Brackets.{is_deep}
+use Rattle.au_blocks.specs.Tables.{BlockTable, IsBlockTable}
 use Rattle.au_turns.specs.Texts.{plan_text}
 use Rattle.au_turns.specs.Records.{rows_text}
 use Rattle.au_turns.specs.IoFiles.{File, bytes_at}
@@ -18,10 +15,9 @@ use Rattle.au_turns.specs.EngineAnswers.{Named, blocks_of}
 use Rattle.au_turns.specs.Exchange.{plain_text}
 use Rattle.au_turns.specs.CliTypes.{LimitFault, Outcome, Purpose}
 use Rattle.au_turns.specs.CliTypes.{LimitFault as limit}
-use Rattle.au_turns.specs.CliTypes.{Outcome as outcome}
 use Rattle.au_turns.specs.CliTypes.{Purpose as purpose}
-use Rattle.au_turns.specs.CliFiles.{Text, and_more, file_table, greatest_columns, greatest_size, greatest_total, passed_limit, size_of, sized_bytes, table_in, table_or_defect, table_within, tables_from}
-use Rattle.au_turns.specs.CliRun.{CanRun, IsTextOf}
+use Rattle.au_turns.specs.CliFiles.{Text, and_more, file_table, greatest_columns, greatest_size, greatest_total, passed_limit, size_of, table_in, table_or_defect, table_within, tables_from}
+use Rattle.au_turns.specs.CliRun.{CanRun}
 use Rattle.au_turns.specs.Outputs.{AreOutputs, AreWithin, IsEncodedFile}
 use Rattle.au_turns.specs.Statements.{turned_kinds, turned_rows}
 use Rattle.au_turns.specs.Turns.{IsEncodedTable, IsWritableTable, encoded_text, plain_size}
@@ -121,8 +117,7 @@ tables_turned files outputs file before f b (word ∷ words) (other ∷ others) 
     let found = read_at purpose.Query file before (bytes_at files word.1) parts.0 parts.2 in
     let own : ReadAt purpose.Query f (bytes_at files word.1) parts.0 = record { text = found.text; is = found.is; table = found.table; limit = refl } in
     let one = one_turned files outputs f b word other parts.0 own h.0 k.0 k.1 in
-    let more = tables_turned files outputs (file + 1) (before + size_of (bytes_at files word.1)) (f + 1) (b + size_of (bytes_at outputs other.1)) words others parts.1 parts.3 h.1 k.2 in
-    (
+    let more = tables_turned files outputs (file + 1) (before + size_of (bytes_at files word.1)) (f + 1) (b + size_of (bytes_at outputs other.1)) words others parts.1 parts.3 h.1 k.2 in (
       (other.0, one.0) ∷ more.0,
       ap (λ r. and_more other.0 r (tables_from purpose.Plan outputs (f + 1) (b + size_of (bytes_at outputs other.1)) others)) one.1 ∙ ap (and_more other.0 (Ok one.0)) more.1,
       subst (λ rest. AreTables rest ((other.0, one.0) ∷ more.0)) parts.4 (record { good = (one.2, more.2.good); written = (one.3, more.2.written); encoded = (one.4, more.2.encoded) }),
@@ -136,8 +131,7 @@ outputs_run files outputs words others path ts s h =
     let p = h.written.plan in
     let e : h.line ≡ plan_text p ++ 10 ∷ [] = h.written.text in
     let found = tables_turned files outputs 0 0 1 (length (plan_text p ++ 10 ∷ [])) words others ts h.given h.encoded (subst (λ l. AreWithin outputs (length l) others) e h.within) in
-    let gives = statement_turned ts found.0 s h.line h.statement found.2.good found.2.written found.2.encoded h.sound h.written in
-    (
+    let gives = statement_turned ts found.0 s h.line h.statement found.2.good found.2.written found.2.encoded h.sound h.written in (
       record {
         few = h.few;
         line = plan_text p;

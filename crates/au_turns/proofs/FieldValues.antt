@@ -1,5 +1,5 @@
 -- The field that is written for a value is read as the value, and is UTF-8.
-use Rattle.std.proofs.Common.{◌≡◌, ℕ, zero, suc, ◌+◌, ◌<◌, ◌≤◌, ◌^◌, ◌==◌, Bool, true, false, List, [], ◌∷◌, ◌++◌, length, map, ℤ, pos, negsuc, Some, refl, ap, ◌∙◌, arith, decimal, codes, IsAscii, ltb-true, lt-ltb, le-leb, ne_eqb}
+use Rattle.std.proofs.Common.{◌≡◌, ℕ, zero, suc, ◌<◌, ◌^◌, true, false, List, [], ◌∷◌, length, ℤ, pos, negsuc, Some, refl, arith, decimal, codes, IsAscii, ltb-true, lt-ltb, le-leb, ne_eqb}
 use Rattle.std.specs.Prelude.{nat_lt}
 use Rattle.std.specs.List.{list_all}
 use Rattle.std.specs.Char.{is_ascii_digit, digit_value}

@@ -1,5 +1,5 @@
 -- How many guess rows a table has, and that the text of rows is at least as long as their values are many.
-use Rattle.std.proofs.Common.{◌≡◌, ℕ, zero, suc, ◌+◌, ◌*◌, ◌<◌, ◌≤◌, List, [], ◌∷◌, ◌++◌, length, map, Option, Some, None, Ok, refl, ap, sym, ◌∙◌, arith}
+use Rattle.std.proofs.Common.{◌≡◌, ℕ, zero, suc, ◌+◌, ◌*◌, ◌<◌, ◌≤◌, List, [], ◌∷◌, ◌++◌, length, map, Option, Some, None, refl, ap, sym, ◌∙◌, arith}
 use Rattle.std.specs.Prelude.{if◌then◌else◌, replicate, slice_get, sum, option_and_then, option_map, unwrap_or}
 use Rattle.std.specs.List.{AllByRecursion, flat_map}
 use Rattle.std.proofs.lemmas.List.{length-append, length-map}
@@ -14,7 +14,7 @@ use Rattle.au_blocks.specs.Blocks.{Choices, IsBlock, MayMark, candidate, once}
 use Rattle.au_blocks.specs.Tables.{BlockTable, IsBlockTable, column_kinds}
 use Rattle.au_blocks.specs.Worlds.{chosen, guess_choice, rows_in, taken}
 use Rattle.au_algebra.specs.Ordinary.{Rows}
-use Rattle.au_translate.specs.Translate.{bounded_table, guessed_copies, shown}
+use Rattle.au_translate.specs.Translate.{bounded_table, guessed_copies}
 use Rattle.au_translate.proofs.BlockRelation.{place_within}
 use Rattle.au_plain.specs.PlanKinds.{HaveKinds}
 use Rattle.au_turns.specs.Records.{cell_field, header_from, record_text, rows_text}

@@ -1,8 +1,8 @@
 -- A header of numbered columns with their kinds: its names, its kinds, and that it has no defect.
-use Rattle.std.proofs.Common.{◌≡◌, ◌≢◌, ℕ, zero, suc, ◌+◌, ◌<◌, ◌≤◌, ◌^◌, ◌==◌, ◌||◌, Bool, true, false, List, [], ◌∷◌, ◌++◌, length, get_or, take, drop, map, Option, Some, None, refl, ap, sym, ◌∙◌, subst, arith, decimal, codes, append_assoc, eq-eqb, ne_eqb, IsAscii}
-use Rattle.std.specs.Prelude.{not, nat_lt, zip, position, bytes_eq}
-use Rattle.std.specs.List.{enumerate_from, flat_map, list_all, list_any, position_or_len}
-use Rattle.std.specs.Char.{to_ascii_lowercase, digit_value}
+use Rattle.std.proofs.Common.{◌≡◌, ◌≢◌, ℕ, zero, suc, ◌+◌, ◌<◌, ◌≤◌, ◌==◌, ◌||◌, Bool, true, false, List, [], ◌∷◌, ◌++◌, length, get_or, take, drop, map, Option, Some, None, refl, ap, sym, ◌∙◌, arith, decimal, codes, append_assoc, eq-eqb, ne_eqb, IsAscii}
+use Rattle.std.specs.Prelude.{nat_lt, zip, position, bytes_eq}
+use Rattle.std.specs.List.{enumerate_from, flat_map, list_any, position_or_len}
+use Rattle.std.specs.Char.{to_ascii_lowercase}
 use Rattle.std.specs.Str.{is_utf8, str_eq_ignore_ascii_case}
 use Rattle.std.specs.Str.Parse.{AllDigits}
 use Rattle.std.proofs.Math.Seq.{get_or-append_seam, take-append_seam}
@@ -16,7 +16,7 @@ use Rattle.std.proofs.lemmas.Str.Parse.{digit_from_value}
 use Rattle.au_value.specs.declared.kinds.Kind.{Kind}
 use Rattle.au_value.specs.declared.kinds.Kind.TheVariants as kind
 use Rattle.au_value.specs.Order.{data_kind}
-use Rattle.au_csv.specs.Texts.{Record, is_text}
+use Rattle.au_csv.specs.Texts.{is_text}
 use Rattle.au_blocks.specs.Headers.{column_name, column_names, cut, format_of, is_colon, kind_named, written_kind, written_kinds, written_name}
 use Rattle.au_blocks.specs.Defects.{column_defects, header_defects, same_name}
 use Rattle.au_blocks.proofs.Cuts.{cut-at}

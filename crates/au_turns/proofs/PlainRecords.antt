@@ -1,17 +1,15 @@
 -- The records of rows below a header of numbered columns: they have no defect, and each is read as its row.
-use Rattle.std.proofs.Common.{◌≡◌, ℕ, ◌+◌, ◌==◌, ◌&&◌, Bool, true, false, List, [], ◌∷◌, ◌++◌, length, map, Option, Some, None, refl, ap, sym, ◌∙◌, eq-eqb}
+use Rattle.std.proofs.Common.{◌≡◌, ℕ, ◌+◌, ◌==◌, true, List, [], ◌∷◌, length, map, refl, ap, sym, ◌∙◌, eq-eqb}
 use Rattle.std.specs.Prelude.{not, zip}
-use Rattle.std.specs.List.{AllByRecursion, enumerate_from, flat_map, list_all}
-use Rattle.std.specs.Str.{is_utf8}
+use Rattle.std.specs.List.{enumerate_from, flat_map, list_all}
 use Rattle.std.proofs.lemmas.Bool.{and_parts}
 use Rattle.std.proofs.lemmas.List.{length-map}
-use Rattle.au_value.specs.declared.kinds.Kind.{Kind}
 use Rattle.au_value.specs.declared.value.Value.{Value}
 use Rattle.au_value.specs.Order.{data_kind, kind_of}
 use Rattle.au_value.specs.Ranges.{guesses}
 use Rattle.au_expr.specs.Figures.{fit}
 use Rattle.au_expr.specs.Numbers.{number_if_any}
-use Rattle.au_csv.specs.Texts.{Record, is_text}
+use Rattle.au_csv.specs.Texts.{is_text}
 use Rattle.au_blocks.specs.Headers.{format_of}
 use Rattle.au_blocks.specs.declared.faults.TableFault.TheVariants as fault
 use Rattle.au_blocks.specs.Defects.{is_field, record_defects, where_true}

@@ -1,21 +1,18 @@
 -- The text of rows is the text of a plain table, whose guess rows are the rows.
-use Rattle.std.proofs.Common.{◌≡◌, ℕ, suc, ◌+◌, ◌<◌, ◌≤◌, true, List, [], ◌∷◌, length, map, Some, None, Ok, refl, ap, sym, ◌∙◌, subst, arith}
-use Rattle.std.specs.Prelude.{zip}
+use Rattle.std.proofs.Common.{◌≡◌, ℕ, ◌+◌, ◌<◌, true, List, [], ◌∷◌, length, map, None, Ok, refl, ap, sym, ◌∙◌, subst, arith}
 use Rattle.std.specs.List.{AllByRecursion, enumerate_from, flat_map, list_all}
 use Rattle.std.proofs.lemmas.List.{length-map}
 use Rattle.au_value.specs.declared.kinds.Kind.{Kind}
 use Rattle.au_value.specs.declared.kinds.Kind.TheVariants as kind
-use Rattle.au_value.specs.declared.value.Value.{Value}
 use Rattle.au_value.specs.Order.{data_kind, kind_of}
 use Rattle.au_value.specs.Ranges.{guesses}
 use Rattle.au_csv.specs.Texts.{Record, is_text, not_text, records_of}
 use Rattle.au_csv.proofs.NotText.{position-none}
-use Rattle.au_blocks.specs.declared.column.Column.{Column}
 use Rattle.au_blocks.specs.Blocks.{Choices}
 use Rattle.au_blocks.specs.Headers.{format_of, written_kinds}
 use Rattle.au_blocks.specs.Entries.{Entry, blocks_of, entries_of}
 use Rattle.au_blocks.specs.Inferring.{column_kind, kinds_of}
-use Rattle.au_blocks.specs.Defects.{block_defects, blocks_defects, defects, header_defects, record_defects, rows_defects}
+use Rattle.au_blocks.specs.Defects.{block_defects, defects, header_defects, record_defects, rows_defects}
 use Rattle.au_blocks.specs.Read as reading
 use Rattle.au_blocks.specs.Read.{block_of, columns_of, contents, first, header_kinds, table_of, unless}
 use Rattle.au_blocks.specs.Tables.{BlockTable, column_kinds}
@@ -125,9 +122,11 @@ text_read (k ∷ ks) rows h =
     let texts : list_all is_text (header_from 0 (k ∷ ks) ∷ rs) ≡ true = rw (header_text (k ∷ ks) h.few) (rows_text_sound (k ∷ ks) rows sound) in
     let below : rows_defects (format_of []) (length (header_from 0 (k ∷ ks))) (written_kinds (header_from 0 (k ∷ ks))) rs ≡ [] =
     rw (header_long 0 (k ∷ ks), header_written (k ∷ ks)) (rows_sound (k ∷ ks) 1 rows sound) in
-    let none = no_defects k ks rs (position-none is_text (header_from 0 (k ∷ ks) ∷ rs) texts) (header_sound (k ∷ ks) h.few) below in
-    (contents (header_from 0 (k ∷ ks) ∷ rs), record {
-      reads = table_is (rows_text (k ∷ ks) rows) (header_from 0 (k ∷ ks) ∷ rs) (text_records k ks rows (some_fields (k ∷ ks) rows h.some h.kinds)) none;
-      columns = columns_read k ks rs;
-      guesses = rows_read k ks rows sound;
-    })
+    let none = no_defects k ks rs (position-none is_text (header_from 0 (k ∷ ks) ∷ rs) texts) (header_sound (k ∷ ks) h.few) below in (
+      contents (header_from 0 (k ∷ ks) ∷ rs),
+      record {
+        reads = table_is (rows_text (k ∷ ks) rows) (header_from 0 (k ∷ ks) ∷ rs) (text_records k ks rows (some_fields (k ∷ ks) rows h.some h.kinds)) none;
+        columns = columns_read k ks rs;
+        guesses = rows_read k ks rows sound;
+      },
+    )

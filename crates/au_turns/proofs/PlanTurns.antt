@@ -4,11 +4,8 @@ use Rattle.std.specs.List.{AllByRecursion, AllZip}
 use Rattle.au_value.specs.declared.kinds.Kind.{Kind}
 use Rattle.au_expr.specs.Figures.{Fit}
 use Rattle.au_blocks.specs.Tables.{BlockTable, IsBlockTable, column_kinds}
-use Rattle.au_blocks.specs.Worlds.{guess_choice, guess_world, rows_in, tables_in}
-use Rattle.au_algebra.specs.Bounded.{bounded}
-use Rattle.au_algebra.specs.Fits.{numbers}
+use Rattle.au_blocks.specs.Worlds.{guess_world, tables_in}
 use Rattle.au_algebra.specs.Laws.{IsRelation}
-use Rattle.au_algebra.specs.Ordinary.{Rows}
 use Rattle.au_algebra.specs.Trees.{Tree}
 use Rattle.au_algebra.specs.Typing.{kinds_of}
 use Rattle.au_translate.specs.Translate.{bounded_table}

@@ -1,6 +1,6 @@
 -- The values of a table that is read from a text can be written, and the table is a block table.
-use Rattle.std.proofs.Common.{◌≡◌, ℕ, zero, suc, ◌+◌, ◌<◌, ◌≤◌, Bool, true, false, cond, List, [], ◌∷◌, ◌++◌, length, map, ℤ, Option, Some, None, Result, Ok, Err, inl, inr, refl, ap, sym, ◌∙◌, subst, arith, codes}
-use Rattle.std.specs.Prelude.{◌&&◌, not, drop, zip, position, unwrap_or, option_map, option_and_then, option_to_list, IfSome, bytes_eq, nat_lt, filter}
+use Rattle.std.proofs.Common.{◌≡◌, ℕ, zero, suc, ◌+◌, ◌≤◌, Bool, true, false, cond, List, [], ◌∷◌, ◌++◌, length, map, ℤ, Option, Some, None, Ok, inl, inr, refl, subst, arith, codes}
+use Rattle.std.specs.Prelude.{◌&&◌, not, drop, position, unwrap_or, option_map, option_and_then, option_to_list, IfSome, bytes_eq}
 use Rattle.std.specs.List.{AllByRecursion, cons_option, list_all, position_or_len}
 use Rattle.std.specs.Option.{option_or}
 use Rattle.std.specs.Str.{is_utf8}
@@ -16,10 +16,9 @@ use Rattle.au_value.specs.Ranges.{Span, certain, range}
 use Rattle.au_csv.specs.Texts.{Record, is_text, not_text, records_of}
 use Rattle.au_blocks.specs.declared.faults.TableFault.{TableFault}
 use Rattle.au_blocks.specs.declared.faults.TableFault.TheVariants as fault
-use Rattle.au_blocks.specs.Blocks.{Candidate, Choices}
 use Rattle.au_blocks.specs.Tables.{BlockTable, IsBlockTable}
 use Rattle.au_blocks.specs.Headers.{cells_of, format_of, has_blocks, lead}
-use Rattle.au_blocks.specs.Spellings.{Parts, field_written, flag_written, number_written, ordered_range, parts, range_of, range_written, three, value_written}
+use Rattle.au_blocks.specs.Spellings.{Parts, number_written, parts, range_of, range_written, three, value_written}
 use Rattle.au_blocks.specs.Entries.{Entry, alternatives, blocks_of, copies_in, distinct, entries_of, entry, is_absent, label_of, labelled, role_of}
 use Rattle.au_blocks.specs.Defects.{blocks_defects, defects, schema_defects, table_defects}
 use Rattle.au_blocks.specs.Read as reading

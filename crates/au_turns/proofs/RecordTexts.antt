@@ -4,12 +4,10 @@ use Rattle.std.specs.List.{AllByRecursion, flat_map}
 use Rattle.csv.specs.declared.parser.State.TheVariants as st
 use Rattle.csv.specs.Machine.{next_record}
 use Rattle.csv.specs.Reading.{default_config, Reached, records, strip_bom}
-use Rattle.csv.specs.Writing.{default_writer, escaped, fields_text, is_blank}
 use Rattle.csv.proofs.RoundTrip.{read-write}
 use Rattle.std.specs.Fmt.{digits}
 use Rattle.au_value.specs.declared.kinds.Kind.{Kind}
 use Rattle.au_value.specs.declared.kinds.Kind.TheVariants as kind
-use Rattle.au_value.specs.declared.value.Value.{Value}
 use Rattle.au_csv.specs.Texts.{Record, records_of}
 use Rattle.au_csv.proofs.Reached.{records-AreRecords}
 use Rattle.au_algebra.specs.Ordinary.{Rows}

@@ -1,13 +1,12 @@
 -- The plan of a statement over the tables that are read from encoded texts gives the encoded rows of its bounded relation.
-use Rattle.std.proofs.Common.{◌≡◌, ℕ, Bool, true, false, List, [], ◌∷◌, ◌++◌, map, Some, refl, ap, sym, ◌∙◌}
-use Rattle.std.specs.Prelude.{unwrap_or, ℤ}
+use Rattle.std.proofs.Common.{◌≡◌, ℕ, List, [], ◌∷◌, ◌++◌, map, Some, refl, ap, sym, ◌∙◌}
+use Rattle.std.specs.Prelude.{unwrap_or}
 use Rattle.std.specs.List.{AllByRecursion, AllZip}
-use Rattle.au_value.specs.declared.kinds.Kind.{Kind}
 use Rattle.au_value.specs.Order.{data_kind}
 use Rattle.au_expr.proofs.Fits.{fit_parts}
 use Rattle.au_parse.specs.Tree.{QueryTree}
 use Rattle.au_parse.specs.Whole.{WholeQuery}
-use Rattle.au_blocks.specs.Tables.{BlockTable, IsBlockTable, column_kinds}
+use Rattle.au_blocks.specs.Tables.{IsBlockTable, column_kinds}
 use Rattle.au_algebra.specs.Bounded.{bounded}
 use Rattle.au_algebra.specs.Fits.{numbers, triple_numbers}
 use Rattle.au_algebra.specs.Bounded.{normal}
@@ -15,10 +14,9 @@ use Rattle.au_algebra.specs.Typing.{kinds_of as tree_kinds}
 use Rattle.au_translate.specs.Translate.{bounded_table}
 use Rattle.au_typing.specs.Queries.{table_kinds}
 use Rattle.au_typing.proofs.QueryKinds.{tree_is_typed}
-use Rattle.au_encode.specs.Encode.{encode}
 use Rattle.au_turns.specs.GuessTexts.{in_order}
 use Rattle.au_turns.specs.Records.{rows_text}
-use Rattle.au_turns.specs.EngineAnswers.{Named, answer_fits, answer_kinds, answer_tree, blocks_of, relations_of, statement_defects}
+use Rattle.au_turns.specs.EngineAnswers.{Named, answer_kinds, answer_tree, blocks_of, relations_of, statement_defects}
 use Rattle.au_turns.specs.Exchange.{IsPlanText, plain_answer}
 use Rattle.au_turns.specs.Statements.{IsTurned, turned_kinds, turned_rows}
 use Rattle.au_turns.specs.Turns.{IsEncodedTable, IsWritableTable}

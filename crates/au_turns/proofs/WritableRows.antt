@@ -1,5 +1,5 @@
 -- The encoded rows of a table whose values can be written can be written.
-use Rattle.std.proofs.Common.{◌≡◌, ℕ, zero, suc, ◌+◌, ◌*◌, ◌<◌, ◌≤◌, ◌^◌, Bool, true, false, List, [], ◌∷◌, ◌++◌, length, map, pos, Option, Some, None, refl, ap, sym, ◌∙◌, subst, arith}
+use Rattle.std.proofs.Common.{◌≡◌, ℕ, zero, suc, ◌+◌, ◌*◌, ◌<◌, ◌≤◌, ◌^◌, true, List, [], ◌∷◌, ◌++◌, length, map, pos, refl, ap, ◌∙◌, arith}
 use Rattle.std.specs.Prelude.{◌&&◌, not, fold, max, slice_get, unwrap_or}
 use Rattle.std.specs.List.{AllByRecursion, enumerate_from, list_all}
 use Rattle.std.proofs.lemmas.Bool.{and_parts, and_from}
@@ -18,12 +18,10 @@ use Rattle.au_expr.specs.Numbers.{number_if_any}
 use Rattle.au_blocks.specs.declared.column.Column.{Column}
 use Rattle.au_blocks.specs.Blocks.{Candidate, Choices, IsBlock, IsCopies, candidate, once}
 use Rattle.au_blocks.specs.Tables.{BlockTable, IsBlockTable, column_kinds}
-use Rattle.au_algebra.specs.Bounded.{Bounded, RangeRow}
-use Rattle.au_algebra.specs.Lists.{greatest, least}
-use Rattle.au_algebra.specs.Ordinary.{Rows}
+use Rattle.au_algebra.specs.Bounded.{Bounded}
 use Rattle.au_algebra.proofs.Each.{all_filter}
 use Rattle.au_algebra.proofs.Extremes.{greatest_among, least_among}
-use Rattle.au_translate.specs.Translate.{block_row, bounded_table, cell_at, high_at, low_at, ranges_of, shown, span_in, triple_of}
+use Rattle.au_translate.specs.Translate.{block_row, bounded_table, high_at, low_at, ranges_of, shown, span_in, triple_of}
 use Rattle.au_translate.proofs.BlockRelation.{table_relation, triple_order}
 use Rattle.au_plain.specs.PlanKinds.{FitRows, row_fits}
 use Rattle.au_encode.specs.Encode.{encode, encode_cells, encode_counts, encode_row, encoded_kinds, triple_kinds}

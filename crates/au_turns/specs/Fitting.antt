@@ -1,8 +1,7 @@
 -- Plans that have a text which is read again: their widths fit,
 -- and their numbers fit the types that hold them.
-use Rattle.std.specs.Prelude.{ℕ, ◌^◌, ◌==◌, ◌&&◌, nat_lt, Bool, true, List, [], ◌∷◌, length}
+use Rattle.std.specs.Prelude.{ℕ, ◌^◌, ◌==◌, ◌&&◌, nat_lt, Bool, true, length}
 use Rattle.std.specs.List.{list_all}
-use Rattle.au_value.specs.declared.value.Value.{Value}
 use Rattle.au_expr.specs.Figures.{fit}
 use Rattle.au_expr.specs.Numbers.{number_if_any}
 use Rattle.au_plain.specs.declared.plan.PAgg.{PAgg}

@@ -36,4 +36,3 @@ record_text fields = row_text default_writer fields
 -- the text of rows of these kinds
 abbrev pub rows_text : List Kind → List (List Value) → List ℕ
 rows_text ks rows = record_text (header_from 0 ks) ++ flat_map (λ row. record_text (map cell_field row)) rows
-

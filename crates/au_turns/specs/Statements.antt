@@ -1,12 +1,12 @@
 -- Plans of statements, run over the tables that the encoded texts of the statements' tables are read as.
-use Rattle.std.specs.Prelude.{◌≡◌, ℕ, Bool, true, false, List, [], map, Some}
+use Rattle.std.specs.Prelude.{◌≡◌, ℕ, true, false, List, [], map, Some}
 use Rattle.std.specs.List.{AllByRecursion, AllZip}
 use Rattle.au_value.specs.declared.kinds.Kind.{Kind}
 use Rattle.au_value.specs.Order.{data_kind}
 use Rattle.au_parse.specs.Tree.{QueryTree}
 use Rattle.au_parse.specs.Whole.{WholeQuery}
 use Rattle.au_blocks.specs.Tables.{IsBlockTable}
-use Rattle.au_algebra.specs.Bounded.{Bounded, bounded}
+use Rattle.au_algebra.specs.Bounded.{bounded}
 use Rattle.au_algebra.specs.Ordinary.{Rows}
 use Rattle.au_translate.specs.Translate.{bounded_table}
 use Rattle.au_plain.specs.Plans.{PlanTree}
