@@ -19,7 +19,7 @@ use Rattle.au_expr.specs.Figures.{fit}
 use Rattle.au_expr.specs.Numbers.{number_if_any}
 use Rattle.au_blocks.specs.Spellings.{value_written}
 use Rattle.au_turns.specs.Records.{cell_field}
-use Rattle.au_turns.specs.Turns.{is_text_value}
+use Rattle.au_turns.specs.EncodedTables.{is_text_value}
 
 -- ---- ASCII
 

@@ -19,7 +19,8 @@ use Rattle.au_translate.proofs.BlockRelation.{place_within}
 use Rattle.au_plain.specs.PlanKinds.{HaveKinds}
 use Rattle.au_turns.specs.Records.{cell_field, header_from, record_text, rows_text}
 use Rattle.au_encode.specs.Encode.{encode, encoded_kinds}
-use Rattle.au_turns.specs.Turns.{AreWritable, IsEncodedTable, IsTableOf, IsWritableTable, encoded_text, guess_count, plain_size}
+use Rattle.au_turns.specs.Exchange.{encoded_text, guess_count, plain_size}
+use Rattle.au_turns.specs.EncodedTables.{AreWritable, IsEncodedTable, IsTableOf, IsWritableTable}
 use Rattle.au_turns.proofs.ReadValues.{read_good}
 use Rattle.au_turns.proofs.WritableRows.{encoded_writable, kinds_again}
 

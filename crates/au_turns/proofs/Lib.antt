@@ -5,7 +5,7 @@ pub mod PlainRecords
 pub mod PlainTables
 pub mod WritableRows
 pub mod ReadValues
-pub mod PlanTurns
 pub mod GuessCounts
-pub mod StatementTurns
-pub mod EncodedFiles
+pub mod PlanAnswers
+pub mod StatementAnswers
+pub mod OutputFiles

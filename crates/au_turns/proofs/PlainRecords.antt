@@ -16,7 +16,7 @@ use Rattle.au_blocks.specs.Defects.{is_field, record_defects, where_true}
 use Rattle.au_blocks.specs.Read as reading
 use Rattle.au_plain.specs.PlanKinds.{row_fits}
 use Rattle.au_turns.specs.Records.{cell_field}
-use Rattle.au_turns.specs.Turns.{is_text_value}
+use Rattle.au_turns.specs.EncodedTables.{is_text_value}
 use Rattle.au_turns.proofs.FieldValues.{value_read, value_utf8}
 use Rattle.au_turns.proofs.NumberedColumns.{field_kinds}
 

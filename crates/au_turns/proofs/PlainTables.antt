@@ -20,7 +20,7 @@ use Rattle.au_blocks.specs.Worlds.{guess_choice, rows_in}
 use Rattle.au_algebra.specs.Ordinary.{Rows}
 use Rattle.au_plain.specs.PlanKinds.{FitRows, HaveKinds}
 use Rattle.au_turns.specs.Records.{cell_field, header_from, rows_text}
-use Rattle.au_turns.specs.Turns.{AreWritable, IsTableOf, TextRows}
+use Rattle.au_turns.specs.EncodedTables.{AreWritable, IsTableOf, TextRows}
 use Rattle.au_turns.proofs.RecordTexts.{fields_of_rows, text_records}
 use Rattle.au_turns.proofs.NumberedColumns.{field_kinds, header_long, header_names, header_sound, header_text, header_written, names_from}
 use Rattle.au_turns.proofs.PlainRecords.{IsSound, record_sound, row_read, row_text}

@@ -25,7 +25,7 @@ use Rattle.au_blocks.specs.Read as reading
 use Rattle.au_blocks.specs.Read.{block_of, candidate_of, cell, contents, first, header_kinds, table_of, unless}
 use Rattle.au_blocks.proofs.WellFormed.{well-formed}
 use Rattle.au_algebra.proofs.Each.{all_filter}
-use Rattle.au_turns.specs.Turns.{IsWritableBlock, IsWritableTable, is_writable, is_writable_range}
+use Rattle.au_turns.specs.EncodedTables.{IsWritableBlock, IsWritableTable, is_writable, is_writable_range}
 
 -- ---- a field
 

@@ -26,7 +26,7 @@ use Rattle.au_translate.proofs.BlockRelation.{table_relation, triple_order}
 use Rattle.au_plain.specs.PlanKinds.{FitRows, row_fits}
 use Rattle.au_encode.specs.Encode.{encode, encode_cells, encode_counts, encode_row, encoded_kinds, triple_kinds}
 use Rattle.au_encode.proofs.EncodedKinds.{rows_have_kinds}
-use Rattle.au_turns.specs.Turns.{AreWritable, IsEncodedTable, IsWritableBlock, IsWritableTable, TextRows, is_text_value, is_writable, is_writable_range}
+use Rattle.au_turns.specs.EncodedTables.{AreWritable, IsEncodedTable, IsWritableBlock, IsWritableTable, TextRows, is_text_value, is_writable, is_writable_range}
 use Rattle.au_turns.proofs.PlainTables.{data_again, text_read}
 
 -- ---- what is known of values

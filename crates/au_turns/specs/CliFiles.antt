@@ -5,8 +5,7 @@ use Rattle.au_blocks.specs.declared.faults.TableFault.{TableFault}
 use Rattle.au_blocks.specs.Tables.{BlockTable}
 use Rattle.au_blocks.specs.Read.{table_of}
 use Rattle.au_turns.specs.EngineAnswers.{Named}
-use Rattle.au_turns.specs.Turns.{plain_size}
-use Rattle.au_turns.specs.Exchange.{greatest_size as greatest_cells}
+use Rattle.au_turns.specs.Exchange.{greatest_size as greatest_cells, plain_size}
 use Rattle.au_turns.specs.CliTypes.{LimitFault, Outcome, Purpose}
 use Rattle.au_turns.specs.CliTypes.{LimitFault as limit}
 use Rattle.au_turns.specs.IoFiles.{File, bytes_at}

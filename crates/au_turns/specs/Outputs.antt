@@ -10,12 +10,11 @@ use Rattle.au_turns.specs.Texts.{plan_text}
 use Rattle.au_turns.specs.Records.{rows_text}
 use Rattle.au_turns.specs.IoFiles.{File, bytes_at}
 use Rattle.au_turns.specs.EngineAnswers.{Named, answer_fits, statement_defects}
-use Rattle.au_turns.specs.Exchange.{IsPlanText, plain_text}
+use Rattle.au_turns.specs.Exchange.{IsPlanText, encoded_text, plain_text}
 use Rattle.au_turns.specs.CliTypes.{Purpose as purpose}
 use Rattle.au_turns.specs.CliFiles.{Text, file_table, greatest_files, greatest_size, greatest_total, size_of, tables_of}
 use Rattle.au_turns.specs.CliRun.{CanRun}
-use Rattle.au_turns.specs.Statements.{turned_kinds, turned_rows}
-use Rattle.au_turns.specs.Turns.{encoded_text}
+use Rattle.au_turns.specs.EncodedAnswers.{encoded_answer_kinds, encoded_answer_rows}
 
 -- the text of the encoded rows of a word's table is the file of another word
 abbrev pub IsEncodedFile : List File → List File → Text × Text → Text × Text → Type 0
@@ -54,4 +53,4 @@ abbrev pub OutputsCanRun : Type 0
 OutputsCanRun =
     (files outputs : List File) (words others : List (Text × Text)) (path : Text) (ts : List Named) (s : QueryTree) →
     AreOutputs files outputs words others path ts s →
-    (can : CanRun path others outputs) × (plain_text can.tables can.plan ≡ rows_text (turned_kinds ts s) (turned_rows ts s))
+    (can : CanRun path others outputs) × (plain_text can.tables can.plan ≡ rows_text (encoded_answer_kinds ts s) (encoded_answer_rows ts s))

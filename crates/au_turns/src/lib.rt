@@ -2,9 +2,8 @@
 #![tactic(auto)]
 
 ghost use Rattle.au_turns.specs.Outputs.{OutputsCanRun};
-ghost use Rattle.au_turns.specs.Plans.{PlansAreTurned};
-ghost use Rattle.au_turns.specs.Statements.{StatementsAreTurned};
-ghost use Rattle.au_turns.specs.Turns.{ReadTables, SizesAreSmall, TablesAreRead, TextsAreRead};
+ghost use Rattle.au_turns.specs.EncodedAnswers.{PlansGiveEncoded, StatementsGiveEncoded};
+ghost use Rattle.au_turns.specs.EncodedTables.{ReadTables, SizesAreSmall, TablesAreRead, TextsAreRead};
 
 /// Shows that the text of rows is the text of a plain table with these rows.
 pub fn texts_are_read()
@@ -22,8 +21,8 @@ pub fn read_tables()
 {}
 
 /// Shows that the plan of a tree gives the encoded rows over the tables that encoded texts are read as.
-pub fn plans_are_turned()
-    ensures { PlansAreTurned }
+pub fn plans_give_encoded()
+    ensures { PlansGiveEncoded }
 {}
 
 /// Shows that a table that is read from the text of rows has few guess rows.
@@ -32,8 +31,8 @@ pub fn sizes_are_small()
 {}
 
 /// Shows that the plan of a statement gives the encoded rows of the statement's bounded relation.
-pub fn statements_are_turned()
-    ensures { StatementsAreTurned }
+pub fn statements_give_encoded()
+    ensures { StatementsGiveEncoded }
 {}
 
 /// Shows that a plan can be run over the texts that are printed for its tables, and what is printed then.

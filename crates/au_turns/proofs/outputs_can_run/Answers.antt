@@ -1,4 +1,4 @@
-use Rattle.au_turns.proofs.EncodedFiles.{outputs_run}
+use Rattle.au_turns.proofs.OutputFiles.{outputs_run}
 use Rattle.au_turns.proofs.outputs_can_run.Goals as goal
 
 pub returns : goal.returns

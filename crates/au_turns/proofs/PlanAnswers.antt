@@ -15,23 +15,24 @@ use Rattle.au_plain.specs.PlanKinds.{FitTables, plan_kinds}
 use Rattle.au_plain.specs.PlanNumbers.{plan_numbers}
 use Rattle.au_plain.specs.Plans.{PlanTree}
 use Rattle.au_encode.specs.Encode.{encode, encoded_kinds}
-use Rattle.au_turns.specs.Plans.{AreEncodable, GivesTurned, IsPlanOf}
-use Rattle.au_turns.specs.Turns.{IsEncodedTable, IsWritableTable}
+use Rattle.au_turns.specs.Rewriting.{AreEncodable, IsPlanOf}
+use Rattle.au_turns.specs.EncodedAnswers.{GivesEncoded}
+use Rattle.au_turns.specs.EncodedTables.{IsEncodedTable, IsWritableTable}
 use Rattle.au_turns.proofs.WritableRows.{encoded_fit}
 
 -- the tables that are read have the encoded kinds
-turned_kinds : (ts us : List BlockTable) → AllZip IsEncodedTable ts us → map column_kinds us ≡ map encoded_kinds (map column_kinds ts)
-turned_kinds [] [] h = refl
-turned_kinds [] (u ∷ us) h = elim h [ ]
-turned_kinds (t ∷ ts) [] h = elim h [ ]
-turned_kinds (t ∷ ts) (u ∷ us) h = λ i. h.0.columns i ∷ turned_kinds ts us h.1 i
+read_kinds : (ts us : List BlockTable) → AllZip IsEncodedTable ts us → map column_kinds us ≡ map encoded_kinds (map column_kinds ts)
+read_kinds [] [] h = refl
+read_kinds [] (u ∷ us) h = elim h [ ]
+read_kinds (t ∷ ts) [] h = elim h [ ]
+read_kinds (t ∷ ts) (u ∷ us) h = λ i. h.0.columns i ∷ read_kinds ts us h.1 i
 
 -- and their guess rows are the encoded rows
-turned_rows : (ts us : List BlockTable) → AllZip IsEncodedTable ts us → tables_in us (guess_world us) ≡ map encode (map bounded_table ts)
-turned_rows [] [] h = refl
-turned_rows [] (u ∷ us) h = elim h [ ]
-turned_rows (t ∷ ts) [] h = elim h [ ]
-turned_rows (t ∷ ts) (u ∷ us) h = λ i. h.0.guesses i ∷ turned_rows ts us h.1 i
+read_rows : (ts us : List BlockTable) → AllZip IsEncodedTable ts us → tables_in us (guess_world us) ≡ map encode (map bounded_table ts)
+read_rows [] [] h = refl
+read_rows [] (u ∷ us) h = elim h [ ]
+read_rows (t ∷ ts) [] h = elim h [ ]
+read_rows (t ∷ ts) (u ∷ us) h = λ i. h.0.guesses i ∷ read_rows ts us h.1 i
 
 -- the relations of tables that can be written
 relations : (ts : List BlockTable) → AllByRecursion IsBlockTable ts → AllZip IsRelation (map column_kinds ts) (map bounded_table ts)
@@ -45,13 +46,13 @@ held (t ∷ ts) ok h = (encoded_fit t ok.0 h.0, held ts ok.1 h.1)
 pub are_encodable : (ts : List BlockTable) → AllByRecursion IsBlockTable ts → AllByRecursion IsWritableTable ts → AreEncodable (map column_kinds ts) (map bounded_table ts)
 are_encodable ts ok h = record { relations = relations ts ok; fit = held ts ok h }
 
-pub gives_turned : (ts us : List BlockTable) (q : Tree) (ks : List Kind) (p : PlanTree) → AllByRecursion IsBlockTable ts → AllByRecursion IsWritableTable ts
-    → AllZip IsEncodedTable ts us → kinds_of (map column_kinds ts) q ≡ Some ks → IsPlanOf (map column_kinds ts) q p → GivesTurned ts us q ks p
-gives_turned ts us q ks p ok h turned typed plan =
+pub gives_encoded : (ts us : List BlockTable) (q : Tree) (ks : List Kind) (p : PlanTree) → AllByRecursion IsBlockTable ts → AllByRecursion IsWritableTable ts
+    → AllZip IsEncodedTable ts us → kinds_of (map column_kinds ts) q ≡ Some ks → IsPlanOf (map column_kinds ts) q p → GivesEncoded ts us q ks p
+gives_encoded ts us q ks p ok h turned typed plan =
     let given = are_encodable ts ok h in
-    let rows = turned_rows ts us turned in
+    let rows = read_rows ts us turned in
     record {
-      kinds = ap (λ kinds. plan_kinds kinds p) (turned_kinds ts us turned) ∙ plan.typed ks typed;
+      kinds = ap (λ kinds. plan_kinds kinds p) (read_kinds ts us turned) ∙ plan.typed ks typed;
       rows = ap (plain_rows p) rows ∙ plan.rows (map bounded_table ts) given;
       fits = λ fit. subst (λ tables. Fit (plan_numbers p tables)) (sym rows) (plan.fits (map bounded_table ts) given fit);
     }

@@ -12,18 +12,18 @@ use Rattle.au_turns.specs.Texts.{plan_text}
 use Rattle.au_turns.specs.Records.{rows_text}
 use Rattle.au_turns.specs.IoFiles.{File, bytes_at}
 use Rattle.au_turns.specs.EngineAnswers.{Named, blocks_of}
-use Rattle.au_turns.specs.Exchange.{plain_text}
+use Rattle.au_turns.specs.Exchange.{encoded_text, plain_size, plain_text}
 use Rattle.au_turns.specs.CliTypes.{LimitFault, Outcome, Purpose}
 use Rattle.au_turns.specs.CliTypes.{LimitFault as limit}
 use Rattle.au_turns.specs.CliTypes.{Purpose as purpose}
 use Rattle.au_turns.specs.CliFiles.{Text, and_more, file_table, greatest_columns, greatest_size, greatest_total, passed_limit, size_of, table_in, table_or_defect, table_within, tables_from}
 use Rattle.au_turns.specs.CliRun.{CanRun}
 use Rattle.au_turns.specs.Outputs.{AreOutputs, AreWithin, IsEncodedFile}
-use Rattle.au_turns.specs.Statements.{turned_kinds, turned_rows}
-use Rattle.au_turns.specs.Turns.{IsEncodedTable, IsWritableTable, encoded_text, plain_size}
+use Rattle.au_turns.specs.EncodedAnswers.{encoded_answer_kinds, encoded_answer_rows}
+use Rattle.au_turns.specs.EncodedTables.{IsEncodedTable, IsWritableTable}
 use Rattle.au_turns.proofs.GuessCounts.{encoded_size}
 use Rattle.au_turns.proofs.ReadValues.{read_good}
-use Rattle.au_turns.proofs.StatementTurns.{statement_turned}
+use Rattle.au_turns.proofs.StatementAnswers.{statement_encoded}
 use Rattle.au_turns.proofs.WritableRows.{encoded_read}
 
 -- ---- the table of a file
@@ -91,10 +91,10 @@ one_table a b t u x y p q e f =
     cc
 
 -- one table, and the table that its encoded text is read as
-one_turned : (files outputs : List File) (f b : ℕ) (word other : Text × Text) (t : BlockTable) → ReadAt purpose.Query f (bytes_at files word.1) t
+one_encoded : (files outputs : List File) (f b : ℕ) (word other : Text × Text) (t : BlockTable) → ReadAt purpose.Query f (bytes_at files word.1) t
     → IsEncodedFile files outputs word other → size_of (bytes_at outputs other.1) ≤ greatest_size → b + size_of (bytes_at outputs other.1) ≤ greatest_total
     → (u : BlockTable) × (file_table purpose.Plan f b (bytes_at outputs other.1) ≡ Ok u) × IsBlockTable t × IsWritableTable t × IsEncodedTable t u
-one_turned files outputs f b word other t own h small all =
+one_encoded files outputs f b word other t own h small all =
     let again = read_at purpose.Encode 0 0 (bytes_at files word.1) h.0 h.1 in
     let few = few_columns (length h.0.columns) (nat_lt greatest_columns (length h.0.columns)) (limit.EncodeColumns (length h.0.columns)) refl again.limit in
     let good = read_good again.text h.0 again.table in
@@ -104,20 +104,20 @@ one_turned files outputs f b word other t own h small all =
     let same : h.0 ≡ t = one_table (bytes_at files word.1) (bytes_at files word.1) h.0 t again.text own.text again.is own.is again.table own.table in
     (read.0, ap (file_table purpose.Plan f b) h.2 ∙ table, subst IsBlockTable same good.0, subst IsWritableTable same good.1, subst (λ x. IsEncodedTable x read.0) same read.1)
 
-tables_turned : (files outputs : List File) (file before f b : ℕ) (words others : List (Text × Text)) (ts : List Named) → tables_from purpose.Query files file before words ≡ Ok ts
+tables_encoded : (files outputs : List File) (file before f b : ℕ) (words others : List (Text × Text)) (ts : List Named) → tables_from purpose.Query files file before words ≡ Ok ts
     → AllZip (IsEncodedFile files outputs) words others → AreWithin outputs b others
     → (us : List Named) × (tables_from purpose.Plan outputs f b others ≡ Ok us) × AreTables ts us
-tables_turned files outputs file before f b [] [] ts e h k =
+tables_encoded files outputs file before f b [] [] ts e h k =
     let none : [] ≡ ts = cc in
     ([], refl, subst (λ rest. AreTables rest []) none (record { good = tt; written = tt; encoded = tt }))
-tables_turned files outputs file before f b [] (other ∷ others) ts e h k = elim h [ ]
-tables_turned files outputs file before f b (word ∷ words) [] ts e h k = elim h [ ]
-tables_turned files outputs file before f b (word ∷ words) (other ∷ others) ts e h k =
+tables_encoded files outputs file before f b [] (other ∷ others) ts e h k = elim h [ ]
+tables_encoded files outputs file before f b (word ∷ words) [] ts e h k = elim h [ ]
+tables_encoded files outputs file before f b (word ∷ words) (other ∷ others) ts e h k =
     let parts = parts_of word.0 (file_table purpose.Query file before (bytes_at files word.1)) (tables_from purpose.Query files (file + 1) (before + size_of (bytes_at files word.1)) words) ts e in
     let found = read_at purpose.Query file before (bytes_at files word.1) parts.0 parts.2 in
     let own : ReadAt purpose.Query f (bytes_at files word.1) parts.0 = record { text = found.text; is = found.is; table = found.table; limit = refl } in
-    let one = one_turned files outputs f b word other parts.0 own h.0 k.0 k.1 in
-    let more = tables_turned files outputs (file + 1) (before + size_of (bytes_at files word.1)) (f + 1) (b + size_of (bytes_at outputs other.1)) words others parts.1 parts.3 h.1 k.2 in (
+    let one = one_encoded files outputs f b word other parts.0 own h.0 k.0 k.1 in
+    let more = tables_encoded files outputs (file + 1) (before + size_of (bytes_at files word.1)) (f + 1) (b + size_of (bytes_at outputs other.1)) words others parts.1 parts.3 h.1 k.2 in (
       (other.0, one.0) ∷ more.0,
       ap (λ r. and_more other.0 r (tables_from purpose.Plan outputs (f + 1) (b + size_of (bytes_at outputs other.1)) others)) one.1 ∙ ap (and_more other.0 (Ok one.0)) more.1,
       subst (λ rest. AreTables rest ((other.0, one.0) ∷ more.0)) parts.4 (record { good = (one.2, more.2.good); written = (one.3, more.2.written); encoded = (one.4, more.2.encoded) }),
@@ -126,12 +126,12 @@ tables_turned files outputs file before f b (word ∷ words) (other ∷ others) 
 -- ---- the plan
 
 pub outputs_run : (files outputs : List File) (words others : List (Text × Text)) (path : Text) (ts : List Named) (s : QueryTree) → AreOutputs files outputs words others path ts s
-    → (can : CanRun path others outputs) × (plain_text can.tables can.plan ≡ rows_text (turned_kinds ts s) (turned_rows ts s))
+    → (can : CanRun path others outputs) × (plain_text can.tables can.plan ≡ rows_text (encoded_answer_kinds ts s) (encoded_answer_rows ts s))
 outputs_run files outputs words others path ts s h =
     let p = h.written.plan in
     let e : h.line ≡ plan_text p ++ 10 ∷ [] = h.written.text in
-    let found = tables_turned files outputs 0 0 1 (length (plan_text p ++ 10 ∷ [])) words others ts h.given h.encoded (subst (λ l. AreWithin outputs (length l) others) e h.within) in
-    let gives = statement_turned ts found.0 s h.line h.statement found.2.good found.2.written found.2.encoded h.sound h.written in (
+    let found = tables_encoded files outputs 0 0 1 (length (plan_text p ++ 10 ∷ [])) words others ts h.given h.encoded (subst (λ l. AreWithin outputs (length l) others) e h.within) in
+    let gives = statement_encoded ts found.0 s h.line h.statement found.2.good found.2.written found.2.encoded h.sound h.written in (
       record {
         few = h.few;
         line = plan_text p;
@@ -143,7 +143,7 @@ outputs_run files outputs words others path ts s h =
         text = record { widths = h.written.widths; numbers = h.written.numbers; text = refl };
         tables = found.0;
         given = found.1;
-        kinds = turned_kinds ts s;
+        kinds = encoded_answer_kinds ts s;
         typed = gives.kinds;
         fits = gives.fits h.fits;
       },

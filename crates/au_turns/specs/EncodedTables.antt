@@ -1,5 +1,5 @@
--- The text of rows, read as a table.
-use Rattle.std.specs.Prelude.{◌≡◌, ℕ, ◌+◌, ◌*◌, ◌≤◌, ◌<◌, ◌&&◌, sum, Bool, true, IsTrue, List, length, map, Ok}
+-- The text of rows, read as a table, and the tables that the texts of encoded rows are read as.
+use Rattle.std.specs.Prelude.{◌≡◌, ℕ, ◌*◌, ◌≤◌, ◌<◌, ◌&&◌, Bool, true, IsTrue, List, length, map, Ok}
 use Rattle.std.specs.List.{AllByRecursion, list_all}
 use Rattle.std.specs.Str.{is_utf8}
 use Rattle.au_value.specs.declared.kinds.Kind.{Kind}
@@ -14,10 +14,11 @@ use Rattle.au_blocks.specs.Read.{table_of}
 use Rattle.au_blocks.specs.Tables.{BlockTable, IsBlockTable, column_kinds}
 use Rattle.au_blocks.specs.Worlds.{guess_choice, rows_in}
 use Rattle.au_algebra.specs.Ordinary.{Rows}
-use Rattle.au_translate.specs.Translate.{bounded_table, guessed_copies}
+use Rattle.au_translate.specs.Translate.{bounded_table}
 use Rattle.au_plain.specs.PlanKinds.{FitRows, HaveKinds}
 use Rattle.au_encode.specs.Encode.{encode, encoded_kinds}
 use Rattle.au_turns.specs.Records.{rows_text}
+use Rattle.au_turns.specs.Exchange.{encoded_text, plain_size}
 
 -- whether a value, if it is a text, is UTF-8
 abbrev pub is_text_value : Value → Bool
@@ -60,10 +61,6 @@ IsWritableBlock b = AllByRecursion (λ a. IsTrue (list_all is_writable_range a.c
 abbrev pub IsWritableTable : BlockTable → Type 0
 IsWritableTable t = AllByRecursion IsWritableBlock t.blocks
 
--- the encoded rows of a table, in block order
-abbrev pub encoded_text : BlockTable → List ℕ
-encoded_text t = rows_text (encoded_kinds (column_kinds t)) (encode (bounded_table t))
-
 -- the table that the text of a table's encoded rows is read as
 pub record IsEncodedTable (t u : BlockTable) : Type 0 where
   pub reads : table_of (encoded_text t) ≡ Ok u
@@ -78,13 +75,6 @@ TablesAreRead = (t : BlockTable) → IsBlockTable t → IsWritableTable t → le
 abbrev pub ReadTables : Type 0
 ReadTables = (bytes : List ℕ) (t : BlockTable) → table_of bytes ≡ Ok t → IsBlockTable t × IsWritableTable t
 
--- how many guess rows a table has, and with them the values of these rows and one more for each
-abbrev pub guess_count : BlockTable → ℕ
-guess_count t = sum (map guessed_copies t.blocks)
-
-abbrev pub plain_size : BlockTable → ℕ
-plain_size t = guess_count t * (length t.columns + 1)
-
--- The text of rows has at least half as many bytes as that.
+-- The text of rows has at least half as many bytes as the guess rows of its table count for.
 abbrev pub SizesAreSmall : Type 0
 SizesAreSmall = (ks : List Kind) (rows : Rows) (t : BlockTable) → AreWritable ks rows → IsTableOf ks rows t → plain_size t ≤ 2 * length (rows_text ks rows)
