@@ -18,3 +18,13 @@ mod Told
 mod TableRelations
 mod TypedWidths
 mod WholePlans
+mod RecordTexts
+mod FieldValues
+mod NumberedColumns
+mod PlainRecords
+mod PlainTables
+pub mod WritableRows
+pub mod ReadValues
+pub mod GuessCounts
+mod PlanAnswers
+pub mod StatementAnswers

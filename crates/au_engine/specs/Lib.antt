@@ -5,3 +5,5 @@ pub mod Compressing
 pub mod Rewriting
 pub mod Exchange
 pub mod Stages
+pub mod EncodedTables
+pub mod EncodedAnswers

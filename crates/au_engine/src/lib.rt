@@ -33,6 +33,7 @@ mod staged;
 mod steps;
 mod tables;
 mod texts;
+mod theorems;
 mod typing;
 
 pub use answering::{answer, answer_directly};
@@ -45,3 +46,7 @@ pub use plain::{PlainFault, plain_answer};
 pub use reading::read_query;
 pub use rewriting::rewritten;
 pub use texts::{encoded_text, rewritten_text};
+pub use theorems::{
+    encoded_tables_are_read, read_rows_are_few, read_tables_are_written, statements_give_encoded,
+    texts_are_read,
+};
