@@ -3,4 +3,5 @@ pub mod Answers
 pub mod Certainty
 pub mod Compressing
 pub mod Rewriting
+pub mod Exchange
 pub mod Stages
