@@ -11,14 +11,17 @@
 
 mod answering;
 mod demo;
+mod encoding;
 mod files;
 mod line;
 mod outcome;
+mod plain;
 mod reading;
 mod requests;
 mod top;
 
 pub use au_engine::{LimitFault, QueryFault};
+pub use au_sqltext::PlanFault;
 pub use au_words::UsageFault;
 pub use line::fault_line;
 pub use outcome::Outcome;
