@@ -18,3 +18,4 @@ mod Refusals
 mod RequestCauses
 mod TablesRead
 mod TextRefusals
+mod OutputFiles

@@ -7,3 +7,4 @@ pub mod FileCauses
 pub mod PlanCauses
 pub mod Causes
 pub mod Run
+pub mod Outputs

@@ -18,6 +18,7 @@ mod outcome;
 mod plain;
 mod reading;
 mod requests;
+mod theorems;
 mod top;
 
 pub use au_engine::{LimitFault, QueryFault};
@@ -25,4 +26,5 @@ pub use au_sqltext::PlanFault;
 pub use au_words::UsageFault;
 pub use line::fault_line;
 pub use outcome::Outcome;
+pub use theorems::outputs_are_answered;
 pub use top::run;
