@@ -1,5 +1,6 @@
 mod AskedAnswers
 mod CompressedPairs
+mod EncodedPlans
 mod GuessRows
 mod GuessSizes
 mod GuessTables
