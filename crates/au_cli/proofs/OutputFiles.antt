@@ -1,10 +1,11 @@
 -- The texts that `encode` and `rewrite` print, as files: their tables, and that the plan can be run over them.
-use Rattle.std.proofs.Common.{◌≡◌, ℕ, suc, ◌+◌, ◌*◌, ◌<◌, ◌≤◌, Bool, true, false, cond, List, [], ◌∷◌, ◌++◌, length, Option, Some, None, Result, Ok, Err, refl, ap, sym, ◌∙◌, subst, arith, le-leb}
+use Rattle.std.proofs.Common.{◌≡◌, ℕ, suc, ◌+◌, ◌*◌, ◌<◌, ◌≤◌, Bool, true, false, cond, List, [], ◌∷◌, ◌++◌, length, map, Option, Some, None, Result, Ok, Err, refl, ap, sym, ◌∙◌, subst, arith, le-leb}
 use Rattle.std.specs.Prelude.{◌||◌, nat_le, nat_lt, option_and_then}
 use Rattle.std.specs.Result.{result_ok}
 use Rattle.std.specs.List.{AllByRecursion, AllZip}
 use Rattle.std.specs.Str.{is_utf8}
 use Rattle.std.proofs.lemmas.Bool.{le-ltb}
+use Rattle.au_value.specs.Order.{data_kind}
 use Rattle.au_blocks.specs.declared.faults.TableFault.{TableFault}
 use Rattle.au_blocks.specs.Read.{table_of}
 use Rattle.au_blocks.specs.Tables.{BlockTable, IsBlockTable}
@@ -17,18 +18,18 @@ use Rattle.au_parse.specs.Whole.{WholeQuery}
 use Rattle.au_parse.proofs.Wholeness.{tree_whole}
 use Rattle.au_typing.specs.declared.fault.TypingFault.{TypingFault}
 use Rattle.au_sqltext.specs.Brackets.{deepest, depth_behind, inside_behind, is_deep, passes_depth}
-use Rattle.au_sqltext.specs.Records.{rows_text}
 use Rattle.au_sqltext.specs.Texts.{plan_text}
-use Rattle.au_engine.specs.Answers.{Named, blocks_of, statement_defects}
-use Rattle.au_engine.specs.EncodedAnswers.{encoded_answer_kinds, encoded_answer_rows}
-use Rattle.au_engine.specs.EncodedTables.{IsEncodedTable, IsWritableTable}
+use Rattle.au_encode.specs.Encode.{encoded_kinds}
+use Rattle.au_engine.specs.Answers.{Named, answer_kinds, blocks_of, statement_defects}
+use Rattle.au_engine.specs.EncodedTables.{IsEncodedTable, IsWritableTable, encoded_answer}
 use Rattle.au_engine.specs.Exchange.{IsPlanText, encoded_text, plain_size, plain_text}
 use Rattle.au_engine.specs.Reading.{statement_of}
 use Rattle.au_engine.specs.declared.faults.LimitFault.{LimitFault}
 use Rattle.au_engine.specs.declared.faults.LimitFault.TheVariants as limit
+use Rattle.au_engine.proofs.EncodedGuesses.{hold_encoded}
+use Rattle.au_engine.proofs.EncodedPlans.{plans_answer}
 use Rattle.au_engine.proofs.GuessCounts.{encoded_size}
 use Rattle.au_engine.proofs.ReadValues.{read_good}
-use Rattle.au_engine.proofs.StatementAnswers.{statement_encoded}
 use Rattle.au_engine.proofs.WritableRows.{encoded_read}
 use Rattle.au_words.specs.Words.{Request}
 use Rattle.au_words.specs.Words as words
@@ -221,12 +222,12 @@ module _ (files outputs : List File) (r : Request) (path : Text) (others : List 
   abbrev line : Text
   line = plan_text written.plan
 
-  outputs_run : (can : CanRun path others outputs) × (plain_text can.tables can.plan ≡ rows_text (encoded_answer_kinds ts s) (encoded_answer_rows ts s))
+  outputs_run : (can : CanRun path others outputs) × (plain_text can.tables can.plan ≡ encoded_answer ts s)
   outputs_run =
       let e : h.line ≡ line ++ 10 ∷ [] = written.text in
       let found = tables_encoded files outputs 0 0 1 (length (line ++ 10 ∷ [])) r.tables others ts given.tables h.encoded (subst (λ l. AreWithin outputs (length l) others) e h.within) in
       let whole = whole_of (result_ok (tokens_of r.query)) s given.statement in
-      let gives = statement_encoded ts found.0 s h.line whole found.2.good found.2.written found.2.encoded given.sound written in
+      let gives = plans_answer found.0 ts s h.line written whole given.sound found.2.good (hold_encoded ts found.0 found.2.good found.2.written found.2.encoded) in
       let few : length r.tables ≤ greatest_files = few_tables (length r.tables) (nat_lt greatest_files (length r.tables)) _ _ refl given.allowed in
       (
         record {
@@ -240,15 +241,15 @@ module _ (files outputs : List File) (r : Request) (path : Text) (others : List 
           text = record { widths = written.widths; numbers = written.numbers; text = refl };
           tables = found.0;
           given = found.1;
-          kinds = encoded_answer_kinds ts s;
-          typed = gives.kinds;
+          kinds = encoded_kinds (map data_kind (answer_kinds ts s));
+          typed = gives.typed;
           fits = gives.fits h.fits;
         },
         gives.text,
       )
 
-  printed : (can : CanRun path others outputs) → plain_text can.tables can.plan ≡ rows_text (encoded_answer_kinds ts s) (encoded_answer_rows ts s)
-      → (text : Text) → IsAskedText (Ok (words.plain path others)) (Some outputs) text → text ≡ rows_text (encoded_answer_kinds ts s) (encoded_answer_rows ts s)
+  printed : (can : CanRun path others outputs) → plain_text can.tables can.plan ≡ encoded_answer ts s
+      → (text : Text) → IsAskedText (Ok (words.plain path others)) (Some outputs) text → text ≡ encoded_answer ts s
   printed can is text asked =
       let gives = asked.1 in
       let same : gives.0 ≡ (can.tables, can.plan) = let e : Ok gives.0 ≡ Ok (can.tables, can.plan) = sym gives.1 ∙ run_given path others outputs can in cc in

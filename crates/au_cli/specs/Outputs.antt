@@ -5,9 +5,8 @@ use Rattle.std.specs.Str.{is_utf8}
 use Rattle.au_io.specs.Files.{File, bytes_at}
 use Rattle.au_parse.specs.Tree.{QueryTree}
 use Rattle.au_sqltext.specs.Brackets.{is_deep}
-use Rattle.au_sqltext.specs.Records.{rows_text}
 use Rattle.au_engine.specs.Answers.{Named, answer_fits}
-use Rattle.au_engine.specs.EncodedAnswers.{encoded_answer_kinds, encoded_answer_rows}
+use Rattle.au_engine.specs.EncodedTables.{encoded_answer}
 use Rattle.au_words.specs.Words.{Request}
 use Rattle.au_words.specs.Words as words
 use Rattle.au_words.specs.declared.words.Command.TheVariants.{Rewrite}
@@ -48,7 +47,7 @@ pub record AreOutputs (files outputs : List File) (r : Request) (path : Text) (o
 -- relation, ordered by their values.
 pub record AnswersOutputs (outputs : List File) (path : Text) (others : List (Text × Text)) (ts : List Named) (s : QueryTree) : Type 0 where
   pub runs : CanAnswer (Ok (words.plain path others)) outputs
-  pub prints : (text : Text) → IsAskedText (Ok (words.plain path others)) (Some outputs) text → text ≡ rows_text (encoded_answer_kinds ts s) (encoded_answer_rows ts s)
+  pub prints : (text : Text) → IsAskedText (Ok (words.plain path others)) (Some outputs) text → text ≡ encoded_answer ts s
 
 abbrev pub OutputsAreAnswered : Type 0
 OutputsAreAnswered =

@@ -1,11 +1,16 @@
 mod AskedAnswers
 mod CompressedPairs
+pub mod EncodedPlans
+mod GuessRows
+mod GuessSizes
 mod GuessTables
 mod HeldRows
 mod Materialized
 mod Operators
+mod OrderedRows
 mod OtherTables
 pub mod PairTables
+mod PlainRuns
 mod PlanRuns
 mod PlanSteps
 mod PositiveTrees
@@ -26,5 +31,4 @@ mod PlainTables
 pub mod WritableRows
 pub mod ReadValues
 pub mod GuessCounts
-mod PlanAnswers
-pub mod StatementAnswers
+pub mod EncodedGuesses

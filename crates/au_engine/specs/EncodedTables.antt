@@ -1,6 +1,6 @@
 -- The text of rows, read as a table, and the tables that the texts of encoded rows are read as.
 use Rattle.std.specs.Prelude.{◌≡◌, ℕ, ◌*◌, ◌≤◌, ◌<◌, ◌&&◌, Bool, true, IsTrue, List, length, map, Ok}
-use Rattle.std.specs.List.{AllByRecursion, list_all}
+use Rattle.std.specs.List.{AllByRecursion, AllZip, list_all}
 use Rattle.std.specs.Str.{is_utf8}
 use Rattle.au_value.specs.declared.kinds.Kind.{Kind}
 use Rattle.au_value.specs.declared.value.Value.{Value}
@@ -9,6 +9,7 @@ use Rattle.au_value.specs.Order.{data_kind}
 use Rattle.au_value.specs.Ranges.{Span}
 use Rattle.au_expr.specs.Figures.{fit}
 use Rattle.au_expr.specs.Numbers.{number_if_any}
+use Rattle.au_parse.specs.Tree.{QueryTree}
 use Rattle.au_blocks.specs.Blocks.{Choices}
 use Rattle.au_blocks.specs.Read.{table_of}
 use Rattle.au_blocks.specs.Tables.{BlockTable, IsBlockTable, column_kinds}
@@ -17,8 +18,11 @@ use Rattle.au_algebra.specs.Ordinary.{Rows}
 use Rattle.au_translate.specs.Translate.{bounded_table}
 use Rattle.au_plain.specs.PlanKinds.{FitRows, HaveKinds}
 use Rattle.au_encode.specs.Encode.{encode, encoded_kinds}
+use Rattle.au_print.specs.GuessTexts.{in_order}
 use Rattle.au_sqltext.specs.Records.{rows_text}
+use Rattle.au_engine.specs.Answers.{Named, answer_kinds, blocks_of}
 use Rattle.au_engine.specs.Exchange.{encoded_text, plain_size}
+use Rattle.au_engine.specs.PlanAnswers.{HoldEncoded, statement_rows}
 
 -- whether a value, if it is a text, is UTF-8
 abbrev pub is_text_value : Value → Bool
@@ -78,3 +82,13 @@ ReadTables = (bytes : List ℕ) (t : BlockTable) → table_of bytes ≡ Ok t →
 -- The text of rows has at least half as many bytes as the guess rows of its table count for.
 abbrev pub SizesAreSmall : Type 0
 SizesAreSmall = (ks : List Kind) (rows : Rows) (t : BlockTable) → AreWritable ks rows → IsTableOf ks rows t → plain_size t ≤ 2 * length (rows_text ks rows)
+
+-- The tables `us` that the encoded texts of tables `ts` are read as have the encoded rows of `ts` in the guess world.
+abbrev pub EncodedTablesHold : Type 0
+EncodedTablesHold =
+    (ts us : List Named) → AllByRecursion IsBlockTable (blocks_of ts) → AllByRecursion IsWritableTable (blocks_of ts) →
+    AllZip IsEncodedTable (blocks_of ts) (blocks_of us) → HoldEncoded us ts
+
+-- the text of the encoded rows of a statement's bounded relation, ordered by their values
+abbrev pub encoded_answer : List Named → QueryTree → List ℕ
+encoded_answer ts s = rows_text (encoded_kinds (map data_kind (answer_kinds ts s))) (in_order (encode (statement_rows ts s)))

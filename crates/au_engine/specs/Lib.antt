@@ -4,6 +4,6 @@ pub mod Certainty
 pub mod Compressing
 pub mod Rewriting
 pub mod Exchange
+pub mod PlanAnswers
 pub mod Stages
 pub mod EncodedTables
-pub mod EncodedAnswers

@@ -1,6 +1,14 @@
-//! What is printed of rows is read back, and what a plan gives then. Each law is the contract of a function that does nothing.
-ghost use Rattle.au_engine.specs.EncodedAnswers.{StatementsGiveEncoded};
-ghost use Rattle.au_engine.specs.EncodedTables.{ReadTables, SizesAreSmall, TablesAreRead, TextsAreRead};
+//! What is printed of rows is read back, and what a plan gives over it. Each law is the contract of a function that does
+//! nothing.
+ghost use Rattle.au_engine.specs.EncodedTables.{EncodedTablesHold, ReadTables, SizesAreSmall, TablesAreRead, TextsAreRead};
+ghost use Rattle.au_engine.specs.PlanAnswers.{PlansAnswer};
+
+/// The plan of a statement in which nothing is wrong, over tables whose rows in the guess world are the encoded rows of the
+/// statement's tables: it is typed, and gives the encoded rows of the statement's bounded relation. No number that it
+/// makes leaves 128 bits where none of the bounded answer does.
+pub fn plans_answer()
+    ensures { PlansAnswer }
+{}
 
 /// The text of rows is the text of a plain table, whose rows in the guess world are these.
 pub fn texts_are_read()
@@ -17,13 +25,12 @@ pub fn encoded_tables_are_read()
     ensures { TablesAreRead }
 {}
 
+/// The tables that such texts are read as are those over which the plan of a statement answers.
+pub fn encoded_tables_hold()
+    ensures { EncodedTablesHold }
+{}
+
 /// A table that is read from the text of rows has few guess rows beside the bytes of the text.
 pub fn read_rows_are_few()
     ensures { SizesAreSmall }
-{}
-
-/// The plan of a statement, over the tables that the encoded texts of its tables are read as, gives the encoded rows of
-/// the statement's bounded relation.
-pub fn statements_give_encoded()
-    ensures { StatementsGiveEncoded }
 {}
