@@ -72,6 +72,8 @@ has_form (word ∷ rest) asked h = by_verb word rest (verb_of word) asked refl h
 abbrev pub AreInRange : Asked → Type 0
 AreInRange (words.query r) = ((1 ≤ r.workers) × (r.workers ≤ 64)) × IsCompression r.compress
 AreInRange (words.demo start blocks workers) = ((1 ≤ blocks) × (blocks ≤ 100000)) × (1 ≤ workers) × (workers ≤ 64)
+AreInRange (words.encode table) = Unit {0}
+AreInRange (words.plain plan tables) = Unit {0}
 
 unless_is : (fault : Option UsageFault) (made asked : Asked) → unless fault made ≡ Ok asked → made ≡ asked
 unless_is None made asked h = cc
@@ -96,6 +98,10 @@ ranges_by verb.Demo all asked form h =
     chosen (is_number 0 4294967295 start && is_number 1 100000 blocks)
     (words.demo (digits_value 10 start) (digits_value 10 blocks) (unwrap_or (number_of (codes "--workers") (drop 1 all)) 1)) asked
     (λ fine. (number_range 1 100000 blocks (second (is_number 0 4294967295 start) (is_number 1 100000 blocks) fine), workers.0, workers.1)) h
+ranges_by verb.Encode all asked form h =
+    subst AreInRange (unless_is (table_fault (positionals (drop 1 all))) (words.encode (table_of (first_word (drop 1 all)))) asked h) tt
+ranges_by verb.Plain all asked form h =
+    subst AreInRange (unless_is (table_fault (later_words (drop 1 all))) (words.plain (first_word (drop 1 all)) (map table_of (later_words (drop 1 all)))) asked h) tt
 
 pub in_range : (all : List Text) (asked : Asked) → asked_of all ≡ Ok asked → AreInRange asked
 in_range all asked h = let found = has_form all asked h in ranges_by found.0 all asked found.1 found.2

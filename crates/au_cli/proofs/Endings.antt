@@ -6,55 +6,42 @@ use Rattle.std.proofs.lemmas.List.{append-nil}
 use Rattle.std.specs.Io.KnownBytes.{Appends}
 use Rattle.std.specs.Result.{result_err}
 use Rattle.au_io.specs.Counts.{Rose}
-use Rattle.au_io.specs.Files.{AppendsFront, File}
+use Rattle.au_io.specs.Files.{AppendsFront, File, bytes_at}
 use Rattle.au_parse.specs.Tree.{QueryTree}
 use Rattle.au_engine.specs.Answers.{Named, answer_fits}
+use Rattle.au_engine.specs.Exchange.{encoded_text}
 use Rattle.au_engine.specs.declared.faults.QueryFault.TheVariants as query
 use Rattle.au_words.specs.Words.{Asked, Request}
 use Rattle.au_words.specs.Words as words
 use Rattle.au_words.specs.declared.fault.UsageFault.{UsageFault}
+use Rattle.au_cli.specs.declared.files.Purpose.TheVariants as purpose
 use Rattle.au_cli.specs.declared.outcome.Outcome.{Outcome}
 use Rattle.au_cli.specs.declared.outcome.Outcome.TheVariants as outcome
 use Rattle.au_cli.specs.Demo.{Demonstrates}
-use Rattle.au_cli.specs.Requests.{Given, IsAnswer, IsRefusal, Prints, PrintsFront, Refusal, given_of, numbers_fit, refused_request, unless_refused}
+use Rattle.au_cli.specs.Files.{Text, file_table}
+use Rattle.au_cli.specs.Requests.{Given, IsRefusal, Refusal, given_of, numbers_fit, refused_request, unless_refused}
 use Rattle.au_cli.specs.Requests.Refusal.{exactly}
-use Rattle.au_cli.specs.Causes.{AskedCause, AskedNotPositive, DemoCause, Ends, Gives, IsAskedText, IsRead, IsRefusedBefore, PrintsAsked, PrintsAskedFront, RequestCause, StageCause, TextPut, is_text_fault, is_text_limit}
+use Rattle.au_cli.specs.Causes.{AskedCause, AskedNotPositive, DemoCause, Ends, Gives, IsAskedText, IsRead, IsRefusedBefore, RequestCause, StageCause, TextPut, is_text_fault, is_text_limit}
+use Rattle.au_cli.proofs.Encodings.{encoded_comes, file_comes, file_decides, file_memory}
+use Rattle.au_cli.proofs.PlanRuns.{decided_comes as decided_plan, given_comes as given_plan, plan_decides, plan_early, run_memory}
+use Rattle.au_cli.proofs.Refusals.{not_few}
 use Rattle.au_cli.proofs.TextRefusals.{refused_not_positive}
 use Rattle.au_cli.specs.Run.{CanAnswer, Yields, first_refusal, refused_before}
 
 -- ---- putting
 
-gives_along : (P Q : List Named → QueryTree → Type 0) (told : Option (List File)) (r : Request) → ((ts : List Named) (s : QueryTree) → P ts s → Q ts s) → Gives told r P → Gives told r Q
-gives_along P Q None r along h = h
-gives_along P Q (Some files) r along h = (h.0, h.1, h.2, along h.0 h.1 h.3)
-
-pub asked_printed : (asked : Result Asked UsageFault) (told : Option (List File)) (old new : Option (List ℕ)) (text : List ℕ) → IsAskedText asked told text → Appends old new text → PrintsAsked asked told old new
-asked_printed (Err fault) told old new text is put = elim is [ ]
-asked_printed (Ok (words.query r)) told old new text is put = (
-  is.0,
-  gives_along (IsAnswer r text) (Prints r old new) told r
-      (λ ts s h. record { text = subst (λ bytes. Appends old new bytes) h.is put; holds = h.holds; fits = h.fits }) is.1,
-)
-asked_printed (Ok (words.demo start blocks workers)) told old new text is put = (is.0, is.1, is.2, is.3, subst (λ bytes. Appends old new bytes) is.4 put)
-
-pub asked_front : (asked : Result Asked UsageFault) (told : Option (List File)) (old new : Option (List ℕ)) (text : List ℕ) → IsAskedText asked told text → AppendsFront old new text → PrintsAskedFront asked told old new
-asked_front (Err fault) told old new text is put = elim is [ ]
-asked_front (Ok (words.query r)) told old new text is put = (
-  is.0,
-  gives_along (IsAnswer r text) (PrintsFront r old new) told r (λ ts s h. subst (λ bytes. AppendsFront old new bytes) h.is put) is.1,
-)
-asked_front (Ok (words.demo start blocks workers)) told old new text is put = (is.0, is.1, is.2, is.3, subst (λ bytes. AppendsFront old new bytes) is.4 put)
-
 pub memory_cause : (asked : Result Asked UsageFault) (told : Option (List File)) (f fn a an : ℕ) → AskedCause asked told f fn a an outcome.NoMemory
 memory_cause (Err fault) told f fn a an = inr refl
 memory_cause (Ok (words.query r)) told f fn a an = tt
 memory_cause (Ok (words.demo start blocks workers)) told f fn a an = tt
+memory_cause (Ok (words.encode word)) told f fn a an = tt
+memory_cause (Ok (words.plain path tables)) told f fn a an = tt
 
 -- what a text that is put ends in
 pub put_ends : (asked : Result Asked UsageFault) (told : Option (List File)) (f fn a an p pn : ℕ) (old new : Option (List ℕ)) (text : List ℕ) (o : Outcome)
     → IsAskedText asked told text → TextPut p pn old new text o → Ends asked told f fn a an p pn old new o
-put_ends asked told f fn a an p pn old new text outcome.Done is put = asked_printed asked told old new text is put
-put_ends asked told f fn a an p pn old new text outcome.WriteFault is put = (put.0, asked_front asked told old new text is put.1)
+put_ends asked told f fn a an p pn old new text outcome.Done is put = (text, is, put)
+put_ends asked told f fn a an p pn old new text outcome.WriteFault is put = (put.0, (text, is, put.1))
 put_ends asked told f fn a an p pn old new text outcome.NoMemory is put = (memory_cause asked told f fn a an, put)
 put_ends asked told f fn a an p pn old new text _ is put = elim put [ ]
 
@@ -67,6 +54,10 @@ refused_ends (Ok (words.query r)) told f fn a an p pn old new outcome.Done h put
 refused_ends (Ok (words.query r)) told f fn a an p pn old new outcome.WriteFault h put = elim h [ ]
 refused_ends (Ok (words.demo start blocks workers)) told f fn a an p pn old new outcome.Done h put = elim h [ ]
 refused_ends (Ok (words.demo start blocks workers)) told f fn a an p pn old new outcome.WriteFault h put = elim h [ ]
+refused_ends (Ok (words.encode word)) told f fn a an p pn old new outcome.Done h put = elim h [ ]
+refused_ends (Ok (words.encode word)) told f fn a an p pn old new outcome.WriteFault h put = elim h [ ]
+refused_ends (Ok (words.plain path tables)) told f fn a an p pn old new outcome.Done h put = elim h [ ]
+refused_ends (Ok (words.plain path tables)) told f fn a an p pn old new outcome.WriteFault h put = elim h [ ]
 refused_ends asked told f fn a an p pn old new _ h put = (h, put)
 
 -- ---- refusals
@@ -88,7 +79,7 @@ stage_decides false r files o h = inr (inl h.1)
 request_decides : (r : Request) (files : List File) (f fn a an : ℕ) (o : Outcome) → RequestCause r (Some files) f fn a an o → ¬ Rose f fn → Decided r files o
 request_decides r files f fn a an outcome.NoMemory h calm = inl refl
 request_decides r files f fn a an (outcome.Query fault) h calm = stage_decides (is_text_fault fault) r files (outcome.Query fault) h
-request_decides r files f fn a an (outcome.Limit fault) h calm = stage_decides (is_text_limit fault) r files (outcome.Limit fault) h
+request_decides r files f fn a an (outcome.Limit fault) h calm = stage_decides (is_text_limit fault) r files (outcome.Limit fault) h.1
 request_decides r files f fn a an (outcome.NoFile i) h calm = inr (inl h.1.1)
 request_decides r files f fn a an (outcome.ReadFault i) h calm = absurd (calm h.1)
 request_decides r files f fn a an (outcome.Table i fault) h calm = inr (inl h.1.1)
@@ -96,6 +87,7 @@ request_decides r files f fn a an outcome.Overflow h calm = inr (inr (refl, h.1)
 request_decides r files f fn a an outcome.Done h calm = elim h [ ]
 request_decides r files f fn a an outcome.WriteFault h calm = elim h [ ]
 request_decides r files f fn a an (outcome.Usage fault) h calm = elim h [ ]
+request_decides r files f fn a an (outcome.Plan fault) h calm = elim h [ ]
 
 same_comes : (want refusal : Refusal) (o : Outcome) → want ≡ refusal → IsRefusal want o → IsRefusal refusal o ⊎ (o ≡ outcome.NoMemory)
 same_comes want refusal o e h = inl (subst (λ x. IsRefusal x o) e h)
@@ -129,23 +121,24 @@ cause_comes : (asked : Result Asked UsageFault) (files : List File) (f fn a an :
 cause_comes (Err fault) files f fn a an refusal o h calm k = usage_comes fault refusal o h k
 cause_comes (Ok (words.query r)) files f fn a an refusal o h calm k = decided_comes r files refusal o (request_decides r files f fn a an o h calm) k
 cause_comes (Ok (words.demo start blocks workers)) files f fn a an refusal o h calm k = cc
+cause_comes (Ok (words.encode word)) files f fn a an refusal o h calm k =
+    file_comes (file_table purpose.Encode 0 0 (bytes_at files word.1)) refusal o (file_decides files purpose.Encode word.1 0 0 f fn a an o h calm) k
+cause_comes (Ok (words.plain path tables)) files f fn a an refusal o h calm k =
+    decided_plan path tables files refusal o (plan_decides path tables files f fn a an o h calm) k
 
-printed_comes : (asked : Result Asked UsageFault) (files : List File) (old new : Option (List ℕ)) (refusal : Refusal) (o : Outcome)
-    → PrintsAsked asked (Some files) old new → first_refusal asked files ≡ Some refusal → IsRefusal refusal o ⊎ (o ≡ outcome.NoMemory)
-printed_comes (Err fault) files old new refusal o h k = elim h [ ]
-printed_comes (Ok (words.query r)) files old new refusal o h k = given_comes (given_of r files) (h.1.0, h.1.1) refusal o h.1.2 k
-printed_comes (Ok (words.demo start blocks workers)) files old new refusal o h k = cc
-
-front_comes : (asked : Result Asked UsageFault) (files : List File) (old new : Option (List ℕ)) (refusal : Refusal) (o : Outcome)
-    → PrintsAskedFront asked (Some files) old new → first_refusal asked files ≡ Some refusal → IsRefusal refusal o ⊎ (o ≡ outcome.NoMemory)
-front_comes (Err fault) files old new refusal o h k = elim h [ ]
-front_comes (Ok (words.query r)) files old new refusal o h k = given_comes (given_of r files) (h.1.0, h.1.1) refusal o h.1.2 k
-front_comes (Ok (words.demo start blocks workers)) files old new refusal o h k = cc
+-- a text that is what the words ask for
+text_comes : (asked : Result Asked UsageFault) (files : List File) (text : List ℕ) (refusal : Refusal) (o : Outcome)
+    → IsAskedText asked (Some files) text → first_refusal asked files ≡ Some refusal → IsRefusal refusal o ⊎ (o ≡ outcome.NoMemory)
+text_comes (Err fault) files text refusal o h k = elim h [ ]
+text_comes (Ok (words.query r)) files text refusal o h k = given_comes (given_of r files) (h.1.0, h.1.1) refusal o h.1.2 k
+text_comes (Ok (words.demo start blocks workers)) files text refusal o h k = cc
+text_comes (Ok (words.encode word)) files text refusal o h k = encoded_comes (λ t. text ≡ encoded_text t) files word.1 refusal o h k
+text_comes (Ok (words.plain path tables)) files text refusal o h k = given_plan path tables files refusal o h.1.0 h.0 h.1.1 k
 
 pub refusal_comes : (asked : Result Asked UsageFault) (files : List File) (f fn a an p pn : ℕ) (old new : Option (List ℕ)) (refusal : Refusal) (o : Outcome)
     → Ends asked (Some files) f fn a an p pn old new o → ¬ Rose f fn → first_refusal asked files ≡ Some refusal → IsRefusal refusal o ⊎ (o ≡ outcome.NoMemory)
-refusal_comes asked files f fn a an p pn old new refusal outcome.Done h calm k = printed_comes asked files old new refusal outcome.Done h k
-refusal_comes asked files f fn a an p pn old new refusal outcome.WriteFault h calm k = front_comes asked files old new refusal outcome.WriteFault h.1 k
+refusal_comes asked files f fn a an p pn old new refusal outcome.Done h calm k = text_comes asked files h.0 refusal outcome.Done h.1 k
+refusal_comes asked files f fn a an p pn old new refusal outcome.WriteFault h calm k = text_comes asked files h.1.0 refusal outcome.WriteFault h.1.1 k
 refusal_comes asked files f fn a an p pn old new refusal o h calm k = cause_comes asked files f fn a an refusal o h.0 calm k
 
 -- ---- whatever the files hold
@@ -163,7 +156,7 @@ stage_comes false told r refusal o h k = read_not_refused r refusal o h.0 k
 request_comes : (r : Request) (told : Option (List File)) (f fn a an : ℕ) (refusal : Refusal) (o : Outcome) → RequestCause r told f fn a an o → refused_request r ≡ Some refusal → IsRefusal refusal o ⊎ (o ≡ outcome.NoMemory)
 request_comes r told f fn a an refusal outcome.NoMemory h k = inr refl
 request_comes r told f fn a an refusal (outcome.Query fault) h k = stage_comes (is_text_fault fault) told r refusal (outcome.Query fault) h k
-request_comes r told f fn a an refusal (outcome.Limit fault) h k = stage_comes (is_text_limit fault) told r refusal (outcome.Limit fault) h k
+request_comes r told f fn a an refusal (outcome.Limit fault) h k = stage_comes (is_text_limit fault) told r refusal (outcome.Limit fault) h.1 k
 request_comes r told f fn a an refusal (outcome.NoFile i) h k = read_not_refused r refusal (outcome.NoFile i) h.1.0 k
 request_comes r told f fn a an refusal (outcome.ReadFault i) h k = read_not_refused r refusal (outcome.ReadFault i) h.2 k
 request_comes r told f fn a an refusal (outcome.Table i fault) h k = read_not_refused r refusal (outcome.Table i fault) h.1.0 k
@@ -171,29 +164,28 @@ request_comes r told f fn a an refusal outcome.Overflow h k = read_not_refused r
 request_comes r told f fn a an refusal outcome.Done h k = elim h [ ]
 request_comes r told f fn a an refusal outcome.WriteFault h k = elim h [ ]
 request_comes r told f fn a an refusal (outcome.Usage fault) h k = elim h [ ]
+request_comes r told f fn a an refusal (outcome.Plan fault) h k = elim h [ ]
 
 early_cause_comes : (asked : Result Asked UsageFault) (told : Option (List File)) (f fn a an : ℕ) (refusal : Refusal) (o : Outcome)
     → AskedCause asked told f fn a an o → refused_before asked ≡ Some refusal → IsRefusal refusal o ⊎ (o ≡ outcome.NoMemory)
 early_cause_comes (Err fault) told f fn a an refusal o h k = usage_comes fault refusal o h k
 early_cause_comes (Ok (words.query r)) told f fn a an refusal o h k = request_comes r told f fn a an refusal o h k
 early_cause_comes (Ok (words.demo start blocks workers)) told f fn a an refusal o h k = cc
+early_cause_comes (Ok (words.encode word)) told f fn a an refusal o h k = cc
+early_cause_comes (Ok (words.plain path tables)) told f fn a an refusal o h k = plan_early path tables told f fn a an refusal o h k
 
-early_printed : (asked : Result Asked UsageFault) (told : Option (List File)) (old new : Option (List ℕ)) (refusal : Refusal) (o : Outcome)
-    → PrintsAsked asked told old new → refused_before asked ≡ Some refusal → IsRefusal refusal o ⊎ (o ≡ outcome.NoMemory)
-early_printed (Err fault) told old new refusal o h k = elim h [ ]
-early_printed (Ok (words.query r)) told old new refusal o h k = read_not_refused r refusal o h.0 k
-early_printed (Ok (words.demo start blocks workers)) told old new refusal o h k = cc
-
-early_front : (asked : Result Asked UsageFault) (told : Option (List File)) (old new : Option (List ℕ)) (refusal : Refusal) (o : Outcome)
-    → PrintsAskedFront asked told old new → refused_before asked ≡ Some refusal → IsRefusal refusal o ⊎ (o ≡ outcome.NoMemory)
-early_front (Err fault) told old new refusal o h k = elim h [ ]
-early_front (Ok (words.query r)) told old new refusal o h k = read_not_refused r refusal o h.0 k
-early_front (Ok (words.demo start blocks workers)) told old new refusal o h k = cc
+early_text : (asked : Result Asked UsageFault) (told : Option (List File)) (text : List ℕ) (refusal : Refusal) (o : Outcome)
+    → IsAskedText asked told text → refused_before asked ≡ Some refusal → IsRefusal refusal o ⊎ (o ≡ outcome.NoMemory)
+early_text (Err fault) told text refusal o h k = elim h [ ]
+early_text (Ok (words.query r)) told text refusal o h k = read_not_refused r refusal o h.0 k
+early_text (Ok (words.demo start blocks workers)) told text refusal o h k = cc
+early_text (Ok (words.encode word)) told text refusal o h k = cc
+early_text (Ok (words.plain path tables)) told text refusal o h k = inl (not_few tables refusal o h.0 k)
 
 pub early_comes : (asked : Result Asked UsageFault) (told : Option (List File)) (f fn a an p pn : ℕ) (old new : Option (List ℕ)) (refusal : Refusal) (o : Outcome)
     → Ends asked told f fn a an p pn old new o → refused_before asked ≡ Some refusal → IsRefusal refusal o ⊎ (o ≡ outcome.NoMemory)
-early_comes asked told f fn a an p pn old new refusal outcome.Done h k = early_printed asked told old new refusal outcome.Done h k
-early_comes asked told f fn a an p pn old new refusal outcome.WriteFault h k = early_front asked told old new refusal outcome.WriteFault h.1 k
+early_comes asked told f fn a an p pn old new refusal outcome.Done h k = early_text asked told h.0 refusal outcome.Done h.1 k
+early_comes asked told f fn a an p pn old new refusal outcome.WriteFault h k = early_text asked told h.1.0 refusal outcome.WriteFault h.1.1 k
 early_comes asked told f fn a an p pn old new refusal o h k = early_cause_comes asked told f fn a an refusal o h.0 k
 
 -- ---- completeness
@@ -232,6 +224,9 @@ cause_memory : (asked : Result Asked UsageFault) (files : List File) (f fn a an 
 cause_memory (Err fault) files f fn a an o h calm can = elim can [ ]
 cause_memory (Ok (words.query r)) files f fn a an o h calm can = not_decided r files o (request_decides r files f fn a an o h calm) can.0 can.1 can.2
 cause_memory (Ok (words.demo start blocks workers)) files f fn a an o h calm can = demo_not_refused start blocks o h can
+cause_memory (Ok (words.encode word)) files f fn a an o h calm can =
+    file_memory (file_table purpose.Encode 0 0 (bytes_at files word.1)) o can.0 (file_decides files purpose.Encode word.1 0 0 f fn a an o h calm) can.1
+cause_memory (Ok (words.plain path tables)) files f fn a an o h calm can = run_memory path tables files o (plan_decides path tables files f fn a an o h calm) can
 
 pub is_complete : (asked : Result Asked UsageFault) (files : List File) (f fn a an p pn : ℕ) (old new : Option (List ℕ)) (o : Outcome)
     → Ends asked (Some files) f fn a an p pn old new o → ¬ Rose f fn → ¬ Rose p pn → CanAnswer asked files → Yields o outcome.Done
@@ -245,6 +240,8 @@ usage_asked : (asked : Result Asked UsageFault) (told : Option (List File)) (f f
 usage_asked (Err x) told f fn a an fault h = elim h [ inl e ↦ cc | inr e ↦ cc ]
 usage_asked (Ok (words.query r)) told f fn a an fault h = elim h [ ]
 usage_asked (Ok (words.demo start blocks workers)) told f fn a an fault h = elim h [ ]
+usage_asked (Ok (words.encode word)) told f fn a an fault h = elim h [ ]
+usage_asked (Ok (words.plain path tables)) told f fn a an fault h = elim h [ ]
 
 pub usage_cause : (asked : Result Asked UsageFault) (told : Option (List File)) (f fn a an p pn : ℕ) (old new : Option (List ℕ)) (o : Outcome) (fault : UsageFault)
     → Ends asked told f fn a an p pn old new o → o ≡ outcome.Usage fault → result_err asked ≡ Some fault
@@ -271,6 +268,8 @@ absence_rose : (asked : Result Asked UsageFault) (told : Option (List File)) (f 
 absence_rose (Err x) told f fn a an i h = elim h [ inl e ↦ cc | inr e ↦ cc ]
 absence_rose (Ok (words.query r)) told f fn a an i h = h.0
 absence_rose (Ok (words.demo start blocks workers)) told f fn a an i h = elim h [ ]
+absence_rose (Ok (words.encode word)) told f fn a an i h = h.1
+absence_rose (Ok (words.plain path tables)) told f fn a an i h = h.0
 
 pub no_file_rose : (asked : Result Asked UsageFault) (told : Option (List File)) (f fn a an p pn : ℕ) (old new : Option (List ℕ)) (o : Outcome) (i : ℕ)
     → Ends asked told f fn a an p pn old new o → o ≡ outcome.NoFile i → Rose a an
@@ -281,6 +280,8 @@ fault_rose : (asked : Result Asked UsageFault) (told : Option (List File)) (f fn
 fault_rose (Err x) told f fn a an i h = elim h [ inl e ↦ cc | inr e ↦ cc ]
 fault_rose (Ok (words.query r)) told f fn a an i h = h.1
 fault_rose (Ok (words.demo start blocks workers)) told f fn a an i h = elim h [ ]
+fault_rose (Ok (words.encode word)) told f fn a an i h = h.1
+fault_rose (Ok (words.plain path tables)) told f fn a an i h = h.1
 
 pub read_fault_rose : (asked : Result Asked UsageFault) (told : Option (List File)) (f fn a an p pn : ℕ) (old new : Option (List ℕ)) (o : Outcome) (i : ℕ)
     → Ends asked told f fn a an p pn old new o → o ≡ outcome.ReadFault i → Rose f fn
@@ -291,6 +292,8 @@ placed : (asked : Result Asked UsageFault) (told : Option (List File)) (f fn a a
 placed (Err x) told f fn a an at h = elim h [ inl e ↦ cc | inr e ↦ cc ]
 placed (Ok (words.query r)) told f fn a an at h = refused_not_positive r at h
 placed (Ok (words.demo start blocks workers)) told f fn a an at h = elim h [ ]
+placed (Ok (words.encode word)) told f fn a an at h = elim h [ ]
+placed (Ok (words.plain path tables)) told f fn a an at h = elim h [ ]
 
 pub not_positive_cause : (asked : Result Asked UsageFault) (told : Option (List File)) (f fn a an p pn : ℕ) (old new : Option (List ℕ)) (o : Outcome) (at : ℕ)
     → Ends asked told f fn a an p pn old new o → o ≡ outcome.Query (query.NotPositive at) → AskedNotPositive asked at

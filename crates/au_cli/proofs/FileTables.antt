@@ -1,32 +1,36 @@
--- The table of a told file, from what was read of it.
-use Rattle.std.proofs.Common.{subst, ◌≡◌, ◌≢◌, ◌<◌, ◌≤◌, ◌+◌, ℕ, true, false, List, Option, Some, None, IfSome, Ok, Err, length, nat_lt, arith, sym, ◌∙◌, ap}
+-- The bytes and the table of a told file, from what was read of it.
+use Rattle.std.proofs.Common.{◌≡◌, ◌<◌, ◌≤◌, ◌+◌, ℕ, true, false, List, Option, Some, None, IfSome, Ok, Err, length, nat_lt, arith, refl, ◌∙◌, ap}
 use Rattle.std.specs.Prelude.{IsSomeAnd}
 use Rattle.au_blocks.specs.declared.faults.TableFault.{TableFault}
-use Rattle.au_blocks.specs.declared.faults.TableFault.TheVariants as table
 use Rattle.au_blocks.specs.Read.{table_of}
 use Rattle.au_blocks.specs.Tables.{BlockTable}
 use Rattle.au_io.specs.Files.{File, Lacks, bytes_at}
+use Rattle.au_engine.specs.declared.faults.LimitFault.{LimitFault}
 use Rattle.au_engine.specs.declared.faults.LimitFault.TheVariants as limit
+use Rattle.au_cli.specs.declared.files.Purpose.{Purpose}
+use Rattle.au_cli.specs.declared.files.Purpose.TheVariants as purpose
 use Rattle.au_cli.specs.declared.outcome.Outcome.{Outcome}
 use Rattle.au_cli.specs.declared.outcome.Outcome.TheVariants as outcome
-use Rattle.au_cli.specs.Files.{Text, file_table, sized_table, table_or_defect, greatest_size, greatest_total, size_of}
-use Rattle.au_cli.specs.Causes.{BytesCause, FileCause, FileRefused}
+use Rattle.au_cli.specs.Files.{Text, file_bytes, file_table, passed_limit, sized_bytes, table_in, table_or_defect, table_within, greatest_columns, greatest_size, greatest_total, size_of}
+use Rattle.au_cli.specs.FileCauses.{BytesCause, BytesRefused, FileCause, FileRefused, ReadCause, is_file_limit, is_size_limit}
 
-pub absent_refused : (told : Option (List File)) (path : Text) (file before : ℕ) → Lacks told path → FileRefused told path file before (outcome.NoFile file)
+-- ---- the bytes
+
+pub absent_refused : (told : Option (List File)) (path : Text) (file before : ℕ) → Lacks told path → BytesRefused told path file before (outcome.NoFile file)
 absent_refused None path file before h = h
-absent_refused (Some files) path file before h = ap (file_table file before) h
+absent_refused (Some files) path file before h = ap (file_bytes file before) h
 
-large_bytes : (file before : ℕ) (bytes : Option (List ℕ)) → IsSomeAnd bytes (λ b. greatest_size < length b) → file_table file before bytes ≡ Err (outcome.Limit (limit.FileSize file))
+large_bytes : (file before : ℕ) (bytes : Option (List ℕ)) → IsSomeAnd bytes (λ b. greatest_size < length b) → file_bytes file before bytes ≡ Err (outcome.Limit (limit.FileSize file))
 large_bytes file before None h = elim h [ ]
 large_bytes file before (Some b) h = let e : nat_lt greatest_size (length b) ≡ true = grind arith in rw e
 
 pub large_refused : (told : Option (List File)) (path : Text) (file before : ℕ) → IfSome told (λ files. IsSomeAnd (bytes_at files path) (λ bytes. greatest_size < length bytes))
-    → FileRefused told path file before (outcome.Limit (limit.FileSize file))
+    → BytesRefused told path file before (outcome.Limit (limit.FileSize file))
 large_refused None path file before h = h
 large_refused (Some files) path file before h = large_bytes file before (bytes_at files path) h
 
 much_bytes : (file before : ℕ) (bytes : List ℕ) → length bytes ≤ greatest_size → greatest_total < before + length bytes
-    → sized_table file before bytes ≡ Err (outcome.Limit (limit.AllFiles file))
+    → sized_bytes file before bytes ≡ Err (outcome.Limit (limit.AllFiles file))
 much_bytes file before bytes small much =
     let e : nat_lt greatest_size (length bytes) ≡ false = grind arith in
     let k : nat_lt greatest_total (before + length bytes) ≡ true = grind arith in
@@ -34,41 +38,78 @@ much_bytes file before bytes small much =
 
 pub much_refused : (told : Option (List File)) (path : Text) (file before : ℕ) (bytes : List ℕ) → IfSome told (λ files. bytes_at files path ≡ Some bytes)
     → length bytes ≤ greatest_size → greatest_total < before + length bytes
-    → FileRefused told path file before (outcome.Limit (limit.AllFiles file))
+    → BytesRefused told path file before (outcome.Limit (limit.AllFiles file))
 much_refused None path file before bytes h small much = h
-much_refused (Some files) path file before bytes h small much = ap (file_table file before) h ∙ much_bytes file before bytes small much
+much_refused (Some files) path file before bytes h small much = ap (file_bytes file before) h ∙ much_bytes file before bytes small much
 
-within : (file before : ℕ) (bytes : List ℕ) → length bytes ≤ greatest_size → before + length bytes ≤ greatest_total
-    → sized_table file before bytes ≡ table_or_defect file (table_of bytes)
+pub within : (file before : ℕ) (bytes : List ℕ) → length bytes ≤ greatest_size → before + length bytes ≤ greatest_total → sized_bytes file before bytes ≡ Ok bytes
 within file before bytes small all =
     let e : nat_lt greatest_size (length bytes) ≡ false = grind arith in
     let k : nat_lt greatest_total (before + length bytes) ≡ false = grind arith in
     rw (e, k)
 
-pub table_read : (told : Option (List File)) (path : Text) (file before : ℕ) (bytes : List ℕ) (t : BlockTable) → IfSome told (λ files. bytes_at files path ≡ Some bytes)
-    → length bytes ≤ greatest_size → before + length bytes ≤ greatest_total → table_of bytes ≡ Ok t
-    → IfSome told (λ files. file_table file before (bytes_at files path) ≡ Ok t)
-table_read None path file before bytes t h small all e = h
-table_read (Some files) path file before bytes t h small all e =
-    ap (file_table file before) h ∙ within file before bytes small all ∙ ap (table_or_defect file) e
+pub bytes_read : (told : Option (List File)) (path : Text) (file before : ℕ) (bytes : List ℕ) → IfSome told (λ files. bytes_at files path ≡ Some bytes)
+    → length bytes ≤ greatest_size → before + length bytes ≤ greatest_total
+    → IfSome told (λ files. file_bytes file before (bytes_at files path) ≡ Ok bytes)
+bytes_read None path file before bytes h small all = h
+bytes_read (Some files) path file before bytes h small all = ap (file_bytes file before) h ∙ within file before bytes small all
 
 pub size_read : (told : Option (List File)) (path : Text) (bytes : List ℕ) → IfSome told (λ files. bytes_at files path ≡ Some bytes)
     → IfSome told (λ files. size_of (bytes_at files path) ≡ length bytes)
 size_read None path bytes h = h
 size_read (Some files) path bytes h = ap size_of h
 
-defect_read : (told : Option (List File)) (path : Text) (file before : ℕ) (bytes : List ℕ) (fault : TableFault) → IfSome told (λ files. bytes_at files path ≡ Some bytes)
-    → length bytes ≤ greatest_size → before + length bytes ≤ greatest_total → table_of bytes ≡ Err fault
-    → FileRefused told path file before (outcome.Table file fault)
-defect_read None path file before bytes fault h small all e = h
-defect_read (Some files) path file before bytes fault h small all e =
-    ap (file_table file before) h ∙ within file before bytes small all ∙ ap (table_or_defect file) e
+-- ---- the table of bytes
 
-pub bytes_cause : (told : Option (List File)) (path : Text) (file before f fn a an : ℕ) (bytes : List ℕ) (o : Outcome) → IfSome told (λ files. bytes_at files path ≡ Some bytes)
-    → length bytes ≤ greatest_size → before + length bytes ≤ greatest_total → BytesCause file bytes o
-    → FileCause told path file before f fn a an o
-bytes_cause told path file before f fn a an bytes outcome.NoMemory h small all cause = tt
-bytes_cause told path file before f fn a an bytes (outcome.Table i fault) h small all cause =
-    subst (λ n. (fault ≢ table.NoMemory) × FileRefused told path file before (outcome.Table n fault)) (sym cause.0)
-    (cause.1, defect_read told path file before bytes fault h small all cause.2)
-bytes_cause told path file before f fn a an bytes _ h small all cause = elim cause [ ]
+pub few_passed : (t : BlockTable) (file n : ℕ) → n ≡ length t.columns → greatest_columns < n → passed_limit purpose.Encode file t ≡ Some (limit.EncodeColumns n)
+few_passed t file n e many = let over : nat_lt greatest_columns (length t.columns) ≡ true = grind arith in rw (over, e) refl
+
+pub defect_bytes : (aim : Purpose) (file : ℕ) (bytes : List ℕ) (fault : TableFault) → table_of bytes ≡ Err fault → table_or_defect aim file (table_of bytes) ≡ Err (outcome.Table file fault)
+defect_bytes aim file bytes fault e = ap (table_or_defect aim file) e
+
+pub limit_bytes : (aim : Purpose) (file : ℕ) (bytes : List ℕ) (t : BlockTable) (fault : LimitFault) → table_of bytes ≡ Ok t → passed_limit aim file t ≡ Some fault
+    → table_or_defect aim file (table_of bytes) ≡ Err (outcome.Limit fault)
+limit_bytes aim file bytes t fault e k = ap (table_or_defect aim file) e ∙ ap (table_within t) k
+
+pub table_bytes : (aim : Purpose) (file : ℕ) (bytes : List ℕ) (t : BlockTable) → table_of bytes ≡ Ok t → passed_limit aim file t ≡ None
+    → table_or_defect aim file (table_of bytes) ≡ Ok t
+table_bytes aim file bytes t e k = ap (table_or_defect aim file) e ∙ ap (table_within t) k
+
+-- ---- the table of a file
+
+pub table_read : (told : Option (List File)) (aim : Purpose) (path : Text) (file before : ℕ) (bytes : List ℕ) (t : BlockTable)
+    → IfSome told (λ files. file_bytes file before (bytes_at files path) ≡ Ok bytes) → table_or_defect aim file (table_of bytes) ≡ Ok t
+    → IfSome told (λ files. file_table aim file before (bytes_at files path) ≡ Ok t)
+table_read None aim path file before bytes t h e = h
+table_read (Some files) aim path file before bytes t h e = ap (table_in aim file) h ∙ e
+
+refused_read : (told : Option (List File)) (aim : Purpose) (path : Text) (file before : ℕ) (bytes : List ℕ) (o : Outcome)
+    → IfSome told (λ files. file_bytes file before (bytes_at files path) ≡ Ok bytes) → table_or_defect aim file (table_of bytes) ≡ Err o
+    → FileRefused told aim path file before o
+refused_read None aim path file before bytes o h e = h
+refused_read (Some files) aim path file before bytes o h e = ap (table_in aim file) h ∙ e
+
+pub bytes_cause : (told : Option (List File)) (aim : Purpose) (path : Text) (file before f fn a an : ℕ) (bytes : List ℕ) (o : Outcome)
+    → IfSome told (λ files. file_bytes file before (bytes_at files path) ≡ Ok bytes) → BytesCause aim file bytes o → FileCause told aim path file before f fn a an o
+bytes_cause told aim path file before f fn a an bytes outcome.NoMemory h cause = tt
+bytes_cause told aim path file before f fn a an bytes (outcome.Table i fault) h cause = (cause.0, refused_read told aim path file before bytes (outcome.Table i fault) h cause.1)
+bytes_cause told aim path file before f fn a an bytes (outcome.Limit fault) h cause = (cause.0, refused_read told aim path file before bytes (outcome.Limit fault) h cause.1)
+bytes_cause told aim path file before f fn a an bytes _ h cause = elim cause [ ]
+
+refused_bytes : (told : Option (List File)) (aim : Purpose) (path : Text) (file before : ℕ) (o : Outcome) → BytesRefused told path file before o → FileRefused told aim path file before o
+refused_bytes None aim path file before o h = h
+refused_bytes (Some files) aim path file before o h = ap (table_in aim file) h
+
+size_is_file : (aim : Purpose) (fault : LimitFault) → is_size_limit fault ≡ true → is_file_limit aim fault ≡ true
+size_is_file aim (limit.FileSize file) e = refl
+size_is_file aim (limit.AllFiles file) e = refl
+size_is_file aim _ e = cc
+
+pub read_cause : (told : Option (List File)) (aim : Purpose) (path : Text) (file before f fn a an : ℕ) (o : Outcome)
+    → ReadCause told path file before f fn a an o → FileCause told aim path file before f fn a an o
+read_cause told aim path file before f fn a an outcome.NoMemory cause = tt
+read_cause told aim path file before f fn a an (outcome.ReadFault i) cause = cause
+read_cause told aim path file before f fn a an (outcome.NoFile i) cause = (cause.0, cause.1, refused_bytes told aim path file before (outcome.NoFile i) cause.2)
+read_cause told aim path file before f fn a an (outcome.Limit fault) cause =
+    (size_is_file aim fault cause.0, refused_bytes told aim path file before (outcome.Limit fault) cause.1)
+read_cause told aim path file before f fn a an _ cause = elim cause [ ]

@@ -3,6 +3,7 @@ mod AskedNumbers
 mod DemoLaws
 mod DemoQuery
 mod DemoSums
+mod Encodings
 mod Endings
 mod FileTables
 mod GeneratedBlocks
@@ -10,6 +11,11 @@ mod GeneratedDigits
 mod GeneratedRecords
 mod GeneratedTable
 mod GuessFits
+mod PlanFiles
+mod PlanLines
+mod PlanRuns
+mod Refusals
 mod RequestCauses
 mod TablesRead
 mod TextRefusals
+mod OutputFiles

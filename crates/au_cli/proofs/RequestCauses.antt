@@ -6,32 +6,41 @@ use Rattle.au_typing.specs.declared.fault.TypingFault.{TypingFault}
 use Rattle.au_typing.specs.declared.fault.TypingFault.TheVariants as typing
 use Rattle.au_engine.specs.declared.faults.EngineFault.{EngineFault}
 use Rattle.au_engine.specs.declared.faults.EngineFault.TheVariants as engine
+use Rattle.au_engine.specs.declared.faults.LimitFault.{LimitFault}
 use Rattle.au_engine.specs.declared.faults.LimitFault.TheVariants as limit
 use Rattle.au_engine.specs.Answers.{AnswerCause, IsDefect, Named, statement_defects, typing_fault}
 use Rattle.au_words.specs.Words.{Request}
+use Rattle.au_cli.specs.declared.files.Purpose.TheVariants as purpose
 use Rattle.au_cli.specs.declared.outcome.Outcome.{Outcome}
 use Rattle.au_cli.specs.declared.outcome.Outcome.TheVariants as outcome
 use Rattle.au_cli.specs.Files.{tables_of}
 use Rattle.au_cli.specs.Requests.{ended, given_of, numbers_fit, tables_given, typed_given, unless_refused, statement_given}
 use Rattle.au_cli.specs.Requests.Refusal.{exactly, defects}
-use Rattle.au_cli.specs.Causes.{FilesCause, FilesRefused, Gives, IsFirst, IsRead, RequestCause, StageCause, is_text_fault}
+use Rattle.au_cli.specs.FileCauses.{FilesCause, FilesRefused, is_file_limit}
+use Rattle.au_cli.specs.Causes.{Gives, IsFirst, IsRead, RequestCause, StageCause, is_query_limit, is_text_fault, is_text_limit}
 
 -- what a request that is read is given is what its tables give
 pub given_tables : (r : Request) (files : List File) (read : IsRead r) → given_of r files ≡ tables_given read.statement (tables_of files r.tables)
 given_tables r files read = ap (unless_refused r files) read.allowed ∙ ap (statement_given r files) read.is
 
-files_first : (told : Option (List File)) (r : Request) (o : Outcome) → IsRead r → FilesRefused told r.tables o → IsFirst told r o
+files_first : (told : Option (List File)) (r : Request) (o : Outcome) → IsRead r → FilesRefused told purpose.Query 0 0 r.tables o → IsFirst told r o
 files_first None r o read h = (read, tt)
 files_first (Some files) r o read h = (read, (exactly o, given_tables r files read ∙ ap (tables_given read.statement) h, refl))
 
+limit_first : (told : Option (List File)) (r : Request) (fault : LimitFault) → IsRead r → is_file_limit purpose.Query fault ≡ true → FilesRefused told purpose.Query 0 0 r.tables (outcome.Limit fault)
+    → (is_query_limit fault ≡ true) × StageCause (is_text_limit fault) told r (outcome.Limit fault)
+limit_first told r (limit.FileSize i) read e h = (refl, files_first told r (outcome.Limit (limit.FileSize i)) read h)
+limit_first told r (limit.AllFiles i) read e h = (refl, files_first told r (outcome.Limit (limit.AllFiles i)) read h)
+limit_first told r _ read e h = cc
+
 -- why the files give no tables is why the request is not answered
-pub files_request : (told : Option (List File)) (r : Request) (f fn a an : ℕ) (o : Outcome) → IsRead r → FilesCause told r.tables f fn a an o → RequestCause r told f fn a an o
+pub files_request : (told : Option (List File)) (r : Request) (f fn a an : ℕ) (o : Outcome) → IsRead r → FilesCause told purpose.Query 0 0 r.tables f fn a an o
+    → RequestCause r told f fn a an o
 files_request told r f fn a an outcome.NoMemory read h = tt
-files_request told r f fn a an (outcome.ReadFault i) read h = (h.0, h.1, read)
+files_request told r f fn a an (outcome.ReadFault i) read h = (omega (arith, h.0), h.1, read)
 files_request told r f fn a an (outcome.NoFile i) read h = (h.0, files_first told r (outcome.NoFile i) read h.1)
 files_request told r f fn a an (outcome.Table i fault) read h = (h.0, files_first told r (outcome.Table i fault) read h.1)
-files_request told r f fn a an (outcome.Limit (limit.FileSize i)) read h = files_first told r (outcome.Limit (limit.FileSize i)) read h
-files_request told r f fn a an (outcome.Limit (limit.AllFiles i)) read h = files_first told r (outcome.Limit (limit.AllFiles i)) read h
+files_request told r f fn a an (outcome.Limit fault) read h = limit_first told r fault read h.0 h.1
 files_request told r f fn a an _ read h = elim h [ ]
 
 -- the tables that told files give to a request, and its statement

@@ -14,6 +14,7 @@ use Rattle.au_parse.specs.Queries.{tree_of}
 use Rattle.au_parse.specs.Tree.{QueryTree}
 use Rattle.au_engine.specs.declared.faults.EngineFault.{EngineFault}
 use Rattle.au_engine.specs.declared.faults.EngineFault.TheVariants as engine
+use Rattle.au_engine.specs.declared.faults.LimitFault.{LimitFault}
 use Rattle.au_engine.specs.declared.faults.LimitFault.TheVariants as limit
 use Rattle.au_engine.specs.declared.faults.QueryFault.TheVariants as query
 use Rattle.au_engine.specs.Reading as reading
@@ -21,14 +22,14 @@ use Rattle.au_engine.specs.Reading.{TextCause, greatest_length, refused_text, re
 use Rattle.au_ua.specs.NotPositive.{not_positive}
 use Rattle.au_words.specs.Words.{Request}
 use Rattle.au_words.specs.declared.words.Command.{Command}
-use Rattle.au_words.specs.declared.words.Command.TheVariants.{Answer, Direct, Guess, Ua}
+use Rattle.au_words.specs.declared.words.Command.TheVariants.{Answer, Direct, Guess, Ua, Rewrite}
 use Rattle.au_io.specs.Files.{File}
 use Rattle.au_cli.specs.declared.outcome.Outcome.{Outcome}
 use Rattle.au_cli.specs.declared.outcome.Outcome.TheVariants as outcome
-use Rattle.au_cli.specs.Files.{Text}
-use Rattle.au_cli.specs.Requests.{IsRefusal, Refusal, ended, greatest_files, place_refusal, refused_place, refused_request, refused_statement, text_refusal}
+use Rattle.au_cli.specs.Files.{Text, greatest_files}
+use Rattle.au_cli.specs.Requests.{IsRefusal, Refusal, ended, place_refusal, refused_place, refused_request, refused_statement, text_refusal}
 use Rattle.au_cli.specs.Requests.Refusal.{exactly, no_statement, defects}
-use Rattle.au_cli.specs.Causes.{IsNotPositive, IsRefusedBefore, RequestCause, StageCause, StatementCause, is_text_fault, is_text_limit}
+use Rattle.au_cli.specs.Causes.{IsNotPositive, IsRefusedBefore, RequestCause, StageCause, StatementCause, is_query_limit, is_text_fault, is_text_limit}
 
 -- whether an outcome can come before any file is read
 abbrev is_early : Outcome → Bool
@@ -117,9 +118,14 @@ staged : (stage : Bool) (told : Option (List File)) (r : Request) (o : Outcome) 
 staged true told r o e h = h
 staged false told r o e h = cc
 
+text_is_query : (fault : LimitFault) → is_text_limit fault ≡ true → is_query_limit fault ≡ true
+text_is_query (limit.EncodeColumns columns) e = cc
+text_is_query (limit.PlainRows file) e = cc
+text_is_query _ e = refl
+
 early_cause : (r : Request) (told : Option (List File)) (f fn a an : ℕ) (o : Outcome) → is_early o ≡ true → IsRefusedBefore r o → RequestCause r told f fn a an o
 early_cause r told f fn a an (outcome.Query fault) e h = staged (is_text_fault fault) told r (outcome.Query fault) e h
-early_cause r told f fn a an (outcome.Limit fault) e h = staged (is_text_limit fault) told r (outcome.Limit fault) e h
+early_cause r told f fn a an (outcome.Limit fault) e h = (text_is_query fault e, staged (is_text_limit fault) told r (outcome.Limit fault) e h)
 early_cause r told f fn a an outcome.NoMemory e h = tt
 early_cause r told f fn a an outcome.Done e h = cc
 early_cause r told f fn a an (outcome.Usage fault) e h = cc
@@ -128,6 +134,7 @@ early_cause r told f fn a an outcome.Overflow e h = cc
 early_cause r told f fn a an (outcome.ReadFault i) e h = cc
 early_cause r told f fn a an outcome.WriteFault e h = cc
 early_cause r told f fn a an (outcome.NoFile i) e h = cc
+early_cause r told f fn a an (outcome.Plan fault) e h = cc
 
 -- the cause of the statement is the cause of the request
 pub statement_cause : (r : Request) (told : Option (List File)) (f fn a an : ℕ) (o : Outcome) → StatementCause r o → RequestCause r told f fn a an o
@@ -246,6 +253,7 @@ statement_placed command None refusal at e of = cc
 statement_placed Answer (Some s) refusal at e of = cc
 statement_placed Direct (Some s) refusal at e of = cc
 statement_placed Guess (Some s) refusal at e of = cc
+statement_placed Rewrite (Some s) refusal at e of = cc
 statement_placed Ua (Some s) refusal at e of = record { is_ua = refl; statement = s; is = refl; place = place_is (not_positive s) refusal at e of }
 
 placed_if : (many : Bool) (n : ℕ) (text : Option Refusal) (command : Command) (found : Option QueryTree) (refusal : Refusal) (at : ℕ) → IsTextual text

@@ -3,7 +3,7 @@
 use Rattle.std.specs.Prelude.{ℕ, ◌≡◌, ◌≢◌, ◌<◌, ◌≤◌, ◌⊎◌, Bool, true, false, List, [], length, Option, Some, None, IfSome, Result, Ok, Err, ⊤}
 use Rattle.std.specs.Io.KnownBytes.{Appends}
 use Rattle.au_blocks.specs.declared.faults.TableFault.TheVariants as table
-use Rattle.au_blocks.specs.Read.{table_of}
+use Rattle.au_blocks.specs.Tables.{BlockTable}
 use Rattle.au_io.specs.Counts.{Rose}
 use Rattle.au_io.specs.Files.{AppendsFront, File, bytes_at}
 use Rattle.au_parse.specs.Tree.{QueryTree}
@@ -13,61 +13,21 @@ use Rattle.au_engine.specs.declared.faults.QueryFault.{QueryFault}
 use Rattle.au_engine.specs.declared.faults.QueryFault.TheVariants as query
 use Rattle.au_engine.specs.Reading.{refused_text, statement_of}
 use Rattle.au_engine.specs.Answers.{Named, answer_fits, answer_rows}
+use Rattle.au_engine.specs.Exchange.{encoded_text, plain_text}
 use Rattle.au_print.specs.DemoTexts.{demo_text}
 use Rattle.au_ua.specs.NotPositive.{not_positive}
 use Rattle.au_words.specs.Words.{Asked, Request}
 use Rattle.au_words.specs.Words as words
 use Rattle.au_words.specs.declared.fault.UsageFault.{UsageFault}
 use Rattle.au_words.specs.declared.words.Command.TheVariants.{Ua}
+use Rattle.au_cli.specs.declared.files.Purpose.TheVariants as purpose
 use Rattle.au_cli.specs.declared.outcome.Outcome.{Outcome}
 use Rattle.au_cli.specs.declared.outcome.Outcome.TheVariants as outcome
 use Rattle.au_cli.specs.Demo.{Demonstrates}
-use Rattle.au_cli.specs.Files.{Text, file_table, tables_of}
-use Rattle.au_cli.specs.Requests.{IsAnswer, IsRefusal, Prints, PrintsFront, Refusal, given_of, greatest_files, numbers_fit, refused_request}
-
--- ---- files
-
--- why the bytes of a file are not a table
-abbrev pub BytesCause : ℕ → List ℕ → Outcome → Type 0
-BytesCause file bytes outcome.NoMemory = ⊤
-BytesCause file bytes (outcome.Table i fault) = (i ≡ file) × (fault ≢ table.NoMemory) × (table_of bytes ≡ Err fault)
-BytesCause file bytes _ = ⊥
-
--- a told file has this refusal, behind so many bytes of the files before it
-abbrev pub FileRefused : Option (List File) → Text → ℕ → ℕ → Outcome → Type 0
-FileRefused told path file before o = IfSome told (λ files. file_table file before (bytes_at files path) ≡ Err o)
-
--- why the file of this number at a path gives no table
-abbrev pub FileCause : Option (List File) → Text → ℕ → ℕ → ℕ → ℕ → ℕ → ℕ → Outcome → Type 0
-FileCause told path file before faults faults_now absences absences_now outcome.NoMemory = ⊤
-FileCause told path file before faults faults_now absences absences_now (outcome.ReadFault i) = (i ≡ file) × Rose faults faults_now
-FileCause told path file before faults faults_now absences absences_now (outcome.NoFile i) =
-    (i ≡ file) × Rose absences absences_now × FileRefused told path file before (outcome.NoFile i)
-FileCause told path file before faults faults_now absences absences_now (outcome.Table i fault) =
-    (fault ≢ table.NoMemory) × FileRefused told path file before (outcome.Table i fault)
-FileCause told path file before faults faults_now absences absences_now (outcome.Limit (limit.FileSize i)) =
-    FileRefused told path file before (outcome.Limit (limit.FileSize i))
-FileCause told path file before faults faults_now absences absences_now (outcome.Limit (limit.AllFiles i)) =
-    FileRefused told path file before (outcome.Limit (limit.AllFiles i))
-FileCause told path file before faults faults_now absences absences_now _ = ⊥
-
--- this is the first refusal of the told files
-abbrev pub FilesRefused : Option (List File) → List (Text × Text) → Outcome → Type 0
-FilesRefused told words o = IfSome told (λ files. tables_of files words ≡ Err o)
-
--- why the files of these words, each a name and a path, give no tables
-abbrev pub FilesCause : Option (List File) → List (Text × Text) → ℕ → ℕ → ℕ → ℕ → Outcome → Type 0
-FilesCause told words faults faults_now absences absences_now outcome.NoMemory = ⊤
-FilesCause told words faults faults_now absences absences_now (outcome.ReadFault i) = (i < length words) × Rose faults faults_now
-FilesCause told words faults faults_now absences absences_now (outcome.NoFile i) =
-    Rose absences absences_now × FilesRefused told words (outcome.NoFile i)
-FilesCause told words faults faults_now absences absences_now (outcome.Table i fault) =
-    (fault ≢ table.NoMemory) × FilesRefused told words (outcome.Table i fault)
-FilesCause told words faults faults_now absences absences_now (outcome.Limit (limit.FileSize i)) =
-    FilesRefused told words (outcome.Limit (limit.FileSize i))
-FilesCause told words faults faults_now absences absences_now (outcome.Limit (limit.AllFiles i)) =
-    FilesRefused told words (outcome.Limit (limit.AllFiles i))
-FilesCause told words faults faults_now absences absences_now _ = ⊥
+use Rattle.au_cli.specs.FileCauses.{FileCause}
+use Rattle.au_cli.specs.Files.{Text, file_table, greatest_files}
+use Rattle.au_cli.specs.PlanCauses.{PlanCause, PlanGives}
+use Rattle.au_cli.specs.Requests.{IsAnswer, IsRefusal, Refusal, given_of, numbers_fit, refused_request}
 
 -- ---- a request
 
@@ -115,7 +75,15 @@ pub record IsNotPositive (r : Request) (at : ℕ) : Type 0 where
 abbrev pub is_text_limit : LimitFault → Bool
 is_text_limit (limit.FileSize file) = false
 is_text_limit (limit.AllFiles file) = false
+is_text_limit (limit.EncodeColumns columns) = false
+is_text_limit (limit.PlainRows file) = false
 is_text_limit _ = true
+
+-- whether a query may pass a limit: not those of tables that are encoded or that a plan is run over
+abbrev pub is_query_limit : LimitFault → Bool
+is_query_limit (limit.EncodeColumns columns) = false
+is_query_limit (limit.PlainRows file) = false
+is_query_limit _ = true
 
 abbrev pub StageCause : Bool → Option (List File) → Request → Outcome → Type 0
 StageCause true told r o = IsRefusedBefore r o
@@ -125,7 +93,8 @@ StageCause false told r o = IsFirst told r o
 abbrev pub RequestCause : Request → Option (List File) → ℕ → ℕ → ℕ → ℕ → Outcome → Type 0
 RequestCause r told faults faults_now absences absences_now outcome.NoMemory = ⊤
 RequestCause r told faults faults_now absences absences_now (outcome.Query fault) = StageCause (is_text_fault fault) told r (outcome.Query fault)
-RequestCause r told faults faults_now absences absences_now (outcome.Limit fault) = StageCause (is_text_limit fault) told r (outcome.Limit fault)
+RequestCause r told faults faults_now absences absences_now (outcome.Limit fault) =
+    (is_query_limit fault ≡ true) × StageCause (is_text_limit fault) told r (outcome.Limit fault)
 RequestCause r told faults faults_now absences absences_now (outcome.NoFile i) = Rose absences absences_now × IsFirst told r (outcome.NoFile i)
 RequestCause r told faults faults_now absences absences_now (outcome.ReadFault i) = (i < length r.tables) × Rose faults faults_now × IsRead r
 RequestCause r told faults faults_now absences absences_now (outcome.Table i fault) = (fault ≢ table.NoMemory) × IsFirst told r (outcome.Table i fault)
@@ -143,6 +112,12 @@ DemoCause start blocks _ = ⊥
 abbrev pub DemoText : List Named → QueryTree → List ℕ
 DemoText ts s = demo_text (answer_rows false ts s)
 
+-- ---- encoded rows
+
+-- the table of told files that is encoded, and this holds of it
+abbrev pub Encodes : Option (List File) → Text → (BlockTable → Type 0) → Type 0
+Encodes told path P = IfSome told (λ files. (t : BlockTable) × (file_table purpose.Encode 0 0 (bytes_at files path) ≡ Ok t) × P t)
+
 -- ---- the words
 
 -- a text is what the words ask for
@@ -150,28 +125,30 @@ abbrev pub IsAskedText : Result Asked UsageFault → Option (List File) → List
 IsAskedText (Err fault) told text = ⊥
 IsAskedText (Ok (words.query r)) told text = IsRead r × Gives told r (IsAnswer r text)
 IsAskedText (Ok (words.demo start blocks workers)) told text = Demonstrates start blocks (λ ts s. text ≡ DemoText ts s)
+IsAskedText (Ok (words.encode word)) told text = Encodes told word.1 (λ t. text ≡ encoded_text t)
+IsAskedText (Ok (words.plain path tables)) told text =
+    (length tables ≤ greatest_files) × PlanGives told path tables (λ ts p. text ≡ plain_text ts p)
 
 -- why what the words ask for is not made
 abbrev pub AskedCause : Result Asked UsageFault → Option (List File) → ℕ → ℕ → ℕ → ℕ → Outcome → Type 0
 AskedCause (Err fault) told faults faults_now absences absences_now o = (o ≡ outcome.Usage fault) ⊎ (o ≡ outcome.NoMemory)
 AskedCause (Ok (words.query r)) told faults faults_now absences absences_now o = RequestCause r told faults faults_now absences absences_now o
 AskedCause (Ok (words.demo start blocks workers)) told faults faults_now absences absences_now o = DemoCause start blocks o
+AskedCause (Ok (words.encode word)) told faults faults_now absences absences_now o =
+    FileCause told purpose.Encode word.1 0 0 faults faults_now absences absences_now o
+AskedCause (Ok (words.plain path tables)) told faults faults_now absences absences_now o = PlanCause path tables told faults faults_now absences absences_now o
 
 -- the words ask for `ua`, and its statement is not positive at this place
 abbrev pub AskedNotPositive : Result Asked UsageFault → ℕ → Type 0
 AskedNotPositive (Ok (words.query r)) at = IsNotPositive r at
 AskedNotPositive _ at = ⊥
 
--- what is printed whole, and a front of it
+-- what is asked for is printed whole, and a front of it
 abbrev pub PrintsAsked : Result Asked UsageFault → Option (List File) → Option (List ℕ) → Option (List ℕ) → Type 0
-PrintsAsked (Err fault) told old new = ⊥
-PrintsAsked (Ok (words.query r)) told old new = IsRead r × Gives told r (Prints r old new)
-PrintsAsked (Ok (words.demo start blocks workers)) told old new = Demonstrates start blocks (λ ts s. Appends old new (DemoText ts s))
+PrintsAsked asked told old new = (text : List ℕ) × IsAskedText asked told text × Appends old new text
 
 abbrev pub PrintsAskedFront : Result Asked UsageFault → Option (List File) → Option (List ℕ) → Option (List ℕ) → Type 0
-PrintsAskedFront (Err fault) told old new = ⊥
-PrintsAskedFront (Ok (words.query r)) told old new = IsRead r × Gives told r (PrintsFront r old new)
-PrintsAskedFront (Ok (words.demo start blocks workers)) told old new = Demonstrates start blocks (λ ts s. AppendsFront old new (DemoText ts s))
+PrintsAskedFront asked told old new = (text : List ℕ) × IsAskedText asked told text × AppendsFront old new text
 
 -- what became of a text that was put by one call
 abbrev pub TextPut : ℕ → ℕ → Option (List ℕ) → Option (List ℕ) → List ℕ → Outcome → Type 0

@@ -2,5 +2,9 @@ pub mod Lines
 pub mod Files
 pub mod Demo
 pub mod Requests
+pub mod Plain
+pub mod FileCauses
+pub mod PlanCauses
 pub mod Causes
 pub mod Run
+pub mod Outputs

@@ -9,6 +9,8 @@ use Rattle.au_engine.specs.declared.faults.QueryFault.{QueryFault}
 use Rattle.au_engine.specs.declared.faults.QueryFault.TheVariants as query
 use Rattle.au_engine.specs.declared.faults.LimitFault.{LimitFault}
 use Rattle.au_engine.specs.declared.faults.LimitFault.TheVariants as limit
+use Rattle.au_sqltext.specs.declared.fault.PlanFault.{PlanFault}
+use Rattle.au_sqltext.specs.declared.fault.PlanFault.TheVariants as plan
 use Rattle.au_words.specs.declared.fault.UsageFault.{UsageFault}
 use Rattle.au_words.specs.declared.fault.UsageFault.TheVariants as usage
 
@@ -23,6 +25,7 @@ status_of outcome.WriteFault = 6
 status_of outcome.NoMemory = 7
 status_of (outcome.Limit f) = 8
 status_of (outcome.NoFile i) = 9
+status_of (outcome.Plan f) = 11
 
 abbrev pub query_text : QueryFault → List ℕ
 query_text (query.BadChar n) = codes "unexpected character at byte " ++ decimal n
@@ -59,6 +62,8 @@ limit_text (limit.FromItems n) = codes "FROM items at byte " ++ decimal n
 limit_text (limit.SelectItems n) = codes "SELECT items at byte " ++ decimal n
 limit_text (limit.FileSize n) = codes "size of file " ++ decimal n
 limit_text (limit.AllFiles n) = codes "size of all files at file " ++ decimal n
+limit_text (limit.EncodeColumns n) = decimal n ++ codes " columns to encode"
+limit_text (limit.PlainRows n) = codes "rows of file " ++ decimal n
 
 abbrev pub table_text : TableFault → List ℕ
 table_text table.NoHeader = codes "no header"
@@ -78,6 +83,12 @@ table_text (table.AbsentWithValues r) = codes "values in absent record " ++ deci
 table_text (table.BadTimes r) = codes "bad number of copies in record " ++ decimal r
 table_text table.NoMemory = codes "out of memory"
 
+abbrev pub plan_text : PlanFault → List ℕ
+plan_text plan.Text = codes "not the text of a plan"
+plan_text plan.Deep = codes "too deep"
+plan_text plan.Untyped = codes "tables and kinds do not fit"
+plan_text plan.NoMemory = codes "out of memory"
+
 -- what the line says of an outcome
 abbrev pub outcome_text : Outcome → List ℕ
 outcome_text outcome.Done = []
@@ -90,6 +101,7 @@ outcome_text outcome.WriteFault = codes "the answer cannot be written"
 outcome_text outcome.NoMemory = codes "out of memory"
 outcome_text (outcome.Limit f) = codes "limit: " ++ limit_text f
 outcome_text (outcome.NoFile i) = codes "file " ++ decimal i ++ codes " is not there"
+outcome_text (outcome.Plan f) = codes "plan: " ++ plan_text f
 
 -- the line that is put for an outcome
 abbrev pub fault_text : Outcome → List ℕ

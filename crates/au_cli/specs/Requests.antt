@@ -1,8 +1,7 @@
 -- What a request is given by told files, what it is refused by, and what is printed for it.
 use Rattle.std.specs.Prelude.{ℕ, ◌≡◌, ◌&&◌, Bool, true, false, List, [], ◌∷◌, length, Option, Some, None, option_map, Result, Ok, Err, if◌then◌else◌, nat_lt, ⊤}
 use Rattle.std.specs.Option.{option_or}
-use Rattle.std.specs.Io.KnownBytes.{Appends}
-use Rattle.au_io.specs.Files.{AppendsFront, File}
+use Rattle.au_io.specs.Files.{File}
 use Rattle.au_lex.specs.Tokens.{tokens_of}
 use Rattle.au_parse.specs.Tree.{QueryTree}
 use Rattle.au_typing.specs.declared.fault.TypingFault.{TypingFault}
@@ -21,12 +20,13 @@ use Rattle.au_engine.specs.Reading as reading
 use Rattle.au_engine.specs.Reading.{PlaceIn, refused_text, statement_of}
 use Rattle.au_engine.specs.Answers.{IsDefect, Named, RowsHold, answer_fits, answer_kinds, answer_names, answer_rows, asked_fits, asked_rows, guess_answer, guess_answer_fits, statement_defects}
 use Rattle.au_engine.specs.Certainty.{UaHolds, ua_answer_fits, ua_rows}
+use Rattle.au_engine.specs.Exchange.{IsPlanText}
 use Rattle.au_words.specs.Words.{Request}
 use Rattle.au_words.specs.declared.words.Command.{Command}
-use Rattle.au_words.specs.declared.words.Command.TheVariants.{Answer, Direct, Guess, Ua}
+use Rattle.au_words.specs.declared.words.Command.TheVariants.{Answer, Direct, Guess, Ua, Rewrite}
 use Rattle.au_cli.specs.declared.outcome.Outcome.{Outcome}
 use Rattle.au_cli.specs.declared.outcome.Outcome.TheVariants as outcome
-use Rattle.au_cli.specs.Files.{Text, tables_of}
+use Rattle.au_cli.specs.Files.{Text, greatest_files, tables_of}
 
 -- ---- refusals
 
@@ -53,10 +53,6 @@ IsRefusal (Refusal.defects found) o = (fault : EngineFault) × IsDefect found fa
 abbrev pub text_refusal : Text → reading.Refusal → Refusal
 text_refusal text (reading.Refusal.exactly fault) = Refusal.exactly (ended fault)
 text_refusal text reading.Refusal.no_statement = Refusal.no_statement text
-
--- the greatest number of table words
-abbrev pub greatest_files : ℕ
-greatest_files = 8
 
 -- where a command refuses a statement: `ua` answers positive ones alone
 abbrev pub refused_place : Command → QueryTree → Option ℕ
@@ -108,24 +104,24 @@ abbrev pub rows_text : Bool → List (List ℕ) → List Kind → Bounded → Li
 rows_text false names kinds rows = csv_text names kinds rows
 rows_text true names kinds rows = table_text names kinds rows
 
--- the text that is printed: the bounded answer's, with `answer` from compressed products where that is asked for, or that
--- of the ordinary answer in the guess world, or that of its rows with how often each is certain
-abbrev pub text_by : Command → Request → List Named → QueryTree → List ℕ
-text_by Answer r ts s = rows_text r.table (answer_names ts s) (answer_kinds ts s) (asked_rows r.compress r.combine ts s)
-text_by Direct r ts s = rows_text r.table (answer_names ts s) (answer_kinds ts s) (answer_rows r.combine ts s)
-text_by Guess r ts s = world_text (answer_names ts s) (answer_kinds ts s) (guess_answer ts s)
-text_by Ua r ts s = ua_text (answer_names ts s) (answer_kinds ts s) (ua_rows ts s)
-
-abbrev pub answer_text : Request → List Named → QueryTree → List ℕ
-answer_text r ts s = text_by r.command r ts s
+-- A text is what is printed: the bounded answer's, with `answer` from compressed products where that is asked for, or that
+-- of the ordinary answer in the guess world, or that of its rows with how often each is certain, or that of a plan which
+-- gives the bounded answer's rows over encoded tables.
+abbrev pub IsTextBy : Command → Request → List Named → QueryTree → List ℕ → Type 0
+IsTextBy Answer r ts s text = text ≡ rows_text r.table (answer_names ts s) (answer_kinds ts s) (asked_rows r.compress r.combine ts s)
+IsTextBy Direct r ts s text = text ≡ rows_text r.table (answer_names ts s) (answer_kinds ts s) (answer_rows r.combine ts s)
+IsTextBy Guess r ts s text = text ≡ world_text (answer_names ts s) (answer_kinds ts s) (guess_answer ts s)
+IsTextBy Ua r ts s text = text ≡ ua_text (answer_names ts s) (answer_kinds ts s) (ua_rows ts s)
+IsTextBy Rewrite r ts s text = IsPlanText ts s text
 
 -- whether each number of the answer lies in 128 bits, the printed counts among them: with `ua`, each number of the ordinary
--- answer in the guess world
+-- answer in the guess world. A plan is written whatever its numbers are.
 abbrev pub fit_by : Command → Request → List Named → QueryTree → Bool
 fit_by Answer r ts s = asked_fits r.compress r.combine ts s
 fit_by Direct r ts s = answer_fits r.combine ts s
 fit_by Guess r ts s = guess_answer_fits ts s && counts_fit (world_rows (guess_answer ts s))
 fit_by Ua r ts s = ua_answer_fits ts s
+fit_by Rewrite r ts s = true
 
 abbrev pub numbers_fit : Request → List Named → QueryTree → Bool
 numbers_fit r ts s = fit_by r.command r ts s
@@ -137,25 +133,17 @@ HoldsBy Answer r ts s = RowsHold ts s (asked_rows r.compress r.combine ts s)
 HoldsBy Direct r ts s = RowsHold ts s (answer_rows r.combine ts s)
 HoldsBy Guess r ts s = ⊤
 HoldsBy Ua r ts s = UaHolds ts s
+HoldsBy Rewrite r ts s = ⊤
 
 -- the plan of `answer` may pass over a number that leaves 128 bits, and `ua` makes numbers of its own
 abbrev pub FitsBy : Command → Bool → Type 0
 FitsBy Answer fit = ⊤
 FitsBy Ua fit = ⊤
+FitsBy Rewrite fit = ⊤
 FitsBy _ fit = fit ≡ true
 
 -- a text is the answer's, and the answer holds
 pub record IsAnswer (r : Request) (text : List ℕ) (ts : List Named) (s : QueryTree) : Type 0 where
-  pub is : text ≡ answer_text r ts s
+  pub is : IsTextBy r.command r ts s text
   pub holds : HoldsBy r.command r ts s
   pub fits : FitsBy r.command (numbers_fit r ts s)
-
--- the answer is put whole, and it holds
-pub record Prints (r : Request) (old new : Option (List ℕ)) (ts : List Named) (s : QueryTree) : Type 0 where
-  pub text : Appends old new (answer_text r ts s)
-  pub holds : HoldsBy r.command r ts s
-  pub fits : FitsBy r.command (numbers_fit r ts s)
-
--- a front of it is put
-abbrev pub PrintsFront : Request → Option (List ℕ) → Option (List ℕ) → List Named → QueryTree → Type 0
-PrintsFront r old new ts s = AppendsFront old new (answer_text r ts s)

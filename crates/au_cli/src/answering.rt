@@ -9,11 +9,13 @@ ghost use Rattle.au_ua.specs.UaTexts.{ua_text as ua_text_of};
 ghost use Rattle.au_engine.specs.Answers.{AnswerCause, RowsHold, answer_fits, answer_kinds, answer_names, answer_rows, asked_fits, asked_rows, guess_answer as guess_answer_of, guess_answer_fits, statement_defects};
 ghost use Rattle.au_engine.specs.Compressing.{IsCompression};
 ghost use Rattle.au_engine.specs.Certainty.{UaHolds, ua_answer_fits, ua_rows};
-ghost use Rattle.au_cli.specs.Requests.{HoldsBy, FitsBy, fit_by, refused_place, rows_text, text_by};
+ghost use Rattle.au_cli.specs.Requests.{FitsBy, HoldsBy, IsTextBy, fit_by, refused_place, rows_text};
 ghost use Rattle.au_words.specs.CommandLine.{seen_request};
 
 use au_blocks::Table;
-use au_engine::{EngineFault, Options, answer, answer_directly, guess_answer, ua_answer};
+use au_engine::{
+    EngineFault, Options, answer, answer_directly, guess_answer, rewritten_text, ua_answer,
+};
 use au_expr::EvalFault;
 use au_par::Gate;
 use au_parse::Statement;
@@ -38,7 +40,7 @@ pub(crate) fn answer_text<R: Threads + Sync, G: Gate + Sync>(
     requires whole { WholeQuery (statement_tree statement.now) }
     requires taken { refused_place request.now.command (statement_tree statement.now) ≡ None }
     ensures typed { OnOk result (statement_defects tables.now (statement_tree statement.now) ≡ []) }
-    ensures text { IfOk result (λ t. t.items ≡ text_by request.now.command (seen_request request.now) tables.now (statement_tree statement.now)) }
+    ensures text { IfOk result (λ t. IsTextBy request.now.command (seen_request request.now) tables.now (statement_tree statement.now) t.items) }
     ensures holds { OnOk result (HoldsBy request.now.command (seen_request request.now) tables.now (statement_tree statement.now)) }
     ensures fits { OnOk result (FitsBy request.now.command (fit_by request.now.command (seen_request request.now) tables.now (statement_tree statement.now))) }
     ensures refused { IfErr result (AnswerCause (statement_defects tables.now (statement_tree statement.now)) (fit_by request.now.command (seen_request request.now) tables.now (statement_tree statement.now))) }
@@ -55,6 +57,7 @@ pub(crate) fn answer_text<R: Threads + Sync, G: Gate + Sync>(
         Command::Direct => direct_text(alloc, statement, tables, request.combine, request.table),
         Command::Guess => guess_world_text(alloc, statement, tables),
         Command::Ua => certain_text(alloc, statement, tables),
+        Command::Rewrite => rewritten_text(alloc, statement, tables),
     }
 }
 

@@ -11,15 +11,20 @@
 
 mod answering;
 mod demo;
+mod encoding;
 mod files;
 mod line;
 mod outcome;
+mod plain;
 mod reading;
 mod requests;
+mod theorems;
 mod top;
 
 pub use au_engine::{LimitFault, QueryFault};
+pub use au_sqltext::PlanFault;
 pub use au_words::UsageFault;
 pub use line::fault_line;
 pub use outcome::Outcome;
+pub use theorems::outputs_are_answered;
 pub use top::run;

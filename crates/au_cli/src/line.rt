@@ -5,6 +5,7 @@ ghost use Rattle.au_cli.specs.Lines.{fault_text};
 use crate::outcome::Outcome;
 use au_blocks::TableFault;
 use au_engine::{LimitFault, QueryFault};
+use au_sqltext::PlanFault;
 use au_value::NoMemory;
 use au_words::UsageFault;
 use std::alloc::Global;
@@ -98,6 +99,8 @@ impl fmt::Display for LimitText {
             LimitFault::SelectItems(at) => write!(f, "SELECT items at byte {at}"),
             LimitFault::FileSize(file) => write!(f, "size of file {file}"),
             LimitFault::AllFiles(file) => write!(f, "size of all files at file {file}"),
+            LimitFault::EncodeColumns(columns) => write!(f, "{columns} columns to encode"),
+            LimitFault::PlainRows(file) => write!(f, "rows of file {file}"),
         }
     }
 }
@@ -140,6 +143,26 @@ impl fmt::Display for TableText {
     }
 }
 
+// The fault of a plan, as it is printed.
+#[derive(Clone, Copy)]
+struct PlanText(PlanFault);
+
+impl fmt::Display for PlanText {
+    ghost use Rattle.std.specs.Prelude.{Some};
+    ghost use Rattle.au_cli.specs.Lines.{plan_text};
+
+    ghost output = { λ fault. Some (plan_text fault.0) };
+
+    fn fmt<W: fmt::Write>(&self, f: &mut fmt::Formatter<W>) -> fmt::Result {
+        match self.0 {
+            PlanFault::Text => f.write_str("not the text of a plan"),
+            PlanFault::Deep => f.write_str("too deep"),
+            PlanFault::Untyped => f.write_str("tables and kinds do not fit"),
+            PlanFault::NoMemory => f.write_str("out of memory"),
+        }
+    }
+}
+
 impl fmt::Display for Outcome {
     ghost use Rattle.std.specs.Prelude.{Some};
     ghost use Rattle.au_cli.specs.Lines.{outcome_text};
@@ -158,6 +181,7 @@ impl fmt::Display for Outcome {
             Outcome::NoMemory => f.write_str("out of memory"),
             Outcome::Limit(fault) => write!(f, "limit: {}", LimitText(fault)),
             Outcome::NoFile(file) => write!(f, "file {file} is not there"),
+            Outcome::Plan(fault) => write!(f, "plan: {}", PlanText(fault)),
         }
     }
 }

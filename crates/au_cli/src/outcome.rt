@@ -3,9 +3,10 @@ ghost use Rattle.std.specs.Prelude.{◌≡◌};
 
 use au_blocks::TableFault;
 use au_engine::{LimitFault, QueryFault};
+use au_sqltext::PlanFault;
 use au_words::UsageFault;
 
-/// How a run ends. Files are numbered from 0, in the order of their words.
+/// How a run ends. Files are numbered from 0, in the order of their words; that of a plan is one of them.
 #[derive(Clone, Copy, Debug, PartialEq, Eq)]
 pub enum Outcome {
     /// The answer is put.
@@ -37,6 +38,9 @@ pub enum Outcome {
 
     /// This file is not there.
     NoFile(usize),
+
+    /// The plan is refused: its text, or over the tables that are given.
+    Plan(PlanFault),
 }
 
 impl Outcome {
@@ -57,6 +61,7 @@ impl Outcome {
             Outcome::NoMemory => 7,
             Outcome::Limit(_) => 8,
             Outcome::NoFile(_) => 9,
+            Outcome::Plan(_) => 11,
         }
     }
 }

@@ -9,7 +9,7 @@ ghost use Rattle.au_cli.specs.Causes.{Gives, IsRead, IsRefusedBefore, RequestCau
 ghost use Rattle.au_cli.specs.Requests.{IsAnswer, ended as ended_of, refused_place as refused_place_of, refused_request};
 
 use crate::answering::answer_text;
-use crate::files::read_tables;
+use crate::files::{MAX_FILES, Purpose, read_tables};
 use crate::outcome::Outcome;
 use au_engine::{EngineFault, LimitFault, QueryFault, read_query};
 use au_io::Shelf;
@@ -19,9 +19,6 @@ use au_ua::not_positive;
 use au_words::{Command, Request};
 use std::alloc::Global;
 use std::thread::Threads;
-
-// The greatest number of table words.
-const MAX_FILES: usize = 8;
 
 /// The text of what a request asks for, or the outcome that is in its place.
 pub(crate) fn request_text<R: Threads + Sync, S: Shelf, G: Gate + Sync>(
@@ -71,7 +68,7 @@ fn refused_place(command: Command, statement: &Statement) -> Option<usize>
 {
     match command {
         Command::Ua => not_positive(statement),
-        Command::Answer | Command::Direct | Command::Guess => None,
+        Command::Answer | Command::Direct | Command::Guess | Command::Rewrite => None,
     }
 }
 
@@ -95,7 +92,8 @@ fn statement_text<R: Threads + Sync, S: Shelf, G: Gate + Sync>(
     ensures files { S.files shelf.new ≡ S.files shelf.old }
     ensures counts { (S.faults shelf.old ≤ S.faults shelf.new) × (S.absences shelf.old ≤ S.absences shelf.new) }
 {
-    let tables = match read_tables(alloc, shelf, request.tables.as_slice()) {
+    let words = request.tables.as_slice();
+    let tables = match read_tables(alloc, shelf, Purpose::Query, 0, 0, words) {
         Ok(tables) => tables,
         Err(outcome) => return Err(outcome),
     };

@@ -13,8 +13,10 @@ ghost use Rattle.au_cli.specs.Run.{CanAnswer, Yields, first_refusal, refused_bef
 ghost use Rattle.au_cli.specs.Demo.{Demonstrates};
 
 use crate::demo::demonstration;
+use crate::encoding::file_text;
 use crate::line::fault_line;
 use crate::outcome::Outcome;
+use crate::plain::plain_text;
 use crate::requests::request_text;
 use au_expr::EvalFault;
 use au_io::{PutFault, Shelf, Sink};
@@ -132,6 +134,10 @@ fn line_text<R: Threads + Sync, S: Shelf, G: Gate + Sync>(
                 workers,
             },
         ) => demo_text(rt, alloc, start, blocks, workers, gate),
+        Ok(Asked::Encode(word)) => file_text(alloc, shelf, &word),
+        Ok(Asked::Plain { plan, tables }) => {
+            plain_text(rt, alloc, shelf, plan, tables.as_slice(), gate)
+        }
         Err(WordsFault::Usage(fault)) => Err(Outcome::Usage(fault)),
         Err(WordsFault::NoMemory) => Err(Outcome::NoMemory),
     }

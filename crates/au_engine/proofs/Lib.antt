@@ -1,11 +1,16 @@
 mod AskedAnswers
 mod CompressedPairs
+pub mod EncodedPlans
+mod GuessRows
+mod GuessSizes
 mod GuessTables
 mod HeldRows
 mod Materialized
 mod Operators
+mod OrderedRows
 mod OtherTables
 pub mod PairTables
+mod PlainRuns
 mod PlanRuns
 mod PlanSteps
 mod PositiveTrees
@@ -18,3 +23,12 @@ mod Told
 mod TableRelations
 mod TypedWidths
 mod WholePlans
+mod RecordTexts
+mod FieldValues
+mod NumberedColumns
+mod PlainRecords
+mod PlainTables
+pub mod WritableRows
+pub mod ReadValues
+pub mod GuessCounts
+pub mod EncodedGuesses

@@ -3,4 +3,7 @@ pub mod Answers
 pub mod Certainty
 pub mod Compressing
 pub mod Rewriting
+pub mod Exchange
+pub mod PlanAnswers
 pub mod Stages
+pub mod EncodedTables

@@ -26,6 +26,13 @@ pub enum LimitFault {
 
     /// With this file all files have more than 16,777,216 bytes.
     AllFiles(usize),
+
+    /// The table whose rows are to be encoded has so many columns, more than 20. The engine never gives it.
+    EncodeColumns(usize),
+
+    /// The guess rows of this file's table are too many to be made: g of them with c columns, where g * (c + 1) exceeds
+    /// 16,777,216. The engine never gives it.
+    PlainRows(usize),
 }
 
 /// Why a query is refused, with the byte of its text at which the fault stands.

@@ -4,7 +4,8 @@
 //! plans, which are run stage by stage over the encoded rows of the tables, and the rows of the last are decoded and
 //! shown. [`answer_directly`] gives the same rows by the generic evaluator, [`guess_answer`] those of the guess world, and
 //! [`ua_answer`] these with how often each is certain. [`rewritten`] gives the one plan of a whole tree, which another
-//! engine may run. docs/ARCHITECTURE.md shows the road.
+//! engine may run: [`rewritten_text`] is its text, [`encoded_text`] that of the encoded rows which it reads, and
+//! [`plain_answer`] runs such a plan over the rows of tables in the guess world. docs/ARCHITECTURE.md shows the road.
 //!
 //! ```text
 //! let statement = read_query(alloc, "SELECT city FROM orders")?;
@@ -20,8 +21,12 @@ mod certainty;
 mod compressing;
 mod encoded;
 mod faults;
+mod guess_rows;
+mod guess_size;
 mod guessing;
 mod options;
+mod ordered;
+mod plain;
 mod reading;
 mod rewriting;
 mod runner;
@@ -30,12 +35,21 @@ mod stage;
 mod staged;
 mod steps;
 mod tables;
+mod texts;
+mod theorems;
 mod typing;
 
 pub use answering::{answer, answer_directly};
 pub use certainty::{UaAnswer, ua_answer};
 pub use faults::{EngineFault, LimitFault, QueryFault};
+pub use guess_size::fits_plain;
 pub use guessing::{GuessAnswer, guess_answer};
 pub use options::Options;
+pub use plain::{PlainFault, plain_answer};
 pub use reading::read_query;
 pub use rewriting::rewritten;
+pub use texts::{encoded_text, rewritten_text};
+pub use theorems::{
+    encoded_tables_are_read, encoded_tables_hold, plans_answer, read_rows_are_few,
+    read_tables_are_written, texts_are_read,
+};

@@ -14,6 +14,8 @@
 #[cfg(test)]
 mod answer_tests;
 #[cfg(test)]
+mod exchange_tests;
+#[cfg(test)]
 mod fault_tests;
 #[cfg(test)]
 mod files;

@@ -123,3 +123,60 @@ pub(crate) fn answer_of<R: Threads + Sync>(
     let shelf = shelf_for(alloc, line, Vec::new(alloc))?;
     ran(rt, alloc, line, shelf, Vec::new(alloc), Vec::new(alloc))
 }
+
+// What a run puts on `out`, as bytes.
+fn put_by<R: Threads + Sync>(
+    rt: &R,
+    alloc: Global,
+    line: &str,
+    mut shelf: MemShelf,
+) -> Result<Vec<u8>, Fail> {
+    let words = words_of(alloc, line)?;
+    let mut out = MemSink::new(alloc, Vec::new(alloc));
+    let mut err = MemSink::new(alloc, Vec::new(alloc));
+    let words = words.as_slice();
+    let _ = run(rt, alloc, words, &mut shelf, &mut out, &mut err, NoGate);
+    Ok(out.bytes().to_vec(alloc)?)
+}
+
+// The words of tables that stand under their files' names without the ending, apart by `|`.
+fn table_words(alloc: Global, names: &str) -> Result<String, Fail> {
+    let mut words = String::new(alloc);
+    for file in names.split('|') {
+        let name = file.strip_suffix(".csv").unwrap_or(file);
+        words.push_str(format!(in alloc; "|{name}={file}")?.as_str())?;
+    }
+    Ok(words)
+}
+
+/// How the plan of a query over tables ends that is run over these tables encoded, and what it puts. The tables' files
+/// stand apart by `|`.
+pub(crate) fn turned<R: Threads + Sync>(
+    rt: &R,
+    alloc: Global,
+    query: &str,
+    names: &str,
+) -> Result<String, Fail> {
+    let tables = table_words(alloc, names)?;
+    let mut files = Vec::new(alloc);
+    for file in names.split('|') {
+        let line = format!(in alloc; "encode|t={file}")?;
+        let shelf = shelf_for(alloc, line.as_str(), Vec::new(alloc))?;
+        let encoded = put_by(rt, alloc, line.as_str(), shelf)?;
+        files.push((Word::new(String::from_str(alloc, file)?), encoded))?;
+    }
+    let line = format!(in alloc; "rewrite|{query}{tables}")?;
+    let shelf = shelf_for(alloc, line.as_str(), Vec::new(alloc))?;
+    let plan = put_by(rt, alloc, line.as_str(), shelf)?;
+    files.push((Word::new(String::from_str(alloc, "plan.sql")?), plan))?;
+    let shelf = MemShelf::new(alloc, files, Vec::new(alloc));
+    let line = format!(in alloc; "plain|plan.sql{tables}")?;
+    ran(
+        rt,
+        alloc,
+        line.as_str(),
+        shelf,
+        Vec::new(alloc),
+        Vec::new(alloc),
+    )
+}

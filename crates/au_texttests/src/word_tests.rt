@@ -73,7 +73,14 @@ answer|--compress=0|Q|t=a.csv| -> Err(Usage(Words))
 answer|--compress=1001|Q|t=a.csv| -> Err(Usage(Words))
 direct|--workers=2|Q|t=a.csv| -> Err(Usage(Words))
 ua|--combine|Q|t=a.csv| -> Err(Usage(Words))
-encode|t=a.csv| -> Err(Usage(Words))";
+encode| -> Err(Usage(Words))
+encode|t=a.csv|u=b.csv| -> Err(Usage(Words))
+encode|--table|t=a.csv| -> Err(Usage(Words))
+rewrite|Q| -> Err(Usage(Words))
+rewrite|--combine|Q|t=a.csv| -> Err(Usage(Words))
+plain|p.sql| -> Err(Usage(Words))
+plain|--workers=2|p.sql|t=a.csv| -> Err(Usage(Words))
+rewrites|Q|t=a.csv| -> Err(Usage(Words))";
 
 const TABLE_WORDS: &str = "answer|SELECT * FROM t|t| -> Err(Usage(BadTable(0)))
 answer|SELECT * FROM t|=a.csv| -> Err(Usage(BadTable(0)))
@@ -83,7 +90,12 @@ answer|SELECT * FROM t|t=a.csv|T=b.csv| -> Err(Usage(SameTable(0, 1)))
 answer|SELECT * FROM t|t=a|T=b|u| -> Err(Usage(BadTable(2)))
 answer|SELECT * FROM t|a=1|b=2|B=3|A=4| -> Err(Usage(SameTable(1, 2)))
 answer|SELECT * FROM t|a=1|b=2|A=3|a=4| -> Err(Usage(SameTable(0, 2)))
-answer|answer|a=b=c|--table|B=|=| -> Err(Usage(BadTable(1)))";
+answer|answer|a=b=c|--table|B=|=| -> Err(Usage(BadTable(1)))
+encode|t| -> Err(Usage(BadTable(0)))
+encode|t=| -> Err(Usage(BadTable(0)))
+rewrite|Q|t=a.csv|u| -> Err(Usage(BadTable(1)))
+plain|p=1|=a.csv| -> Err(Usage(BadTable(0)))
+plain|p.sql|t=a.csv|T=b.csv| -> Err(Usage(SameTable(0, 1)))";
 
 // Options stand anywhere, a table word is cut at its first equal sign, and a command's name may be a query.
 const ASKED: &str =
@@ -98,7 +110,10 @@ demo|0|1| -> Ok(Demo { start: 0, blocks: 1, workers: 1 })
 demo|1|3| -> Ok(Demo { start: 1, blocks: 3, workers: 1 })
 answer|--workers=64|Q|t=a.csv|--compress=1000| -> Ok(Query(Request { command: Answer, table: false, combine: false, workers: 64, compress: Some(1000), query: "Q", tables: [TableWord { name: "t", path: "a.csv" }] }))
 demo|4294967295|100000| -> Ok(Demo { start: 4294967295, blocks: 100000, workers: 1 })
-demo|1|3|--workers=7| -> Ok(Demo { start: 1, blocks: 3, workers: 7 })"#;
+demo|1|3|--workers=7| -> Ok(Demo { start: 1, blocks: 3, workers: 7 })
+rewrite|Q|t=a.csv| -> Ok(Query(Request { command: Rewrite, table: false, combine: false, workers: 1, compress: None, query: "Q", tables: [TableWord { name: "t", path: "a.csv" }] }))
+encode|t=a.csv| -> Ok(Encode(TableWord { name: "t", path: "a.csv" }))
+plain|p=1|t=a.csv|U=b| -> Ok(Plain { plan: "p=1", tables: [TableWord { name: "t", path: "a.csv" }, TableWord { name: "U", path: "b" }] })"#;
 
 #[test]
 fn words_of_no_form(rt: HostRuntime) -> Result<(), Fail> {

@@ -4,7 +4,7 @@ use Rattle.std.specs.Prelude.{is_some, nat_lt, option_and_then, slice_get, slice
 use Rattle.std.specs.List.{list_all}
 use Rattle.std.specs.Str.Parse.{digits_value}
 use Rattle.std.proofs.lemmas.Bool.{and_parts, true≢false}
-use Rattle.au_words.specs.Words.{Asked, Text, all_options, asked_by, asked_of, demo, demo_of, is_form, is_number, is_taken, number_of, positionals, unless, value_of, verb_of}
+use Rattle.au_words.specs.Words.{Asked, Text, all_options, asked_by, asked_of, demo, demo_of, first_word, is_form, is_number, is_taken, number_of, positionals, unless, value_of, verb_of}
 use Rattle.au_words.specs.CommandLine.{HasForm, IsUsage}
 use Rattle.au_words.specs.declared.fault.UsageFault.{UsageFault}
 use Rattle.au_words.specs.declared.fault.UsageFault.TheVariants.{Words}
@@ -80,9 +80,23 @@ pub several_query : (command : _) → Several (verb.Query command)
 several_query command [] h = absurd h
 several_query command (word ∷ rest) h = more_than_one _ (and_parts _ _ h.1).1
 
+pub several_plain : Several verb.Plain
+several_plain [] h = absurd h
+several_plain (word ∷ rest) h = more_than_one _ (and_parts _ _ h.1).1
+
 pub two_words : Several verb.Demo
 two_words [] h = absurd h
 two_words (word ∷ rest) h = let two : length (positionals rest) ≡ 2 = just 2 (length (positionals rest)) (and_parts _ _ h.1).1 in omega (arith, two)
+
+only : (words : List Text) → length words ≡ 1 → words ≡ slice_index_or words 0 [] ∷ []
+only [] h = absurd (omega (arith, h))
+only (word ∷ []) h = refl
+only (word ∷ next ∷ words) h = absurd (omega (arith, h))
+
+-- the only positional word
+pub one_word : (words : List Text) → HasForm verb.Encode words → positionals (drop 1 words) ≡ first_word (drop 1 words) ∷ []
+one_word [] h = absurd h
+one_word (word ∷ rest) h = only (positionals rest) (just 1 _ (and_parts _ _ h.1).1)
 
 -- the second of two or more
 pub second : (words : List Text) → 1 < length words → slice_get (drop 1 words) 0 ≡ Some (slice_index_or (drop 1 words) 0 [])

@@ -6,7 +6,7 @@ use Rattle.std.proofs.lemmas.Bool.{and_parts, true≢false}
 use Rattle.std.proofs.lemmas.List.Sums.{split_at_first, prefix_len_stops}
 use Rattle.std.proofs.lemmas.Slice.Eq.{bytes_eq-Decides}
 use Rattle.au_words.specs.Words.{Text, all_options, is_equal_sign, is_number, is_option, is_taken, is_written, name_part, options_of, value_part}
-use Rattle.au_words.specs.declared.words.Command.TheVariants.{Answer, Direct, Guess, Ua}
+use Rattle.au_words.specs.declared.words.Command.TheVariants.{Answer, Direct, Guess, Ua, Rewrite}
 use Rattle.au_words.specs.declared.words.form.Verb.{Verb}
 use Rattle.au_words.specs.declared.words.form.Verb.TheVariants as verb
 
@@ -92,8 +92,11 @@ taken_widely (verb.Query Direct) word h =
     wider (is_written (codes "--table", None) word) (is_written (codes "--combine", None) word) (is_written (codes "--workers", Some 64) word) (is_written (codes "--compress", Some 1000) word) (is_option word) h
 taken_widely (verb.Query Guess) word h = no_option (any word) (is_option word) h
 taken_widely (verb.Query Ua) word h = no_option (any word) (is_option word) h
+taken_widely (verb.Query Rewrite) word h = no_option (any word) (is_option word) h
 taken_widely verb.Demo word h =
     third (is_written (codes "--table", None) word) (is_written (codes "--combine", None) word) (is_written (codes "--workers", Some 64) word) (is_written (codes "--compress", Some 1000) word) (is_option word) h
+taken_widely verb.Encode word h = no_option (any word) (is_option word) h
+taken_widely verb.Plain word h = no_option (any word) (is_option word) h
 
 pub all_taken_widely : (v : Verb) (words : List Text) → list_all (is_taken (options_of v)) words ≡ true → list_all (is_taken all_options) words ≡ true
 all_taken_widely v [] h = refl

@@ -14,7 +14,7 @@ use Rattle.au_words.specs.Words.{Text, first_word, is_form, later_words, positio
 use Rattle.au_words.specs.Words as words
 use Rattle.au_words.specs.declared.fault.UsageFault.{UsageFault}
 use Rattle.au_words.specs.declared.words.Asked.{Asked}
-use Rattle.au_words.specs.declared.words.Asked.TheVariants.{Query, Demo}
+use Rattle.au_words.specs.declared.words.Asked.TheVariants.{Query, Demo, Encode, Plain}
 use Rattle.au_words.specs.declared.words.Request.{Request}
 use Rattle.au_words.specs.declared.words.TableWord.{TableWord}
 use Rattle.au_words.specs.declared.words.WordsFault.{WordsFault}
@@ -46,6 +46,8 @@ seen_request r = record {
 abbrev pub seen : Asked → words.Asked
 seen (Query r) = words.query (seen_request r)
 seen (Demo start blocks workers) = words.demo start blocks workers
+seen (Encode table) = words.encode (seen_table table)
+seen (Plain plan tables) = words.plain plan.now (map seen_table tables.items)
 
 -- want of memory, or a fault of the words of which this holds
 abbrev pub IsUsage : WordsFault → (UsageFault → Type 0) → Type 0
@@ -96,7 +98,7 @@ with_commands (name ∷ names) line = with_commands names (with_subcommand line 
 
 abbrev pub command_names : List Text
 command_names =
-    codes "answer" ∷ codes "direct" ∷ codes "guess" ∷ codes "ua" ∷ codes "demo" ∷ []
+    codes "answer" ∷ codes "direct" ∷ codes "guess" ∷ codes "ua" ∷ codes "demo" ∷ codes "rewrite" ∷ codes "encode" ∷ codes "plain" ∷ []
 
 abbrev pub audb : App
 audb = with_commands command_names (on_top bare (new_app (codes "audb")))

@@ -10,7 +10,7 @@ use Rattle.std.specs.Str.Parse.{digits_value}
 use Rattle.au_words.specs.declared.fault.UsageFault.{UsageFault}
 use Rattle.au_words.specs.declared.fault.UsageFault.TheVariants.{Words, BadTable, SameTable}
 use Rattle.au_words.specs.declared.words.Command.{Command}
-use Rattle.au_words.specs.declared.words.Command.TheVariants.{Answer, Direct, Guess, Ua}
+use Rattle.au_words.specs.declared.words.Command.TheVariants.{Answer, Direct, Guess, Ua, Rewrite}
 use Rattle.au_words.specs.declared.words.form.Verb.{Verb}
 use Rattle.au_words.specs.declared.words.form.Verb.TheVariants as verb
 
@@ -116,10 +116,13 @@ pub record Request : Type 0 where
   pub query : Text
   pub tables : List (Text × Text)
 
--- a query, or a demonstration of so many blocks, by so many workers
+-- a query; a demonstration of so many blocks, by so many workers; a table with its rows encoded; or the rows of the plan
+-- in a file, over tables
 pub data Asked : Type 0 where
   query : Request → Asked
   demo : ℕ → ℕ → ℕ → Asked
+  encode : Text × Text → Asked
+  plain : Text → List (Text × Text) → Asked
 
 -- the thing that is asked, unless something is wrong
 abbrev pub unless : Option UsageFault → Asked → Result Asked UsageFault
@@ -136,6 +139,9 @@ verb_of word =
     else if bytes_eq word (codes "guess") then Some (verb.Query Guess)
     else if bytes_eq word (codes "ua") then Some (verb.Query Ua)
     else if bytes_eq word (codes "demo") then Some verb.Demo
+    else if bytes_eq word (codes "rewrite") then Some (verb.Query Rewrite)
+    else if bytes_eq word (codes "encode") then Some verb.Encode
+    else if bytes_eq word (codes "plain") then Some verb.Plain
     else None
 
 abbrev pub options_of : Verb → List OptionWord
@@ -144,9 +150,10 @@ options_of (verb.Query Direct) = (codes "--table", None) ∷ (codes "--combine",
 options_of verb.Demo = (codes "--workers", Some 64) ∷ []
 options_of _ = []
 
--- whether there are so many positional words as a command takes: two numbers, or a query and tables
+-- whether there are so many positional words as a command takes: two numbers, a table, or a first word and tables
 abbrev pub is_count : Verb → ℕ → Bool
 is_count verb.Demo n = n == 2
+is_count verb.Encode n = n == 1
 is_count _ n = nat_lt 1 n
 
 abbrev pub is_form : Verb → List Text → Bool
@@ -180,6 +187,8 @@ abbrev pub asked_by : Verb → List Text → Result Asked UsageFault
 asked_by (verb.Query command) words = unless (table_fault (later_words words)) (query (request_of command words))
 asked_by verb.Demo words =
     demo_of (unwrap_or (number_of (codes "--workers") words) 1) (first_word words) (slice_index_or (later_words words) 0 [])
+asked_by verb.Encode words = unless (table_fault (positionals words)) (encode (table_of (first_word words)))
+asked_by verb.Plain words = unless (table_fault (later_words words)) (plain (first_word words) (map table_of (later_words words)))
 
 -- ---- all words
 

@@ -1,4 +1,4 @@
-//! The words of a command line: which command is asked for, its options, and its query and tables.
+//! The words of a command line: which command is asked for, its options, and its query, plan and tables.
 //!
 //! The words are read with clap. What clap takes beyond the form that docs/FORMATS.md gives, as an option twice or a
 //! number with a leading zero, is refused by a [`UsageFault`].
@@ -8,6 +8,8 @@
 //! match line.read(alloc)? {
 //!     Asked::Query(request) => answer(request),
 //!     Asked::Demo { start, blocks, workers } => demo(start, blocks, workers),
+//!     Asked::Encode(table) => encode(table),
+//!     Asked::Plain { plan, tables } => plain(plan, tables),
 //! }
 //! ```
 #![tactic(auto)]

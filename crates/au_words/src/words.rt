@@ -29,6 +29,9 @@ pub enum Command {
 
     /// The rows of the selected-guess world, each with how often it is certain.
     Ua,
+
+    /// The text of the rewritten plan.
+    Rewrite,
 }
 
 /// A table word: a table's name and the path of its file.
@@ -82,6 +85,18 @@ pub enum Asked<'a> {
 
         /// How many workers a join is split among, 1 to 64.
         workers: usize,
+    },
+
+    /// A table with its rows encoded.
+    Encode(TableWord<'a>),
+
+    /// The rows of a plan that is read from a file.
+    Plain {
+        /// The path of the plan's file.
+        plan: &'a str,
+
+        /// The tables, in the order of their words.
+        tables: Vec<TableWord<'a>>,
     },
 }
 

@@ -11,8 +11,8 @@ use crate::fault::UsageFault;
 use crate::words::form::{MAX_COMPRESS, MAX_WORKERS, Verb, is_form, verb_of};
 use crate::words::numbers::read_number;
 use crate::words::reader::{has_flag, matches_of, number_at, text_at, texts_at};
-use crate::words::table_words::read_tables;
-use crate::words::{Asked, Command, Request, WordsFault};
+use crate::words::table_words::{read_table, read_tables};
+use crate::words::{Asked, Command, Request, TableWord, WordsFault};
 use clap::ArgMatches;
 use std::alloc::Global;
 
@@ -101,6 +101,58 @@ fn ask_demo<'a>(alloc: Global, words: &'a [&'a str]) -> Result<Asked<'a>, WordsF
     })
 }
 
+// The path of a plan's file, and tables.
+#[derive(Drop)]
+struct Planned<'a> {
+    plan: &'a str,
+    tables: Vec<TableWord<'a>>,
+}
+
+// Reads the words of `plain`, of their form.
+fn read_plain<'a>(alloc: Global, words: &'a [&'a str]) -> Result<Planned<'a>, WordsFault>
+    requires { HasForm verb.Plain (texts words.now) }
+    ensures fine { IfOk result (λ r. table_fault (later_words (drop 1 (texts words.entry.now))) ≡ None) }
+    ensures plan { IfOk result (λ r. r.plan.now ≡ first_word (drop 1 (texts words.entry.now))) }
+    ensures tables { IfOk result (λ r. map seen_table r.tables.items ≡ map table_of (later_words (drop 1 (texts words.entry.now)))) }
+    ensures refused { IfErr result (λ e. IsUsage e (λ fault. table_fault (later_words (drop 1 (texts words.entry.now))) ≡ Some fault)) }
+{
+    let Ok(matches) = matches_of(alloc, Verb::Plain, words) else {
+        return Err(WordsFault::NoMemory);
+    };
+    let plan = text_at(&matches, "FIRST");
+    match read_tables(alloc, texts_at(&matches, "LATER")) {
+        Ok(tables) => Ok(Planned { plan, tables }),
+        Err(fault) => Err(fault),
+    }
+}
+
+// What the words of `plain` ask for.
+fn ask_plain<'a>(alloc: Global, words: &'a [&'a str]) -> Result<Asked<'a>, WordsFault>
+    requires { HasForm verb.Plain (texts words.now) }
+    ensures asked { IfOk result (λ asked. asked_by verb.Plain (drop 1 (texts words.entry.now)) ≡ Ok (seen asked)) }
+    ensures refused { IfErr result (λ e. IsUsage e (λ fault. asked_by verb.Plain (drop 1 (texts words.entry.now)) ≡ Err fault)) }
+{
+    match read_plain(alloc, words) {
+        Ok(Planned { plan, tables }) => Ok(Asked::Plain { plan, tables }),
+        Err(fault) => Err(fault),
+    }
+}
+
+// What the words of `encode` ask for.
+fn ask_encode<'a>(alloc: Global, words: &'a [&'a str]) -> Result<Asked<'a>, WordsFault>
+    requires { HasForm verb.Encode (texts words.now) }
+    ensures asked { IfOk result (λ asked. asked_by verb.Encode (drop 1 (texts words.entry.now)) ≡ Ok (seen asked)) }
+    ensures refused { IfErr result (λ e. IsUsage e (λ fault. asked_by verb.Encode (drop 1 (texts words.entry.now)) ≡ Err fault)) }
+{
+    let Ok(matches) = matches_of(alloc, Verb::Encode, words) else {
+        return Err(WordsFault::NoMemory);
+    };
+    match read_table(text_at(&matches, "FIRST")) {
+        Ok(table) => Ok(Asked::Encode(table)),
+        Err(fault) => Err(WordsFault::Usage(fault)),
+    }
+}
+
 // What the words of a command ask for, where they are of its form.
 fn read_form<'a>(alloc: Global, verb: Verb, words: &'a [&'a str]) -> Result<Asked<'a>, WordsFault>
     requires { HasForm verb (texts words.now) }
@@ -110,6 +162,8 @@ fn read_form<'a>(alloc: Global, verb: Verb, words: &'a [&'a str]) -> Result<Aske
     match verb {
         Verb::Query(command) => ask_query(alloc, command, words),
         Verb::Demo => ask_demo(alloc, words),
+        Verb::Encode => ask_encode(alloc, words),
+        Verb::Plain => ask_plain(alloc, words),
     }
 }
 

@@ -23,6 +23,12 @@ pub enum Verb {
 
     /// A demonstration.
     Demo,
+
+    /// A table with its rows encoded.
+    Encode,
+
+    /// The rows of a plan.
+    Plain,
 }
 
 /// The command that a word names.
@@ -35,6 +41,9 @@ pub fn verb_of(word: &str) -> Option<Verb>
         "guess" => Some(Verb::Query(Command::Guess)),
         "ua" => Some(Verb::Query(Command::Ua)),
         "demo" => Some(Verb::Demo),
+        "rewrite" => Some(Verb::Query(Command::Rewrite)),
+        "encode" => Some(Verb::Encode),
+        "plain" => Some(Verb::Plain),
         _ => None,
     }
 }
@@ -75,7 +84,8 @@ fn is_own_option(verb: Verb, word: &str) -> bool
         }
         Verb::Query(Command::Direct) => is_flag(word),
         Verb::Demo => is_numbered("--workers", MAX_WORKERS, word),
-        Verb::Query(Command::Guess | Command::Ua) => false,
+        Verb::Query(Command::Guess | Command::Ua | Command::Rewrite) | Verb::Encode | Verb::Plain =>
+            false,
     }
 }
 
@@ -144,7 +154,8 @@ fn is_count(verb: Verb, count: usize) -> bool
 {
     match verb {
         Verb::Demo => count == 2,
-        Verb::Query(_) => count > 1,
+        Verb::Encode => count == 1,
+        Verb::Query(_) | Verb::Plain => count > 1,
     }
 }
 

@@ -95,7 +95,10 @@ fn program_line<'a>(alloc: Global) -> Result<clap::Command<'a>, AllocError>
     let line = with_command(alloc, line, "direct")?;
     let line = with_command(alloc, line, "guess")?;
     let line = with_command(alloc, line, "ua")?;
-    with_command(alloc, line, "demo")
+    let line = with_command(alloc, line, "demo")?;
+    let line = with_command(alloc, line, "rewrite")?;
+    let line = with_command(alloc, line, "encode")?;
+    with_command(alloc, line, "plain")
 }
 
 // The matches of words that the command line takes.

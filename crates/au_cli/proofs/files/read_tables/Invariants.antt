@@ -10,7 +10,7 @@ invariant-loop-word g l = record {
   files : g.S.Shelf.files l.shelf ≡ g.S.Shelf.files l.initial.shelf;
   faults : g.S.Shelf.faults l.initial.shelf ≤ g.S.Shelf.faults l.shelf;
   absences : g.S.Shelf.absences l.initial.shelf ≤ g.S.Shelf.absences l.shelf;
-  small : l.before ≤ greatest_total;
+  small : l.read ≤ greatest_total;
   count : length l.tables.items ≡ l.word-index;
-  so_far : ReadSoFar (g.S.Shelf.files l.initial.shelf) (map seen_table l.words) l.tables.items l.word-index l.before (map seen_table (drop l.word-index l.words));
+  so_far : ReadSoFar (g.S.Shelf.files l.initial.shelf) l.purpose l.first l.before (map seen_table l.words) l.tables.items l.word-index l.read (map seen_table (drop l.word-index l.words));
 }

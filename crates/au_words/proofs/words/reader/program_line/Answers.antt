@@ -11,4 +11,7 @@ returns c =
     let line2 = c.in_ok-line-2.ensures ∙ ap (λ a. with_subcommand a (command_line (codes "direct")).top) line1 in
     let line3 = c.in_ok-line-3.ensures ∙ ap (λ a. with_subcommand a (command_line (codes "guess")).top) line2 in
     let line4 = c.in_ok-line-4.ensures ∙ ap (λ a. with_subcommand a (command_line (codes "ua")).top) line3 in
-    IfOk-weaker c.with_command-5.result _ _ (λ r is. is ∙ ap (λ a. with_subcommand a (command_line (codes "demo")).top) line4) c.with_command-5.ensures
+    let line5 = c.in_ok-line-5.ensures ∙ ap (λ a. with_subcommand a (command_line (codes "demo")).top) line4 in
+    let line6 = c.in_ok-line-6.ensures ∙ ap (λ a. with_subcommand a (command_line (codes "rewrite")).top) line5 in
+    let line7 = c.in_ok-line-7.ensures ∙ ap (λ a. with_subcommand a (command_line (codes "encode")).top) line6 in
+    IfOk-weaker c.with_command-8.result _ _ (λ r is. is ∙ ap (λ a. with_subcommand a (command_line (codes "plain")).top) line7) c.with_command-8.ensures

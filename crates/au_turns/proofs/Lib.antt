@@ -1,0 +1,11 @@
+pub mod RecordTexts
+pub mod FieldValues
+pub mod NumberedColumns
+pub mod PlainRecords
+pub mod PlainTables
+pub mod WritableRows
+pub mod ReadValues
+pub mod GuessCounts
+pub mod PlanAnswers
+pub mod StatementAnswers
+pub mod OutputFiles

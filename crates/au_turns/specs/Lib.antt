@@ -1,0 +1,15 @@
+pub mod Records
+pub mod GuessTexts
+pub mod Texts
+pub mod Fitting
+pub mod Brackets
+pub mod EngineAnswers
+pub mod Rewriting
+pub mod Exchange
+pub mod EncodedTables
+pub mod EncodedAnswers
+pub mod CliTypes
+pub mod IoFiles
+pub mod CliFiles
+pub mod CliRun
+pub mod Outputs
