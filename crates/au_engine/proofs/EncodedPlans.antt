@@ -1,28 +1,21 @@
 -- The plan of a statement over tables whose guess rows are the encoded rows of the statement's tables.
-use Rattle.std.specs.Prelude.{◌≡◌, true, false, List, [], ◌++◌, map, Some, unwrap_or}
-use Rattle.std.specs.List.{AllByRecursion}
+use Rattle.std.specs.Prelude.{◌≡◌, [], ◌++◌, map, Some, unwrap_or}
 use Rattle.std.proofs.Common.{refl, sym, ◌∙◌, ap, subst}
-use Rattle.au_value.specs.declared.kinds.Kind.{Kind}
 use Rattle.au_value.specs.Order.{data_kind}
 use Rattle.au_expr.specs.Figures.{fit}
 use Rattle.au_expr.proofs.Fits.{fit_parts}
-use Rattle.au_algebra.specs.Bounded.{Bounded, normal}
+use Rattle.au_algebra.specs.Bounded.{normal}
 use Rattle.au_algebra.specs.Fits.{numbers, triple_numbers}
-use Rattle.au_algebra.specs.Trees.{Tree}
 use Rattle.au_algebra.specs.Typing.{kinds_of}
-use Rattle.au_blocks.specs.Tables.{IsBlockTable}
-use Rattle.au_parse.specs.Tree.{QueryTree}
-use Rattle.au_parse.specs.Whole.{WholeQuery}
 use Rattle.au_plain.specs.Meaning.{plain_rows}
 use Rattle.au_plain.specs.PlanKinds.{FitTables, plan_kinds}
 use Rattle.au_plain.specs.PlanNumbers.{plan_numbers}
-use Rattle.au_encode.specs.Encode.{encode, encoded_kinds}
 use Rattle.au_print.specs.GuessTexts.{in_order}
 use Rattle.au_sqltext.specs.Records.{rows_text}
 use Rattle.au_typing.proofs.QueryKinds.{tree_is_typed}
-use Rattle.au_engine.specs.Answers.{Named, answer_kinds, answer_tree, blocks_of, relations_of, statement_defects}
-use Rattle.au_engine.specs.Exchange.{IsPlanText, value_kinds}
-use Rattle.au_engine.specs.PlanAnswers.{HoldEncoded, PlansAnswer, bounded_tables, statement_rows}
+use Rattle.au_engine.specs.Answers.{answer_kinds, answer_tree, blocks_of, relations_of}
+use Rattle.au_engine.specs.Exchange.{value_kinds}
+use Rattle.au_engine.specs.PlanAnswers.{PlansAnswer, bounded_tables, statement_rows}
 use Rattle.au_engine.specs.Rewriting.{AreEncodable}
 use Rattle.au_engine.proofs.TableRelations.{are_relations, same_kinds}
 
