@@ -11,10 +11,12 @@ use Rattle.au_sqltext.specs.Brackets.{is_deep}
 use Rattle.au_sqltext.specs.Fitting.{numbers_fit, widths_fit}
 use Rattle.au_sqltext.specs.Reading.{plan_at}
 use Rattle.au_sqltext.specs.Texts.{plan_text}
+use Rattle.au_sqltext.specs.declared.fault.PlanFault.{PlanFault}
 use Rattle.au_sqltext.specs.declared.fault.PlanFault.TheVariants as no_plan
 use Rattle.au_sqltext.proofs.ReadBack.{reads_text}
 use Rattle.au_cli.specs.declared.outcome.Outcome.TheVariants as outcome
 use Rattle.au_cli.specs.Files.{Text}
+use Rattle.au_cli.specs.PlanCauses.{LineCause, ended_text}
 use Rattle.au_cli.specs.Plain.{before_line_feed, is_text_of, line_of, line_plan, own_plan, plan_of, plan_or_fault}
 
 -- ---- the line of a file
@@ -92,3 +94,11 @@ no_plan_line text flat h = rw flat (ap plan_or_fault (no_own text h))
 
 pub deep_line : (text : Text) → is_deep text ≡ true → line_plan (Some text) ≡ Err (outcome.Plan no_plan.Deep)
 deep_line text deep = rw deep refl
+
+-- why a text is no plan, by the fault that it has
+pub text_cause : (text : Text) (fault : PlanFault) → (fault ≡ no_plan.Text → (is_deep text ≡ false) × IsNoText text) → (fault ≡ no_plan.Deep → is_deep text ≡ true) → (fault ≡ no_plan.Untyped → ⊥)
+    → LineCause (Some text) (ended_text fault)
+text_cause text no_plan.NoMemory text_is deep_is typed = tt
+text_cause text no_plan.Text text_is deep_is typed = (no_plan_line text (text_is refl).0 (text_is refl).1, (text_is refl).1)
+text_cause text no_plan.Deep text_is deep_is typed = deep_line text (deep_is refl)
+text_cause text no_plan.Untyped text_is deep_is typed = absurd (typed refl)

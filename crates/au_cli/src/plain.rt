@@ -45,8 +45,12 @@ pub(crate) fn plain_text<R: Threads + Sync, S: Shelf, G: Gate + Sync>(
     if words.len() > MAX_FILES {
         return Err(Outcome::Limit(LimitFault::Files(words.len())));
     }
-    match file_plan(alloc, shelf, path) {
-        Ok(file) => over_tables(rt, alloc, shelf, file, words, gate),
+    let file = match file_plan(alloc, shelf, path) {
+        Ok(file) => file,
+        Err(outcome) => return Err(outcome),
+    };
+    match over_tables(rt, alloc, shelf, file, words, gate) {
+        Ok(text) => Ok(text),
         Err(outcome) => Err(outcome),
     }
 }
