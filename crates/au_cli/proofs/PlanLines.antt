@@ -41,9 +41,9 @@ stripped bytes None h = sym (no_feed bytes h)
 stripped bytes (Some x) h = sym (ap before_line_feed h ∙ feed_behind x.now)
 
 -- what stands before the line feed of a text
-pub line_is : (bytes : List ℕ) (found : Option (Bor (List ℕ))) → is_utf8 bytes ≡ true
-    → MatchOption found ((front : List ℕ) → bytes ≢ front ++ (10 ∷ [])) (λ x. bytes ≡ x.now ++ (10 ∷ [])) → option_map (λ l. l.now) found ≡ line_of bytes
-line_is bytes found utf8 h = rw utf8 (stripped bytes found h)
+pub line_is : (bytes text : List ℕ) (found : Option (Bor (List ℕ))) → text ≡ bytes → is_utf8 bytes ≡ true
+    → MatchOption found ((front : List ℕ) → text ≢ front ++ (10 ∷ [])) (λ x. text ≡ x.now ++ (10 ∷ [])) → option_map (λ l. l.now) found ≡ line_of bytes
+line_is bytes text found same utf8 h = rw utf8 (stripped text found h ∙ ap before_line_feed same)
 
 line_if : (is : Bool) (line : Option Text) → (is ≡ true → ⊥) → (if is then line else None) ≡ None
 line_if true line h = absurd (h refl)
