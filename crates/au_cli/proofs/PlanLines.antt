@@ -26,7 +26,10 @@ feed_behind [] = refl
 feed_behind (b ∷ []) = refl
 feed_behind (b ∷ c ∷ line) = ap (option_map (λ l. b ∷ l)) (feed_behind (c ∷ line))
 
-last_differs : (b : ℕ) (is : Bool) → (b == 10) ≡ is → ((front : List ℕ) → b ∷ [] ≢ front ++ (10 ∷ [])) → (if is then Some [] else None) ≡ None
+abbrev line_alone : Bool → Option (List ℕ)
+line_alone is = if is then Some [] else None
+
+last_differs : (b : ℕ) (is : Bool) → (b == 10) ≡ is → ((front : List ℕ) → b ∷ [] ≢ front ++ (10 ∷ [])) → line_alone is ≡ None
 last_differs b true e h = absurd (h [] (ap (λ x. x ∷ []) (eqb-true b 10 e)))
 last_differs b false e h = refl
 

@@ -125,8 +125,8 @@ fn line_of(bytes: &[u8]) -> Option<&str>
 
 // The plan of a line.
 fn plan_of(alloc: Global, line: Option<&str>) -> Result<Plan, Outcome>
-    ensures plan { IfOk result (λ p. line_plan (option_map (λ l. l.now) line) ≡ Ok (plan_tree p)) }
-    ensures refused { IfErr result (LineCause (option_map (λ l. l.now) line)) }
+    ensures plan { IfOk result (λ p. line_plan (option_map (λ l. l.now) line.entry) ≡ Ok (plan_tree p)) }
+    ensures refused { IfErr result (LineCause (option_map (λ l. l.now) line.entry)) }
 {
     let Some(text) = line else {
         return Err(Outcome::Plan(PlanFault::Text));

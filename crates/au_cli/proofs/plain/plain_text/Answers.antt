@@ -1,5 +1,5 @@
 -- Why the plan's file or those of the words are not answered.
-use Rattle.std.proofs.Common.{◌≤◌, rules, arith, length, map}
+use Rattle.std.proofs.Common.{◌≡◌, ◌≤◌, rules, arith, length, map}
 use Rattle.std.proofs.lemmas.List.{length-map}
 use Rattle.au_plain.specs.Plans.{plan_tree}
 use Rattle.au_engine.specs.Exchange.{plain_text}
@@ -19,8 +19,8 @@ returns-in-Ok-over_tables-clause-text g c =
     (few, plan_gives (λ ts p. c.in-Ok-over_tables.text.items ≡ plain_text ts p) (g.S.Shelf.files c.args.shelf.now) c.args.path.now (map seen_table c.args.words.now) c.in-Ok.file.size (plan_tree c.in-Ok.file.plan)
     c.in-Ok.ensures.plan c.in-Ok.ensures.size c.in-Ok-over_tables.ensures.text)
 
-pub returns-clause-refused : goal.returns-clause-refused
-returns-clause-refused g c =
+pub returns-in-Err-over_tables-clause-refused : goal.returns-in-Err-over_tables-clause-refused
+returns-in-Err-over_tables-clause-refused g c =
     let few : length (map seen_table c.args.words.now) ≤ greatest_files = search (rules, arith, length-map) in
     over_cause c.args.path.now (map seen_table c.args.words.now) (g.S.Shelf.files c.args.shelf.now) _ _ _ _ _ _ c.in-Ok.file.size (plan_tree c.in-Ok.file.plan) c.in-Err-over_tables.outcome few
     c.in-Ok.ensures.counts.0 c.in-Ok.ensures.counts.1 c.in-Ok.ensures.plan c.in-Ok.ensures.size c.in-Err-over_tables.ensures.refused
