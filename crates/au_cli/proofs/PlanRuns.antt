@@ -22,7 +22,7 @@ use Rattle.au_cli.specs.Requests.Refusal.{exactly}
 use Rattle.au_cli.specs.Run.{CanRun, refused_number}
 use Rattle.au_cli.proofs.FileTables.{within}
 use Rattle.au_cli.proofs.PlanLines.{line_behind, plan_line}
-use Rattle.au_cli.proofs.Refusals.{err_comes, few_first, few_words, many_first, not_few, ok_comes, too_many}
+use Rattle.au_cli.proofs.Refusals.{err_comes, few_first, few_words, many_first, not_both, not_few, ok_comes, too_many}
 
 -- ---- the first refusal
 
@@ -116,5 +116,5 @@ not_left path words files can h =
 pub run_memory : (path : Text) (words : List (Text × Text)) (files : List File) (o : Outcome) → Decided path words files o → CanRun path words files → o ≡ outcome.NoMemory
 run_memory path words files o (Decided.memory e) can = e
 run_memory path words files o (Decided.many n e is over) can = let few : length words ≤ greatest_files = can.few in absurd (omega (arith, over, few))
-run_memory path words files o (Decided.refused few e) can = let both : Err o ≡ Ok (can.tables, can.plan) = sym e ∙ run_given path words files can in cc
+run_memory path words files o (Decided.refused few e) can = absurd (not_both (plan_given path words files) o (can.tables, can.plan) e (run_given path words files can))
 run_memory path words files o (Decided.left few h) can = absurd (not_left path words files can h)
