@@ -1,5 +1,5 @@
 -- Rows in the order of their values: lists with the same copies have one order, and a sort gives it.
-use Rattle.std.specs.Prelude.{◌≡◌, ℕ, ◌+◌, ◌<◌, Bool, true, false, not, cond, List, [], ◌∷◌, map, Vec}
+use Rattle.std.specs.Prelude.{◌≡◌, ◌<◌, Bool, true, false, not, cond, List, [], ◌∷◌, map, Vec}
 use Rattle.std.specs.List.{AllByRecursion}
 use Rattle.std.specs.List.Sorted.{IsPermutation, IsSortedBy, IsStableBy}
 use Rattle.std.specs.declared.alloc.Global.{Global}

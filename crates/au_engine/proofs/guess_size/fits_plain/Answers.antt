@@ -1,5 +1,5 @@
 -- So many rows have room in the quotient just where their product with the size of one has room in the whole.
-use Rattle.std.proofs.Common.{ap, arith, length, map, nat_le, sum, ◌+◌, ◌/◌, ◌<◌, ◌∙◌}
+use Rattle.std.proofs.Common.{arith, length, map, nat_le, sum, ◌+◌, ◌/◌, ◌<◌, ◌∙◌}
 use Rattle.au_translate.specs.Translate.{guessed_copies}
 use Rattle.au_engine.specs.Exchange.{greatest_size, guess_count}
 use Rattle.au_engine.proofs.GuessSizes.{divided}
