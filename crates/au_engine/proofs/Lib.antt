@@ -1,11 +1,16 @@
 mod AskedAnswers
 mod CompressedPairs
+mod EncodedPlans
+mod GuessRows
+mod GuessSizes
 mod GuessTables
 mod HeldRows
 mod Materialized
 mod Operators
+mod OrderedRows
 mod OtherTables
 pub mod PairTables
+mod PlainRuns
 mod PlanRuns
 mod PlanSteps
 mod PositiveTrees

@@ -5,6 +5,7 @@ use Rattle.au_value.specs.declared.kinds.Kind.{Kind}
 use Rattle.au_parse.specs.Tree.{QueryTree}
 use Rattle.au_blocks.specs.Tables.{BlockTable, column_kinds}
 use Rattle.au_algebra.specs.Ordinary.{Rows}
+use Rattle.au_algebra.specs.Trees.{Tree}
 use Rattle.au_translate.specs.Translate.{bounded_table, guessed_copies}
 use Rattle.au_expr.specs.Figures.{fit}
 use Rattle.au_plain.specs.Meaning.{plain_rows}
@@ -29,13 +30,17 @@ encoded_text t = rows_text (encoded_kinds (column_kinds t)) (encode (bounded_tab
 abbrev pub value_kinds : List Named → List (List Kind)
 value_kinds ts = map column_kinds (blocks_of ts)
 
--- a line is the text of a plan of a statement's tree, and LF
-pub record IsPlanText (ts : List Named) (s : QueryTree) (line : List ℕ) : Type 0 where
+-- a line is the text of a plan of a tree over tables of these kinds, and LF
+pub record IsTreeText (kinds : List (List Kind)) (q : Tree) (line : List ℕ) : Type 0 where
   pub plan : PlanTree
-  pub whole : IsPlanOf (value_kinds ts) (answer_tree ts s) plan
+  pub whole : IsPlanOf kinds q plan
   pub widths : widths_fit plan ≡ true
   pub numbers : numbers_fit plan ≡ true
   pub text : line ≡ plan_text plan ++ codes "\n"
+
+-- that of a statement's tree over tables
+abbrev pub IsPlanText : List Named → QueryTree → List ℕ → Type 0
+IsPlanText ts s line = IsTreeText (value_kinds ts) (answer_tree ts s) line
 
 -- the kinds of a plan's rows over tables, and none where it isn't typed over them
 abbrev pub plain_kinds : List Named → PlanTree → Option (List Kind)

@@ -4,4 +4,5 @@ pub mod Certainty
 pub mod Compressing
 pub mod Rewriting
 pub mod Exchange
+pub mod PlanAnswers
 pub mod Stages

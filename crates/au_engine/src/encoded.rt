@@ -1,9 +1,10 @@
 //! The encoded rows of block tables.
 ghost use Rattle.std.specs.Prelude.{◌≡◌, IfOk, map};
+ghost use Rattle.au_blocks.specs.Tables.{column_kinds};
 ghost use Rattle.au_translate.specs.Translate.{bounded_table};
-ghost use Rattle.au_plain.specs.PlanKinds.{FitRows};
+ghost use Rattle.au_plain.specs.PlanKinds.{FitRows, HaveKinds};
 ghost use Rattle.au_plain.specs.Plans.{plan_tree};
-ghost use Rattle.au_encode.specs.Encode.{encode as encoded};
+ghost use Rattle.au_encode.specs.Encode.{encode as encoded, encoded_kinds};
 ghost use Rattle.au_exec.specs.Outcomes.{rows_of};
 ghost use Rattle.au_engine.specs.Stages.{AddsTable};
 
@@ -16,9 +17,10 @@ use au_translate::bounded;
 use au_value::NoMemory;
 use std::alloc::Global;
 
-// The encoded rows of a table. Its relation is let go.
-fn encoded_table(alloc: Global, table: &Table) -> Result<Vec<PRow>, NoMemory>
+/// The encoded rows of a table. Its relation is let go.
+pub(crate) fn encoded_table(alloc: Global, table: &Table) -> Result<Vec<PRow>, NoMemory>
     ensures rows { IfOk result (λ rows. rows_of rows ≡ encoded (bounded_table table.now)) }
+    ensures kinds { IfOk result (λ rows. HaveKinds (encoded_kinds (column_kinds table.now)) (rows_of rows)) }
     ensures fit { IfOk result (λ rows. FitRows (rows_of rows)) }
 {
     let relation = bounded(alloc, table)?;

@@ -4,7 +4,8 @@
 //! plans, which are run stage by stage over the encoded rows of the tables, and the rows of the last are decoded and
 //! shown. [`answer_directly`] gives the same rows by the generic evaluator, [`guess_answer`] those of the guess world, and
 //! [`ua_answer`] these with how often each is certain. [`rewritten`] gives the one plan of a whole tree, which another
-//! engine may run. docs/ARCHITECTURE.md shows the road.
+//! engine may run: [`rewritten_text`] is its text, [`encoded_text`] that of the encoded rows which it reads, and
+//! [`plain_answer`] runs such a plan over the rows of tables in the guess world. docs/ARCHITECTURE.md shows the road.
 //!
 //! ```text
 //! let statement = read_query(alloc, "SELECT city FROM orders")?;
@@ -20,9 +21,11 @@ mod certainty;
 mod compressing;
 mod encoded;
 mod faults;
+mod guess_rows;
 mod guess_size;
 mod guessing;
 mod options;
+mod ordered;
 mod plain;
 mod reading;
 mod rewriting;
@@ -33,6 +36,7 @@ mod staged;
 mod steps;
 mod tables;
 mod texts;
+mod theorems;
 mod typing;
 
 pub use answering::{answer, answer_directly};
@@ -45,3 +49,4 @@ pub use plain::{PlainFault, plain_answer};
 pub use reading::read_query;
 pub use rewriting::rewritten;
 pub use texts::{encoded_text, rewritten_text};
+pub use theorems::plans_answer;

@@ -1,13 +1,21 @@
 //! Plans that are run over the guess rows of tables.
-ghost use Rattle.std.specs.Prelude.{◌≡◌, IfOk, IfErr, OnOk};
-ghost use Rattle.au_plain.specs.PlanKinds.{IsTypedPlan};
+ghost use Rattle.std.specs.Prelude.{◌≡◌, Some, Err, List, IfOk, IfErr, OnOk, false};
+ghost use Rattle.au_value.specs.declared.kinds.Kind.{Kind};
+ghost use Rattle.au_plain.specs.PlanKinds.{HaveKinds, IsTypedPlan};
 ghost use Rattle.au_plain.specs.Plans.{plan_tree};
-ghost use Rattle.au_engine.specs.Exchange.{PlainCause, plain_text, value_kinds};
+ghost use Rattle.au_exec.specs.Outcomes.{rows_of};
+ghost use Rattle.au_engine.specs.Exchange.{PlainCause, plain_answer as plain_answer_of, plain_fits, plain_kinds, plain_text as plain_text_of, value_kinds as value_kinds_of};
 
+use crate::guess_rows::{guess_tables, value_kinds};
+use crate::ordered::ordered;
+use crate::runner::Runner;
 use au_blocks::Table;
+use au_expr::EvalFault;
 use au_par::Gate;
-use au_plain::Plan;
-use au_value::Word;
+use au_plain::{PRow, Plan};
+use au_plan::improve;
+use au_sqltext::{PlanFault, check_plan, plain_text};
+use au_value::{Kind, NoMemory, Word};
 use std::alloc::Global;
 use std::thread::Threads;
 
@@ -36,9 +44,69 @@ pub fn plain_answer<R: Threads + Sync, G: Gate + Sync>(
     tables: &[(Word, Table)],
     gate: G,
 ) -> Result<Vec<u8>, PlainFault>
-    ensures typed { OnOk result (IsTypedPlan (value_kinds tables.now) (plan_tree plan)) }
-    ensures text { IfOk result (λ text. text.items ≡ plain_text tables.now (plan_tree plan)) }
+    ensures typed { OnOk result (IsTypedPlan (value_kinds_of tables.now) (plan_tree plan)) }
+    ensures text { IfOk result (λ text. text.items ≡ plain_text_of tables.now (plan_tree plan)) }
     ensures refused { IfErr result (PlainCause tables.now (plan_tree plan)) }
 {
-    Err(PlainFault::NoMemory)
+    let kinds = match checked(alloc, &plan, tables) {
+        Ok(kinds) => kinds,
+        Err(fault) => return Err(fault),
+    };
+    let runner = Runner::new(rt, 1, gate);
+    let rows = match plain_rows(&runner, alloc, plan, tables) {
+        Ok(rows) => rows,
+        Err(EvalFault::Overflow) => return Err(PlainFault::Overflow),
+        Err(EvalFault::NoMemory) => return Err(PlainFault::NoMemory),
+    };
+    match plain_text(alloc, kinds.as_slice(), rows.as_slice()) {
+        Ok(text) => Ok(text),
+        Err(NoMemory) => Err(PlainFault::NoMemory),
+    }
+}
+
+// The kinds of a plan's rows over tables.
+fn checked(alloc: Global, plan: &Plan, tables: &[(Word, Table)]) -> Result<Vec<Kind>, PlainFault>
+    ensures kinds { IfOk result (λ ks. plain_kinds tables.now (plan_tree plan.now) ≡ Some ks.items) }
+    ensures refused { IfErr result (PlainCause tables.now (plan_tree plan.now)) }
+{
+    let kinds = match value_kinds(alloc, tables) {
+        Ok(kinds) => kinds,
+        Err(NoMemory) => return Err(PlainFault::NoMemory),
+    };
+    match check_plan(alloc, plan, kinds.as_slice()) {
+        Ok(kinds) => Ok(kinds),
+        Err(PlanFault::Untyped) => Err(PlainFault::Untyped),
+        Err(PlanFault::NoMemory) => Err(PlainFault::NoMemory),
+        Err(PlanFault::Text | PlanFault::Deep) => unreachable!(),
+    }
+}
+
+// The rows of a typed plan over the tables' guess rows, in order.
+fn plain_rows<R: Threads + Sync, G: Gate + Sync>(
+    runner: &Runner<'_, R, G>,
+    alloc: Global,
+    plan: Plan,
+    tables: &[(Word, Table)],
+) -> Result<Vec<PRow>, EvalFault>
+    requires typed { (ks : List Kind) × (plain_kinds tables.now (plan_tree plan) ≡ Some ks) }
+    ensures rows { IfOk result (λ rows. rows_of rows ≡ plain_answer_of tables.now (plan_tree plan)) }
+    ensures kinds { IfOk result (λ rows. (ks : List Kind) → plain_kinds tables.now (plan_tree plan) ≡ Some ks → HaveKinds ks (rows_of rows)) }
+    ensures overflow { result ≡ Err EvalFault.Overflow → plain_fits tables.now (plan_tree plan) ≡ false }
+{
+    let held = match guess_tables(alloc, tables) {
+        Ok(held) => held,
+        Err(NoMemory) => return Err(EvalFault::NoMemory),
+    };
+    let plan = match improve(alloc, plan) {
+        Ok(plan) => plan,
+        Err(NoMemory) => return Err(EvalFault::NoMemory),
+    };
+    let rows = match runner.all(alloc, plan, held) {
+        Ok(rows) => rows,
+        Err(fault) => return Err(fault),
+    };
+    match ordered(rows) {
+        Ok(rows) => Ok(rows),
+        Err(NoMemory) => Err(EvalFault::NoMemory),
+    }
 }
