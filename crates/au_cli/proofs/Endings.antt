@@ -6,9 +6,8 @@ use Rattle.std.proofs.lemmas.List.{append-nil}
 use Rattle.std.specs.Io.KnownBytes.{Appends}
 use Rattle.std.specs.Result.{result_err}
 use Rattle.au_io.specs.Counts.{Rose}
-use Rattle.au_io.specs.Files.{AppendsFront, File, bytes_at}
-use Rattle.au_parse.specs.Tree.{QueryTree}
-use Rattle.au_engine.specs.Answers.{Named, answer_fits}
+use Rattle.au_io.specs.Files.{File, bytes_at}
+use Rattle.au_engine.specs.Answers.{answer_fits}
 use Rattle.au_engine.specs.Exchange.{encoded_text}
 use Rattle.au_engine.specs.declared.faults.QueryFault.TheVariants as query
 use Rattle.au_words.specs.Words.{Asked, Request}
@@ -18,7 +17,7 @@ use Rattle.au_cli.specs.declared.files.Purpose.TheVariants as purpose
 use Rattle.au_cli.specs.declared.outcome.Outcome.{Outcome}
 use Rattle.au_cli.specs.declared.outcome.Outcome.TheVariants as outcome
 use Rattle.au_cli.specs.Demo.{Demonstrates}
-use Rattle.au_cli.specs.Files.{Text, file_table}
+use Rattle.au_cli.specs.Files.{file_table}
 use Rattle.au_cli.specs.Requests.{Given, IsRefusal, Refusal, given_of, numbers_fit, refused_request, unless_refused}
 use Rattle.au_cli.specs.Requests.Refusal.{exactly}
 use Rattle.au_cli.specs.Causes.{AskedCause, AskedNotPositive, DemoCause, Ends, Gives, IsAskedText, IsRead, IsRefusedBefore, RequestCause, StageCause, TextPut, is_text_fault, is_text_limit}

@@ -1,9 +1,7 @@
 -- The plan of the first file, and its run over the files of words, from what was read.
-use Rattle.std.proofs.Common.{◌≡◌, ◌≢◌, ◌<◌, ◌≤◌, ◌+◌, ◌∙◌, ℕ, true, false, refl, sym, ap, subst, arith, List, Option, Some, None, IfSome, Result, Ok, Err, length}
+use Rattle.std.proofs.Common.{◌≡◌, ◌≤◌, ◌∙◌, ℕ, true, false, refl, sym, ap, subst, arith, List, Option, Some, None, IfSome, Result, Ok, Err, length}
 use Rattle.std.specs.Prelude.{is_some}
 use Rattle.au_value.specs.declared.kinds.Kind.{Kind}
-use Rattle.au_blocks.specs.declared.faults.TableFault.TheVariants as table
-use Rattle.au_io.specs.Counts.{Rose}
 use Rattle.au_io.specs.Files.{File, bytes_at}
 use Rattle.au_plain.specs.Plans.{PlanTree}
 use Rattle.au_plain.specs.PlanKinds.{IsTypedPlan}
@@ -19,7 +17,7 @@ use Rattle.au_cli.specs.declared.files.Purpose.TheVariants as purpose
 use Rattle.au_cli.specs.declared.outcome.Outcome.{Outcome}
 use Rattle.au_cli.specs.declared.outcome.Outcome.TheVariants as outcome
 use Rattle.au_cli.specs.Files.{Text, file_bytes, greatest_files, size_of, tables_from}
-use Rattle.au_cli.specs.Plain.{PlanGiven, and_tables, file_plan, line_of, line_plan, plan_given, plan_in, plan_over, typed_plan}
+use Rattle.au_cli.specs.Plain.{and_tables, file_plan, line_of, line_plan, plan_given, plan_in, plan_over, typed_plan}
 use Rattle.au_cli.specs.FileCauses.{BytesRefused, FilesCause, FilesRefused, ReadCause, is_file_limit, is_size_limit}
 use Rattle.au_cli.proofs.TablesRead.{rose_later}
 use Rattle.au_cli.specs.PlanCauses.{HasNoPlan, IsNoLine, LineCause, OverCause, OverGives, OverRefused, PlanCause, PlanFaultCause, PlanFileCause, PlanFileFault, PlanFileRefused, PlanGives, PlanLimit, PlanRefused, ended_plain}

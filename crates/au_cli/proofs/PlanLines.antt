@@ -1,9 +1,9 @@
 -- The line of a file, and the plan of a line.
-use Rattle.std.proofs.Common.{◌≡◌, ◌≢◌, ◌∙◌, ◌&&◌, ◌++◌, ℕ, Bool, true, false, refl, sym, ap, arith, eqb-true, List, [], ◌∷◌, length, Option, Some, None, Ok, Err, if◌then◌else◌, codes}
+use Rattle.std.proofs.Common.{◌≡◌, ◌≢◌, ◌∙◌, ◌&&◌, ◌++◌, ℕ, Bool, true, false, refl, sym, ap, eqb-true, List, [], ◌∷◌, length, Option, Some, None, Ok, Err, if◌then◌else◌}
 use Rattle.std.specs.Prelude.{◌==◌, MatchOption, bytes_eq, option_map}
 use Rattle.std.specs.Borrow.{Bor}
 use Rattle.std.specs.Str.{is_utf8}
-use Rattle.std.proofs.lemmas.Bool.{and_parts, true≢false}
+use Rattle.std.proofs.lemmas.Bool.{and_parts}
 use Rattle.std.proofs.lemmas.Slice.Eq.{bytes_eq-Decides}
 use Rattle.au_plain.specs.Plans.{PlanTree}
 use Rattle.au_sqltext.specs.Answers.{IsNoText, IsTextOf}

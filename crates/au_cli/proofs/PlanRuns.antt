@@ -1,5 +1,5 @@
 -- What a run of a plan ends in over told files.
-use Rattle.std.proofs.Common.{◌≡◌, ◌⊎◌, ◌<◌, ◌≤◌, ◌+◌, ◌++◌, arith, inl, inr, ℕ, true, false, List, [], ◌∷◌, Option, Some, None, Result, Ok, Err, refl, sym, ◌∙◌, ap, subst, length}
+use Rattle.std.proofs.Common.{◌≡◌, ◌⊎◌, ◌<◌, ◌≤◌, ◌++◌, arith, inl, inr, ℕ, false, List, [], ◌∷◌, Option, Some, Ok, Err, refl, sym, ◌∙◌, ap, subst, length}
 use Rattle.std.specs.Prelude.{option_map}
 use Rattle.std.specs.Option.{option_or}
 use Rattle.std.specs.Result.{result_err}
@@ -14,15 +14,15 @@ use Rattle.au_sqltext.specs.declared.fault.PlanFault.TheVariants as no_plan
 use Rattle.au_cli.specs.declared.files.Purpose.TheVariants as purpose
 use Rattle.au_cli.specs.declared.outcome.Outcome.{Outcome}
 use Rattle.au_cli.specs.declared.outcome.Outcome.TheVariants as outcome
-use Rattle.au_cli.specs.Files.{Text, greatest_files, greatest_total, size_of, tables_from}
-use Rattle.au_cli.specs.Plain.{PlanGiven, and_tables, file_plan, line_of, line_plan, plan_given, plan_in, plan_over, typed_plan}
+use Rattle.au_cli.specs.Files.{Text, greatest_files, size_of, tables_from}
+use Rattle.au_cli.specs.Plain.{PlanGiven, and_tables, file_plan, line_plan, plan_given, plan_in, plan_over, typed_plan}
 use Rattle.au_cli.specs.PlanCauses.{PlanCause, PlanFaultCause, PlanGives, PlanLimit}
 use Rattle.au_cli.specs.Requests.{IsRefusal, Refusal}
 use Rattle.au_cli.specs.Requests.Refusal.{exactly}
 use Rattle.au_cli.specs.Run.{CanRun, refused_number}
 use Rattle.au_cli.proofs.FileTables.{within}
 use Rattle.au_cli.proofs.PlanLines.{line_behind, plan_line}
-use Rattle.au_cli.proofs.Refusals.{err_comes, few_first, few_words, many_first, not_both, not_few, ok_comes, too_many}
+use Rattle.au_cli.proofs.Refusals.{err_comes, few_first, many_first, not_both, not_few, ok_comes, too_many}
 
 -- ---- the first refusal
 

@@ -1,6 +1,6 @@
 -- A plan in a file, and the tables over whose guess rows it is run. The plan's file is file 0, and that of the i-th table is
 -- file i + 1.
-use Rattle.std.specs.Prelude.{ℕ, ◌==◌, ◌+◌, ◌&&◌, Bool, List, [], ◌∷◌, length, Option, Some, None, option_map, Result, Ok, Err, if◌then◌else◌, bytes_eq}
+use Rattle.std.specs.Prelude.{ℕ, ◌==◌, ◌&&◌, Bool, List, [], ◌∷◌, length, Option, Some, None, option_map, Result, Ok, Err, if◌then◌else◌, bytes_eq}
 use Rattle.std.specs.Str.{is_utf8}
 use Rattle.au_value.specs.declared.kinds.Kind.{Kind}
 use Rattle.au_io.specs.Files.{File, bytes_at}

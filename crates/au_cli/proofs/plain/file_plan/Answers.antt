@@ -1,5 +1,5 @@
 -- What was read of the file decides which plan it gives.
-use Rattle.std.proofs.Common.{◌≡◌, ◌∙◌, sym, ap, subst, Ok}
+use Rattle.std.proofs.Common.{◌∙◌, sym, ap, subst, Ok}
 use Rattle.au_plain.specs.Plans.{plan_tree}
 use Rattle.au_cli.specs.Plain.{line_of, line_plan}
 use Rattle.au_cli.specs.PlanCauses.{LineCause}

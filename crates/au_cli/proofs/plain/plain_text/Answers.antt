@@ -16,10 +16,12 @@ returns-in-Err-clause-refused g c =
 
 pub returns-in-Ok-over_tables-clause-text : goal.returns-in-Ok-over_tables-clause-text
 returns-in-Ok-over_tables-clause-text g c =
-    let few : length (map seen_table c.args.words.now) ≤ greatest_files = search (rules, arith, length-map) in
-    (few, plan_gives (λ ts p. c.in-Ok-over_tables.text.items ≡ plain_text ts p) (g.S.Shelf.files c.args.shelf.now) c.args.path.now (map seen_table c.args.words.now) c.in-Ok.file.size (plan_tree c.in-Ok.file.plan)
-    c.in-Ok.ensures.plan c.in-Ok.ensures.size
-    (subst (λ told. OverGives told c.in-Ok.file.size (map seen_table c.args.words.now) (plan_tree c.in-Ok.file.plan) (λ ts p. c.in-Ok-over_tables.text.items ≡ plain_text ts p)) c.in-Ok.ensures.files c.in-Ok-over_tables.ensures.text))
+    let few : length (map seen_table c.args.words.now) ≤ greatest_files = search (rules, arith, length-map) in (
+      few,
+      plan_gives (λ ts p. c.in-Ok-over_tables.text.items ≡ plain_text ts p) (g.S.Shelf.files c.args.shelf.now) c.args.path.now (map seen_table c.args.words.now) c.in-Ok.file.size (plan_tree c.in-Ok.file.plan)
+          c.in-Ok.ensures.plan c.in-Ok.ensures.size
+          (subst (λ told. OverGives told c.in-Ok.file.size (map seen_table c.args.words.now) (plan_tree c.in-Ok.file.plan) (λ ts p. c.in-Ok-over_tables.text.items ≡ plain_text ts p)) c.in-Ok.ensures.files c.in-Ok-over_tables.ensures.text),
+    )
 
 pub returns-in-Err-over_tables-clause-refused : goal.returns-in-Err-over_tables-clause-refused
 returns-in-Err-over_tables-clause-refused g c =
