@@ -101,8 +101,12 @@ refused_bytes None aim path file before o h = h
 refused_bytes (Some files) aim path file before o h = ap (table_in aim file) h
 
 size_is_file : (aim : Purpose) (fault : LimitFault) → is_size_limit fault ≡ true → is_file_limit aim fault ≡ true
-size_is_file aim (limit.FileSize file) e = refl
-size_is_file aim (limit.AllFiles file) e = refl
+size_is_file purpose.Query (limit.FileSize file) e = refl
+size_is_file purpose.Query (limit.AllFiles file) e = refl
+size_is_file purpose.Encode (limit.FileSize file) e = refl
+size_is_file purpose.Encode (limit.AllFiles file) e = refl
+size_is_file purpose.Plan (limit.FileSize file) e = refl
+size_is_file purpose.Plan (limit.AllFiles file) e = refl
 size_is_file aim _ e = cc
 
 pub read_cause : (told : Option (List File)) (aim : Purpose) (path : Text) (file before f fn a an : ℕ) (o : Outcome)

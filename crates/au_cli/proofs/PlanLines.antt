@@ -11,10 +11,12 @@ use Rattle.au_sqltext.specs.Brackets.{is_deep}
 use Rattle.au_sqltext.specs.Fitting.{numbers_fit, widths_fit}
 use Rattle.au_sqltext.specs.Reading.{plan_at}
 use Rattle.au_sqltext.specs.Texts.{plan_text}
+use Rattle.au_sqltext.specs.declared.fault.PlanFault.{PlanFault}
 use Rattle.au_sqltext.specs.declared.fault.PlanFault.TheVariants as no_plan
 use Rattle.au_sqltext.proofs.ReadBack.{reads_text}
 use Rattle.au_cli.specs.declared.outcome.Outcome.TheVariants as outcome
 use Rattle.au_cli.specs.Files.{Text}
+use Rattle.au_cli.specs.PlanCauses.{LineCause, ended_text}
 use Rattle.au_cli.specs.Plain.{before_line_feed, is_text_of, line_of, line_plan, own_plan, plan_of, plan_or_fault}
 
 -- ---- the line of a file
@@ -24,7 +26,10 @@ feed_behind [] = refl
 feed_behind (b ∷ []) = refl
 feed_behind (b ∷ c ∷ line) = ap (option_map (λ l. b ∷ l)) (feed_behind (c ∷ line))
 
-last_differs : (b : ℕ) (is : Bool) → (b == 10) ≡ is → ((front : List ℕ) → b ∷ [] ≢ front ++ (10 ∷ [])) → (if is then Some [] else None) ≡ None
+abbrev line_alone : Bool → Option (List ℕ)
+line_alone is = if is then Some [] else None
+
+last_differs : (b : ℕ) (is : Bool) → (b == 10) ≡ is → ((front : List ℕ) → b ∷ [] ≢ front ++ (10 ∷ [])) → line_alone is ≡ None
 last_differs b true e h = absurd (h [] (ap (λ x. x ∷ []) (eqb-true b 10 e)))
 last_differs b false e h = refl
 
@@ -39,9 +44,9 @@ stripped bytes None h = sym (no_feed bytes h)
 stripped bytes (Some x) h = sym (ap before_line_feed h ∙ feed_behind x.now)
 
 -- what stands before the line feed of a text
-pub line_is : (bytes : List ℕ) (found : Option (Bor (List ℕ))) → is_utf8 bytes ≡ true
-    → MatchOption found ((front : List ℕ) → bytes ≢ front ++ (10 ∷ [])) (λ x. bytes ≡ x.now ++ (10 ∷ [])) → option_map (λ l. l.now) found ≡ line_of bytes
-line_is bytes found utf8 h = rw utf8 (stripped bytes found h)
+pub line_is : (bytes text : List ℕ) (found : Option (Bor (List ℕ))) → text ≡ bytes → is_utf8 bytes ≡ true
+    → MatchOption found ((front : List ℕ) → text ≢ front ++ (10 ∷ [])) (λ x. text ≡ x.now ++ (10 ∷ [])) → option_map (λ l. l.now) found ≡ line_of bytes
+line_is bytes text found same utf8 h = rw utf8 (stripped text found h ∙ ap before_line_feed same)
 
 line_if : (is : Bool) (line : Option Text) → (is ≡ true → ⊥) → (if is then line else None) ≡ None
 line_if true line h = absurd (h refl)
@@ -92,3 +97,11 @@ no_plan_line text flat h = rw flat (ap plan_or_fault (no_own text h))
 
 pub deep_line : (text : Text) → is_deep text ≡ true → line_plan (Some text) ≡ Err (outcome.Plan no_plan.Deep)
 deep_line text deep = rw deep refl
+
+-- why a text is no plan, by the fault that it has
+pub text_cause : (text : Text) (fault : PlanFault) → (fault ≡ no_plan.Text → (is_deep text ≡ false) × IsNoText text) → (fault ≡ no_plan.Deep → is_deep text ≡ true) → (fault ≡ no_plan.Untyped → ⊥)
+    → LineCause (Some text) (ended_text fault)
+text_cause text no_plan.NoMemory text_is deep_is typed = tt
+text_cause text no_plan.Text text_is deep_is typed = (no_plan_line text (text_is refl).0 (text_is refl).1, (text_is refl).1)
+text_cause text no_plan.Deep text_is deep_is typed = deep_line text (deep_is refl)
+text_cause text no_plan.Untyped text_is deep_is typed = absurd (typed refl)

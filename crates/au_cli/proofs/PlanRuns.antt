@@ -22,7 +22,7 @@ use Rattle.au_cli.specs.Requests.Refusal.{exactly}
 use Rattle.au_cli.specs.Run.{CanRun, refused_number}
 use Rattle.au_cli.proofs.FileTables.{within}
 use Rattle.au_cli.proofs.PlanLines.{line_behind, plan_line}
-use Rattle.au_cli.proofs.Refusals.{err_comes, few_first, few_words, many_first, not_few, ok_comes, too_many}
+use Rattle.au_cli.proofs.Refusals.{err_comes, few_first, few_words, many_first, not_both, not_few, ok_comes, too_many}
 
 -- ---- the first refusal
 
@@ -63,8 +63,8 @@ given_comes path words files refusal o g few is k =
 pub decided_comes : (path : Text) (words : List (Text × Text)) (files : List File) (refusal : Refusal) (o : Outcome) → Decided path words files o → first path words files ≡ Some refusal
     → IsRefusal refusal o ⊎ (o ≡ outcome.NoMemory)
 decided_comes path words files refusal o (Decided.memory e) k = inr e
-decided_comes path words files refusal o (Decided.many n e is many) k =
-    inl (subst (IsRefusal refusal) (sym e) (too_many words n refusal is many (many_first words (option_map exactly (result_err (plan_given path words files))) refusal many k)))
+decided_comes path words files refusal o (Decided.many n e is over) k =
+    inl (subst (IsRefusal refusal) (sym e) (too_many words n refusal is over (many_first words (option_map exactly (result_err (plan_given path words files))) refusal over k)))
 decided_comes path words files refusal o (Decided.refused few e) k =
     inl (err_comes (plan_given path words files) o refusal e (few_first words (option_map exactly (result_err (plan_given path words files))) refusal few k))
 decided_comes path words files refusal o (Decided.left few h) k = given_comes path words files refusal o h.0 few h.1 k
@@ -115,6 +115,6 @@ not_left path words files can h =
 
 pub run_memory : (path : Text) (words : List (Text × Text)) (files : List File) (o : Outcome) → Decided path words files o → CanRun path words files → o ≡ outcome.NoMemory
 run_memory path words files o (Decided.memory e) can = e
-run_memory path words files o (Decided.many n e is many) can = let few : length words ≤ greatest_files = can.few in absurd (omega (arith, many, few))
-run_memory path words files o (Decided.refused few e) can = let both : Err o ≡ Ok (can.tables, can.plan) = sym e ∙ run_given path words files can in cc
+run_memory path words files o (Decided.many n e is over) can = let few : length words ≤ greatest_files = can.few in absurd (omega (arith, over, few))
+run_memory path words files o (Decided.refused few e) can = absurd (not_both (plan_given path words files) o (can.tables, can.plan) e (run_given path words files can))
 run_memory path words files o (Decided.left few h) can = absurd (not_left path words files can h)

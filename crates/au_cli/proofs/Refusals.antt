@@ -27,6 +27,10 @@ err_comes found o refusal e k = some_exactly o refusal (sym (ap (λ r. option_ma
 pub ok_comes : {X : Type 0} (found : Result X Outcome) (x : X) (refusal : Refusal) (o : Outcome) → found ≡ Ok x → option_map exactly (result_err found) ≡ Some refusal → IsRefusal refusal o
 ok_comes found x refusal o e k = let none : None ≡ Some refusal = sym (ap (λ r. option_map exactly (result_err r)) e) ∙ k in cc
 
+pub not_both : {X : Type 0} (found : Result X Outcome) (o : Outcome) (x : X) → found ≡ Err o → found ≡ Ok x → ⊥
+not_both (Err y) o x e k = cc
+not_both (Ok y) o x e k = cc
+
 -- ---- the number of table words
 
 pub few_words : (words : List (Text × Text)) → length words ≤ greatest_files → refused_number words ≡ None

@@ -1,6 +1,6 @@
 -- Why a plan in a file is not run over tables. `told` are the files that a shelf tells, and the counts are those of its
 -- refusals and of its absent files before and after.
-use Rattle.std.specs.Prelude.{ℕ, ◌≡◌, ◌≢◌, ◌<◌, ◌≤◌, ◌+◌, true, List, length, Option, Some, None, IfSome, Ok, Err, ⊤}
+use Rattle.std.specs.Prelude.{ℕ, ◌≡◌, ◌≢◌, ◌<◌, ◌≤◌, ◌+◌, true, false, List, length, Option, Some, None, IfSome, Ok, Err, ⊤}
 use Rattle.au_blocks.specs.declared.faults.TableFault.TheVariants as table
 use Rattle.au_io.specs.Counts.{Rose}
 use Rattle.au_io.specs.Files.{File, bytes_at}

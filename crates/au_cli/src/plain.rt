@@ -45,8 +45,12 @@ pub(crate) fn plain_text<R: Threads + Sync, S: Shelf, G: Gate + Sync>(
     if words.len() > MAX_FILES {
         return Err(Outcome::Limit(LimitFault::Files(words.len())));
     }
-    match file_plan(alloc, shelf, path) {
-        Ok(file) => over_tables(rt, alloc, shelf, file, words, gate),
+    let file = match file_plan(alloc, shelf, path) {
+        Ok(file) => file,
+        Err(outcome) => return Err(outcome),
+    };
+    match over_tables(rt, alloc, shelf, file, words, gate) {
+        Ok(text) => Ok(text),
         Err(outcome) => Err(outcome),
     }
 }
@@ -121,8 +125,8 @@ fn line_of(bytes: &[u8]) -> Option<&str>
 
 // The plan of a line.
 fn plan_of(alloc: Global, line: Option<&str>) -> Result<Plan, Outcome>
-    ensures plan { IfOk result (λ p. line_plan (option_map (λ l. l.now) line) ≡ Ok (plan_tree p)) }
-    ensures refused { IfErr result (LineCause (option_map (λ l. l.now) line)) }
+    ensures plan { IfOk result (λ p. line_plan (option_map (λ l. l.now) line.entry) ≡ Ok (plan_tree p)) }
+    ensures refused { IfErr result (LineCause (option_map (λ l. l.now) line.entry)) }
 {
     let Some(text) = line else {
         return Err(Outcome::Plan(PlanFault::Text));
