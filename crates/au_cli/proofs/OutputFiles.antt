@@ -1,5 +1,5 @@
 -- The texts that `encode` and `rewrite` print, as files: their tables, and that the plan can be run over them.
-use Rattle.std.proofs.Common.{◌≡◌, ℕ, suc, ◌+◌, ◌*◌, ◌<◌, ◌≤◌, Bool, true, false, cond, List, [], ◌∷◌, ◌++◌, length, map, Option, Some, None, Result, Ok, Err, refl, ap, sym, ◌∙◌, subst, arith, le-leb}
+use Rattle.std.proofs.Common.{◌≡◌, ℕ, suc, ◌+◌, ◌*◌, ◌≤◌, Bool, true, false, cond, List, [], ◌∷◌, ◌++◌, length, map, Option, Some, None, Result, Ok, Err, refl, ap, sym, ◌∙◌, subst, arith, le-leb}
 use Rattle.std.specs.Prelude.{◌||◌, nat_le, nat_lt, option_and_then}
 use Rattle.std.specs.Result.{result_ok}
 use Rattle.std.specs.List.{AllByRecursion, AllZip}
@@ -36,11 +36,10 @@ use Rattle.au_words.specs.Words as words
 use Rattle.au_cli.specs.declared.files.Purpose.{Purpose}
 use Rattle.au_cli.specs.declared.files.Purpose.TheVariants as purpose
 use Rattle.au_cli.specs.declared.outcome.Outcome.{Outcome}
-use Rattle.au_cli.specs.declared.outcome.Outcome.TheVariants as outcome
 use Rattle.au_cli.specs.Causes.{IsAskedText}
 use Rattle.au_cli.specs.Files.{Text, and_more, file_table, greatest_columns, greatest_files, greatest_size, greatest_total, passed_limit, size_of, table_in, table_or_defect, table_within, tables_from, tables_of}
 use Rattle.au_cli.specs.Outputs.{AnswersOutputs, AreOutputs, AreWithin, IsEncodedFile}
-use Rattle.au_cli.specs.Plain.{PlanGiven, plan_given}
+use Rattle.au_cli.specs.Plain.{PlanGiven}
 use Rattle.au_cli.specs.Requests.{Given, IsTextBy, Refusal, given_of, refused_request, statement_given, tables_given, typed_given, unless_refused}
 use Rattle.au_cli.specs.Run.{CanRun}
 use Rattle.au_cli.proofs.PlanRuns.{run_given}
@@ -228,8 +227,7 @@ module _ (files outputs : List File) (r : Request) (path : Text) (others : List 
       let found = tables_encoded files outputs 0 0 1 (length (line ++ 10 ∷ [])) r.tables others ts given.tables h.encoded (subst (λ l. AreWithin outputs (length l) others) e h.within) in
       let whole = whole_of (result_ok (tokens_of r.query)) s given.statement in
       let gives = plans_answer found.0 ts s h.line written whole given.sound found.2.good (hold_encoded ts found.0 found.2.good found.2.written found.2.encoded) in
-      let few : length r.tables ≤ greatest_files = few_tables (length r.tables) (nat_lt greatest_files (length r.tables)) _ _ refl given.allowed in
-      (
+      let few : length r.tables ≤ greatest_files = few_tables (length r.tables) (nat_lt greatest_files (length r.tables)) _ _ refl given.allowed in (
         record {
           few = omega (arith, few, same_long (IsEncodedFile files outputs) r.tables others h.encoded);
           line = line;
