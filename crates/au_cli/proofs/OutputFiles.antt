@@ -233,7 +233,7 @@ module _ (files outputs : List File) (r : Request) (path : Text) (others : List 
           line = line;
           file = h.file ∙ ap Some e;
           size = subst (λ l. length l ≤ greatest_size) e h.size;
-          utf8 = subst (λ l. is_utf8 l ≡ true) e h.utf8;
+          utf8 = subst (λ l. is_utf8 l ≡ true) e written.utf8;
           flat = front_flat 0 false line (10 ∷ []) (subst (λ l. is_deep l ≡ false) e h.flat);
           plan = written.plan;
           text = record { widths = written.widths; numbers = written.numbers; text = refl };

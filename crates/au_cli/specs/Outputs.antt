@@ -1,7 +1,6 @@
 -- The texts that `encode` and `rewrite` print, as the files over which `plain` runs.
 use Rattle.std.specs.Prelude.{◌≡◌, ℕ, ◌+◌, ◌≤◌, true, false, List, [], ◌∷◌, length, Some, Ok, ⊤}
 use Rattle.std.specs.List.{AllZip}
-use Rattle.std.specs.Str.{is_utf8}
 use Rattle.au_io.specs.Files.{File, bytes_at}
 use Rattle.au_parse.specs.Tree.{QueryTree}
 use Rattle.au_sqltext.specs.Brackets.{is_deep}
@@ -38,7 +37,6 @@ pub record AreOutputs (files outputs : List File) (r : Request) (path : Text) (o
   pub line : Text
   pub rewritten : IsAskedText (Ok (words.query r)) (Some files) line
   pub file : bytes_at outputs path ≡ Some line
-  pub utf8 : is_utf8 line ≡ true
   pub flat : is_deep line ≡ false
   pub size : length line ≤ greatest_size
   pub within : AreWithin outputs (length line) others

@@ -1,6 +1,7 @@
 -- Texts for another engine, and back: the encoded rows of a table, the plan of a statement, and the rows that a plan gives
 -- over the guess rows of tables.
 use Rattle.std.specs.Prelude.{◌≡◌, ℕ, ◌+◌, ◌*◌, ◌++◌, Bool, true, false, List, [], length, map, sum, Option, None, unwrap_or, codes, ⊤}
+use Rattle.std.specs.Str.{is_utf8}
 use Rattle.au_value.specs.declared.kinds.Kind.{Kind}
 use Rattle.au_parse.specs.Tree.{QueryTree}
 use Rattle.au_blocks.specs.Tables.{BlockTable, column_kinds}
@@ -30,13 +31,14 @@ encoded_text t = rows_text (encoded_kinds (column_kinds t)) (encode (bounded_tab
 abbrev pub value_kinds : List Named → List (List Kind)
 value_kinds ts = map column_kinds (blocks_of ts)
 
--- a line is the text of a plan of a tree over tables of these kinds, and LF
+-- a line is the text of a plan of a tree over tables of these kinds, and LF, in UTF-8
 pub record IsTreeText (kinds : List (List Kind)) (q : Tree) (line : List ℕ) : Type 0 where
   pub plan : PlanTree
   pub whole : IsPlanOf kinds q plan
   pub widths : widths_fit plan ≡ true
   pub numbers : numbers_fit plan ≡ true
   pub text : line ≡ plan_text plan ++ codes "\n"
+  pub utf8 : is_utf8 line ≡ true
 
 -- that of a statement's tree over tables
 abbrev pub IsPlanText : List Named → QueryTree → List ℕ → Type 0

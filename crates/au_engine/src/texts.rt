@@ -1,5 +1,6 @@
 //! Texts for another engine: the encoded rows of a table, and the plan of a statement.
 ghost use Rattle.std.specs.Prelude.{◌≡◌, ◌∷◌, ◌++◌, [], IfOk, IfErr, OnOk, codes, map, true};
+ghost use Rattle.std.specs.Str.{is_utf8};
 ghost use Rattle.au_value.specs.Order.{data_kind};
 ghost use Rattle.au_algebra.specs.Trees.{tree};
 ghost use Rattle.au_algebra.specs.Typing.{IsTyped};
@@ -93,9 +94,9 @@ fn tree_text(alloc: Global, typed: &Typed, tables: &[(Word, Table)]) -> Result<V
     plan_line(alloc, &plan)
 }
 
-// The text of a plan, and LF.
+// The text of a plan, and LF, in UTF-8.
 fn plan_line(alloc: Global, plan: &Plan) -> Result<Vec<u8>, NoMemory>
-    ensures { IfOk result (λ line. line.items ≡ plan_text (plan_tree plan.now) ++ codes "\n") }
+    ensures { IfOk result (λ line. (line.items ≡ plan_text (plan_tree plan.now) ++ codes "\n") × (is_utf8 line.items ≡ true)) }
 {
     let mut line = write_plan(alloc, plan)?.into_string().into_bytes();
     line.push(b'\n')?;

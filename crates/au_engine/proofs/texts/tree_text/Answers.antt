@@ -26,6 +26,7 @@ returns c =
       whole = subst (λ ks. IsPlanOf ks (tree c.args.typed.now.query) (plan_tree c.in_ok-plan.plan)) kinds c.in_ok-plan.ensures.plan;
       widths = c.in_ok-plan.ensures.widths;
       numbers = c.in_ok-plan.ensures.numbers;
-      text = is;
+      text = is.0;
+      utf8 = is.1;
     })
     c.plan_line.ensures
