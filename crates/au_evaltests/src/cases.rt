@@ -13,14 +13,19 @@ pub(crate) trait Call {
     ) -> Result<String, Fail>;
 }
 
-/// Whether the call gives for each line `GIVEN -> WANTED` what is wanted.
+/// What is given in a line `GIVEN -> WANTED`, and what is wanted.
+pub(crate) fn given_and_wanted<'a>(rt: &impl Abort, line: &'a str) -> (&'a str, &'a str) {
+    line.split_once(" -> ").expect(rt, "an arrow")
+}
+
+/// Whether the call gives for each line what is wanted.
 pub(crate) fn judge<C: Call>(
     rt: &(impl Abort + Threads + Sync),
     alloc: Global,
     cases: &str,
 ) -> Result<(), Fail> {
     for line in cases.lines() {
-        let (given, wanted) = line.split_once(" -> ").expect(rt, "an arrow");
+        let (given, wanted) = given_and_wanted(rt, line);
         let found = C::outcome(rt, alloc, given)?;
         assert_eq!(rt; found.as_str(), wanted, "{given}");
     }

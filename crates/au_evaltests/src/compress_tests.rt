@@ -5,7 +5,7 @@ ghost use Rattle.au_algebra.specs.Laws.{IsRelation};
 ghost use Rattle.au_parse.specs.Views.{statement_tree};
 ghost use Rattle.au_parse.specs.Whole.{WholeQuery};
 
-use crate::cases::{Call, judge};
+use crate::cases::{Call, given_and_wanted, judge};
 use crate::query_tables::tables_of;
 use crate::relations::relation;
 use crate::row_texts::{outcome_text, relation_text};
@@ -65,21 +65,32 @@ fn compressed_text(
     }
 }
 
-struct Compressed;
-
-impl Call for Compressed {
-    fn outcome(
-        rt: &(impl Abort + Threads + Sync),
-        alloc: Global,
-        given: &str,
-    ) -> Result<String, Fail> {
-        let (query, tables) = given.split_once(" | ").ok_or("tables")?;
-        let tables = tables_of(alloc, tables)?;
-        match read_query(alloc, query) {
-            Ok(statement) => Ok(compressed_text(rt, alloc, &statement, tables.as_slice())?),
-            Err(fault) => Ok(format!(in alloc; "{fault:?}")?),
-        }
+// The compressed answer of a query over tables.
+fn compressed_answer(
+    rt: &(impl Abort + Threads + Sync),
+    alloc: Global,
+    given: &str,
+) -> Result<String, Fail> {
+    let (query, tables) = given.split_once(" | ").ok_or("tables")?;
+    let tables = tables_of(alloc, tables)?;
+    match read_query(alloc, query) {
+        Ok(statement) => Ok(compressed_text(rt, alloc, &statement, tables.as_slice())?),
+        Err(fault) => Ok(format!(in alloc; "{fault:?}")?),
     }
+}
+
+// Whether the compressed answer is for each line what is wanted.
+fn judge_answers(
+    rt: &(impl Abort + Threads + Sync),
+    alloc: Global,
+    cases: &str,
+) -> Result<(), Fail> {
+    for line in cases.lines() {
+        let (given, wanted) = given_and_wanted(rt, line);
+        let found = compressed_answer(rt, alloc, given)?;
+        assert_eq!(rt; found.as_str(), wanted, "{given}");
+    }
+    Ok(())
 }
 
 // The guesses, and what is possible, with 2^126 and 2^127 - 1 copies.
@@ -106,5 +117,5 @@ fn parts_of_relations(rt: HostRuntime) -> Result<(), Fail> {
 
 #[test]
 fn compressed_answers_of_queries(rt: HostRuntime) -> Result<(), Fail> {
-    judge::<Compressed>(&rt, rt.alloc(), COMPRESSED)
+    judge_answers(&rt, rt.alloc(), COMPRESSED)
 }

@@ -6,7 +6,7 @@ ghost use Rattle.au_plain.specs.Plans.{plan_tree};
 ghost use Rattle.au_exec.specs.Outcomes.{rows_of};
 ghost use Rattle.au_evaltests.specs.Typed.{IsTyped, table_kinds};
 
-use crate::cases::{Call, judge};
+use crate::cases::{Call, given_and_wanted, judge};
 use crate::plan_tests::{OPERATORS, TERMS, plain_text, tables, typed_plan};
 use crate::relations::number;
 use au_exec::{Batch, Run};
@@ -161,30 +161,44 @@ fn batched_text(
     Ok(plain_text(alloc, &batched_rows(rt, alloc, plan, tables))?)
 }
 
-struct Ran;
-
-impl Call for Ran {
-    fn outcome(
-        rt: &(impl Abort + Threads + Sync),
-        alloc: Global,
-        given: &str,
-    ) -> Result<String, Fail> {
-        let (text, table) = given.split_once(" | ").ok_or("a table")?;
-        all_text(rt, alloc, text, table)
-    }
+// The rows of a plan over a table.
+fn ran(rt: &(impl Abort + Threads + Sync), alloc: Global, given: &str) -> Result<String, Fail> {
+    let (text, table) = given.split_once(" | ").ok_or("a table")?;
+    all_text(rt, alloc, text, table)
 }
 
-struct Batched;
-
-impl Call for Batched {
-    fn outcome(
-        rt: &(impl Abort + Threads + Sync),
-        alloc: Global,
-        given: &str,
-    ) -> Result<String, Fail> {
-        let (text, table) = given.split_once(" | ").ok_or("a table")?;
-        batched_text(rt, alloc, text, table)
+// Whether a plan gives for each line what is wanted.
+fn judge_rows(rt: &(impl Abort + Threads + Sync), alloc: Global, cases: &str) -> Result<(), Fail> {
+    for line in cases.lines() {
+        let (given, wanted) = given_and_wanted(rt, line);
+        let found = ran(rt, alloc, given)?;
+        assert_eq!(rt; found.as_str(), wanted, "{given}");
     }
+    Ok(())
+}
+
+// The same, batch by batch.
+fn ran_in_batches(
+    rt: &(impl Abort + Threads + Sync),
+    alloc: Global,
+    given: &str,
+) -> Result<String, Fail> {
+    let (text, table) = given.split_once(" | ").ok_or("a table")?;
+    batched_text(rt, alloc, text, table)
+}
+
+// Whether a plan gives, batch by batch, for each line what is wanted.
+fn judge_batches(
+    rt: &(impl Abort + Threads + Sync),
+    alloc: Global,
+    cases: &str,
+) -> Result<(), Fail> {
+    for line in cases.lines() {
+        let (given, wanted) = given_and_wanted(rt, line);
+        let found = ran_in_batches(rt, alloc, given)?;
+        assert_eq!(rt; found.as_str(), wanted, "{given}");
+    }
+    Ok(())
 }
 
 const CHOSEN: &str =
@@ -277,21 +291,23 @@ fn sizes_text(
 }
 
 // The sizes of batches over a table of so many rows, and whether the batches are all rows.
-struct Counted;
+fn counted(rt: &(impl Abort + Threads + Sync), alloc: Global, given: &str) -> Result<String, Fail> {
+    let (text, count) = given.split_once(" | ").ok_or("a count")?;
+    let table = many_rows(alloc, number(rt, count))?;
+    let sizes = sizes_text(rt, alloc, text, &table)?;
+    let in_batches = batched_text(rt, alloc, text, &table)?;
+    let same = in_batches == all_text(rt, alloc, text, &table)?;
+    Ok(format!(in alloc; "{sizes} {same}")?)
+}
 
-impl Call for Counted {
-    fn outcome(
-        rt: &(impl Abort + Threads + Sync),
-        alloc: Global,
-        given: &str,
-    ) -> Result<String, Fail> {
-        let (text, count) = given.split_once(" | ").ok_or("a count")?;
-        let table = many_rows(alloc, number(rt, count))?;
-        let sizes = sizes_text(rt, alloc, text, &table)?;
-        let in_batches = batched_text(rt, alloc, text, &table)?;
-        let same = in_batches == all_text(rt, alloc, text, &table)?;
-        Ok(format!(in alloc; "{sizes} {same}")?)
+// Whether the batches of a plan have for each line what is wanted.
+fn judge_sizes(rt: &(impl Abort + Threads + Sync), alloc: Global, cases: &str) -> Result<(), Fail> {
+    for line in cases.lines() {
+        let (given, wanted) = given_and_wanted(rt, line);
+        let found = counted(rt, alloc, given)?;
+        assert_eq!(rt; found.as_str(), wanted, "{given}");
     }
+    Ok(())
 }
 
 // How many rows each batch has, over tables of so many rows: at most 256, and none is filled up with rows of the next.
@@ -316,25 +332,25 @@ fn chosen_operators(rt: HostRuntime) -> Result<(), Fail> {
 
 #[test]
 fn rows_of_operators(rt: HostRuntime) -> Result<(), Fail> {
-    judge::<Ran>(&rt, rt.alloc(), OPERATORS)
+    judge_rows(&rt, rt.alloc(), OPERATORS)
 }
 
 #[test]
 fn values_of_terms(rt: HostRuntime) -> Result<(), Fail> {
-    judge::<Ran>(&rt, rt.alloc(), TERMS)
+    judge_rows(&rt, rt.alloc(), TERMS)
 }
 
 #[test]
 fn rows_of_joins(rt: HostRuntime) -> Result<(), Fail> {
-    judge::<Ran>(&rt, rt.alloc(), JOINS)
+    judge_rows(&rt, rt.alloc(), JOINS)
 }
 
 #[test]
 fn rows_by_batches(rt: HostRuntime) -> Result<(), Fail> {
-    judge::<Batched>(&rt, rt.alloc(), JOINS)
+    judge_batches(&rt, rt.alloc(), JOINS)
 }
 
 #[test]
 fn sizes_of_batches(rt: HostRuntime) -> Result<(), Fail> {
-    judge::<Counted>(&rt, rt.alloc(), SIZES)
+    judge_sizes(&rt, rt.alloc(), SIZES)
 }

@@ -8,4 +8,5 @@ use Rattle.au_evaltests.proofs.physical_tests.run_of.Goals as goal
 
 pub start-requires : goal.start-requires
 start-requires c =
-    physical_for (map rows_of c.args.tables.items) (plan_tree c.args.plan) (physical_tree c.in_ok-physical.physical) c.requires.tables c.in_ok-physical.ensures c.requires.plan
+    let fits = physical_for (map rows_of c.args.tables.items) (plan_tree c.args.plan) (physical_tree c.in_ok-physical.physical) c.requires.tables c.in_ok-physical.ensures c.requires.plan in
+    search (rules, fits)
