@@ -1,5 +1,5 @@
 -- The physical plan is typed for the table.
-use Rattle.std.proofs.Common.{map}
+use Rattle.std.proofs.Common.{map, rules}
 use Rattle.au_plain.specs.Plans.{plan_tree}
 use Rattle.au_physical.specs.Physicals.{physical_tree}
 use Rattle.au_exec.specs.Outcomes.{rows_of}
