@@ -1,16 +1,14 @@
 -- The answer that is asked for is the normal form of what is shown of the tree's relation, and its numbers are those of
 -- its making. It holds in every world.
-use Rattle.std.specs.Prelude.{◌≡◌, ℕ, ◌<◌, Bool, true, false, List, ◌++◌, map, Option, Some, None, is_some}
-use Rattle.std.specs.List.{AllByRecursion, AllZip, list_all}
+use Rattle.std.specs.Prelude.{◌≡◌, ℕ, ◌<◌, Bool, true, false, List, ◌++◌, map, Option, Some, None}
+use Rattle.std.specs.List.{AllByRecursion}
 use Rattle.std.proofs.Common.{arith, refl, sym, ◌∙◌, ap, subst}
 use Rattle.std.proofs.lemmas.Bool.{false_from_ne_true, true≢false}
 use Rattle.au_value.specs.declared.kinds.Kind.{Kind}
 use Rattle.au_expr.specs.Figures.{Fit}
 use Rattle.au_expr.proofs.Fits.{fit_parts}
-use Rattle.au_algebra.specs.Bounded.{Bounded, combine, normal, product}
+use Rattle.au_algebra.specs.Bounded.{Bounded, normal}
 use Rattle.au_algebra.specs.Fits.{triple_numbers, triples_fit}
-use Rattle.au_algebra.specs.Laws.{IsRelation}
-use Rattle.au_algebra.specs.Ordinary.{answer}
 use Rattle.au_algebra.specs.Trees.{Tree}
 use Rattle.au_algebra.specs.Typing.{kinds_of}
 use Rattle.au_algebra.proofs.ByProduct.{bounded_is}
@@ -18,10 +16,9 @@ use Rattle.au_algebra.proofs.Each.{all_from}
 use Rattle.au_blocks.specs.Blocks.{IsBlock}
 use Rattle.au_blocks.specs.Tables.{BlockTable, IsBlockTable, IsTable, column_kinds}
 use Rattle.au_blocks.specs.Worlds.{guess_world, tables_in}
-use Rattle.au_translate.specs.Headline.{HoldsInEveryWorld}
 use Rattle.au_translate.specs.Translate.{bounded_table}
 use Rattle.au_translate.proofs.BoundedAnswer.{tables_bounds, tables_guesses}
-use Rattle.au_compress.specs.CompressedAnswers.{Answers, compressed_answer}
+use Rattle.au_compress.specs.CompressedAnswers.{compressed_answer}
 use Rattle.au_compress.specs.ProductNumbers.{fits_by}
 use Rattle.au_compress.proofs.EveryTree.{compressed_answers}
 use Rattle.au_compress.proofs.PlainProduct.{fits_is}

@@ -18,12 +18,11 @@ use Rattle.au_algebra.specs.Laws.{IsRangeRow, IsRelation}
 use Rattle.au_algebra.specs.Lists.{copies}
 use Rattle.au_algebra.specs.Ordinary.{Rows}
 use Rattle.au_algebra.proofs.Occurring.{same_map}
-use Rattle.au_plain.specs.PlanKinds.{FitRows, FitTables}
+use Rattle.au_plain.specs.PlanKinds.{FitRows}
 use Rattle.au_plain.specs.Plans.{PlanTree, Scan}
 use Rattle.au_plain.proofs.Held.{RowFits}
 use Rattle.au_plan.proofs.UpToOrder.{all_same, same_filter}
 use Rattle.au_encode.specs.Encode.{AreEncoded, IsEncoded, decode, decode_row, encode, encode_row}
-use Rattle.au_encode.specs.Gives.{Gives}
 use Rattle.au_encode.proofs.Decoded.{rows_back, rows_encoded}
 use Rattle.au_rwcore.specs.Gives.{Multiplies, Unites}
 use Rattle.au_compress.specs.CompressedFits.{part_numbers, product_numbers}

@@ -19,8 +19,10 @@ mod Reordered
 mod Shown
 mod StageRuns
 mod StageSteps
+mod Together
 mod Told
 mod TableRelations
+mod TreeSizes
 mod TypedWidths
 mod WholePlans
 mod RecordTexts

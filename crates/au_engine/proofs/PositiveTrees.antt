@@ -1,10 +1,10 @@
 -- The tree of a statement that is positive has tables and the four positive operators alone.
-use Rattle.std.specs.Prelude.{◌≡◌, ℕ, ◌||◌, Bool, not, true, false, List, [], ◌∷◌, ◌++◌, map, Option, Some, None, is_some, if◌then◌else◌}
+use Rattle.std.specs.Prelude.{◌≡◌, ℕ, ◌||◌, Bool, not, true, false, List, [], ◌∷◌, ◌++◌, Option, Some, None, is_some, if◌then◌else◌}
 use Rattle.std.specs.List.{list_any, AllByRecursion}
-use Rattle.std.proofs.Common.{refl, sym, ◌∙◌, ap}
+use Rattle.std.proofs.Common.{refl}
 use Rattle.std.proofs.lemmas.Bool.{and_from, or_parts, true≢false}
 use Rattle.au_algebra.specs.Positive.{is_positive}
-use Rattle.au_algebra.specs.Trees.{Tree as Query, Table, Product, Project}
+use Rattle.au_algebra.specs.Trees.{Tree as Query, Product, Project}
 use Rattle.au_blocks.specs.declared.column.Column.{Column}
 use Rattle.au_parse.specs.Tree.{Tree, ItemTree, QueryTree, SetWord, Sources}
 use Rattle.au_typing.specs.Aggregates.{written}

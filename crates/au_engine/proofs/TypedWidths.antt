@@ -1,5 +1,5 @@
 -- The widths of a typed plan fit.
-use Rattle.std.specs.Prelude.{◌≡◌, ◌+◌, ◌&&◌, ◌==◌, ℕ, Bool, true, List, [], ◌∷◌, ◌++◌, length, map, slice_get, Some}
+use Rattle.std.specs.Prelude.{◌≡◌, ◌+◌, ◌&&◌, ◌==◌, ℕ, true, List, [], ◌∷◌, length, map, Some}
 use Rattle.std.specs.List.{list_all}
 use Rattle.std.proofs.Common.{refl, sym, ◌∙◌, ap, eq-eqb}
 use Rattle.std.proofs.lemmas.Bool.{and_parts}
@@ -9,7 +9,7 @@ use Rattle.au_value.specs.Order.{kind_of}
 use Rattle.au_algebra.specs.Typing.{same_kinds}
 use Rattle.au_algebra.proofs.Items.{and_then_is, chosen_is}
 use Rattle.au_algebra.proofs.PositiveRelation.{same_kinds_is}
-use Rattle.au_plain.specs.PlanKinds.{list_kinds, plain_kind, plan_kinds, row_fits}
+use Rattle.au_plain.specs.PlanKinds.{list_kinds, plan_kinds, row_fits}
 use Rattle.au_plain.specs.Plans.{PlanTree}
 use Rattle.au_plain.specs.Plans as plan
 use Rattle.au_plain.specs.Widths.{plan_width}

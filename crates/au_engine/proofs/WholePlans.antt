@@ -7,7 +7,7 @@ use Rattle.au_value.specs.declared.kinds.Kind.{Kind}
 use Rattle.au_expr.specs.Figures.{Fit}
 use Rattle.au_expr.specs.Terms.{Term}
 use Rattle.au_algebra.specs.declared.query.Agg.{Agg}
-use Rattle.au_algebra.specs.Bounded.{Bounded, bounded, combine}
+use Rattle.au_algebra.specs.Bounded.{Bounded, combine}
 use Rattle.au_algebra.specs.Fits.{triple_numbers}
 use Rattle.au_algebra.specs.Laws.{IsRelation}
 use Rattle.au_algebra.specs.Trees.{Tree, Table, Select, Project, Product, Union, Difference, Distinct, Group, Total}

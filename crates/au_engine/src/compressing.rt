@@ -8,6 +8,7 @@ ghost use Rattle.au_plain.specs.Plans.{plan_tree};
 ghost use Rattle.au_exec.specs.Outcomes.{rows_of};
 ghost use Rattle.au_engine.specs.Stages.{AddsCompressed, AddsPairs, AddsRelation, CanRun, Decodes, HaveSides, LeavesCompressed, LeavesMultiplied, LeavesRange, MultipliesCompressed};
 
+use crate::results::together;
 use crate::runner::Runner;
 use crate::stage::{put, run};
 use crate::steps::{Planned, product_of, union_of};
@@ -75,7 +76,8 @@ fn pairs_of(
     ensures plan { IfOk result (λ p. AddsPairs left.now.rel left.now.columns right.now.rel right.now.columns (map rows_of tables.old.items) (map rows_of tables.new.items) (plan_tree p.plan) p.layout.columns) }
 {
     let left = scan_of(alloc, left, tables)?;
-    let right = scan_of(alloc, right, tables)?;
+    let second = scan_of(alloc, right, tables);
+    let (right, left) = together(second, left)?;
     match product_of(alloc, left, right) {
         Ok(pairs) => Ok(pairs),
         Err(NoMemory) => Err(NoMemory),
@@ -175,10 +177,8 @@ fn compressed_pairs(
         Ok(guesses) => guesses,
         Err(NoMemory) => return Err(EvalFault::NoMemory),
     };
-    let possible = match possible_pairs(alloc, left, right, n, tables) {
-        Ok(possible) => possible,
-        Err(fault) => return Err(fault),
-    };
+    let second = possible_pairs(alloc, left, right, n, tables);
+    let (possible, guesses) = together(second, guesses)?;
     match union_of(alloc, guesses, possible) {
         Ok(pairs) => Ok(pairs),
         Err(NoMemory) => Err(EvalFault::NoMemory),
@@ -204,16 +204,9 @@ pub(crate) fn compressed_product_of<R: Threads + Sync, G: Gate + Sync>(
     ensures plan { IfOk result (λ p. MultipliesCompressed n (map rows_of left.1.items) (plan_tree left.0.plan) left.0.layout.columns (map rows_of right.1.items) (plan_tree right.0.plan) right.0.layout.columns (map rows_of tables.old.items) (map rows_of tables.new.items) (plan_tree p.plan) p.layout.columns) }
     ensures overflow { result ≡ Err EvalFault.Overflow → LeavesMultiplied n (map rows_of left.1.items) (plan_tree left.0.plan) left.0.layout.columns (map rows_of right.1.items) (plan_tree right.0.plan) right.0.layout.columns }
 {
-    let left = match side_of(runner, alloc, left.0, left.1) {
-        Ok(left) => left,
-        Err(fault) => return Err(fault),
-    };
-    let right = match side_of(runner, alloc, right.0, right.1) {
-        Ok(right) => right,
-        Err(fault) => return Err(fault),
-    };
-    match compressed_pairs(alloc, &left, &right, n, tables) {
-        Ok(pairs) => Ok(pairs),
-        Err(fault) => Err(fault),
-    }
+    let first = side_of(runner, alloc, left.0, left.1);
+    let (left, own) = together(first, right)?;
+    let second = side_of(runner, alloc, own.0, own.1);
+    let (right, left) = together(second, left)?;
+    compressed_pairs(alloc, &left, &right, n, tables)
 }

@@ -28,6 +28,7 @@ mod options;
 mod ordered;
 mod plain;
 mod reading;
+mod results;
 mod rewriting;
 mod runner;
 mod running;

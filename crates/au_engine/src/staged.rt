@@ -2,9 +2,9 @@
 //!
 //! The plan of a grouping holds its input twice, and that of a difference its combined left side. So these are run first,
 //! and their rows stand as tables: each operator of the tree is run once, and each plan grows with the tree alone.
-ghost use Rattle.std.specs.Prelude.{◌≡◌, IfOk, map};
+ghost use Rattle.std.specs.Prelude.{◌≡◌, [], IfOk, map};
 ghost use Rattle.au_expr.specs.Figures.{Fit};
-ghost use Rattle.au_algebra.specs.Trees.{tree};
+ghost use Rattle.au_algebra.specs.Trees.{Difference, Product, Union, tree};
 ghost use Rattle.au_algebra.specs.Typing.{IsTyped};
 ghost use Rattle.au_blocks.specs.Tables.{column_kinds};
 ghost use Rattle.au_translate.specs.Translate.{bounded_table};
@@ -16,6 +16,7 @@ ghost use Rattle.au_engine.specs.Stages.{AddsTree};
 
 use crate::compressing::compressed_product_of;
 use crate::encoded::scanned;
+use crate::results::together;
 use crate::runner::Runner;
 use crate::stage::{materialized, materialized_combined};
 use crate::steps::{
@@ -36,6 +37,7 @@ use std::thread::Threads;
 ///
 /// `NoMemory` comes also where a row cannot have so many columns, and `Overflow` only where a number of the tree leaves
 /// 128 bits.
+#[cycle(stages)]
 pub(crate) fn staged<R: Threads + Sync, G: Gate + Sync>(
     runner: &Runner<'_, R, G>,
     alloc: Global,
@@ -62,40 +64,20 @@ pub(crate) fn staged<R: Threads + Sync, G: Gate + Sync>(
             let of = staged(runner, alloc, of, blocks, compress, tables)?;
             Ok(project_of(alloc, items.as_slice(), of)?)
         }
-        Query::Product(left, right) => match compress {
-            None => {
-                let left = staged(runner, alloc, left, blocks, compress, tables)?;
-                let right = staged(runner, alloc, right, blocks, compress, tables)?;
-                Ok(product_of(alloc, left, right)?)
-            }
-            Some(n) => {
-                let mut lefts = Vec::new(alloc);
-                let left = staged(runner, alloc, left, blocks, compress, &mut lefts)?;
-                let mut rights = Vec::new(alloc);
-                let right = staged(runner, alloc, right, blocks, compress, &mut rights)?;
-                compressed_product_of(runner, alloc, (left, lefts), (right, rights), n, tables)
-            }
-        },
-        Query::Union(left, right) => {
-            let left = staged(runner, alloc, left, blocks, compress, tables)?;
-            let right = staged(runner, alloc, right, blocks, compress, tables)?;
-            Ok(union_of(alloc, left, right)?)
+        Query::Product(left, right) => {
+            paired(runner, alloc, left, right, blocks, compress, tables)
         }
+        Query::Union(left, right) => united(runner, alloc, left, right, blocks, compress, tables),
         Query::Difference(left, right) => {
-            let mut own = Vec::new(alloc);
-            let left = staged(runner, alloc, left, blocks, compress, &mut own)?;
-            let left = materialized_combined(runner, alloc, left, own, tables)?;
-            let right = staged(runner, alloc, right, blocks, compress, tables)?;
-            Ok(difference_of(alloc, left, right)?)
+            lessened(runner, alloc, left, right, blocks, compress, tables)
         }
         Query::Distinct(of) => {
             let of = staged(runner, alloc, of, blocks, compress, tables)?;
             Ok(distinct_of(alloc, of)?)
         }
         Query::Group(keys, aggs, of) => {
-            let mut own = Vec::new(alloc);
-            let of = staged(runner, alloc, of, blocks, compress, &mut own)?;
-            let of = materialized(runner, alloc, of, own, tables)?;
+            let first = apart(runner, alloc, of, blocks, compress)?;
+            let of = materialized(runner, alloc, first.0, first.1, tables)?;
             Ok(group_of(alloc, *keys, aggs.as_slice(), of)?)
         }
         Query::Total(aggs, of) => {
@@ -103,4 +85,101 @@ pub(crate) fn staged<R: Threads + Sync, G: Gate + Sync>(
             Ok(total_of(alloc, aggs.as_slice(), of)?)
         }
     }
+}
+
+// The same over tables of its own.
+#[cycle(stages)]
+fn apart<R: Threads + Sync, G: Gate + Sync>(
+    runner: &Runner<'_, R, G>,
+    alloc: Global,
+    query: &Query,
+    blocks: &[(Word, Table)],
+    compress: Option<u32>,
+) -> Result<(Planned, Vec<Vec<PRow>>), EvalFault>
+    requires typed { IsTyped (map column_kinds (blocks_of blocks.now)) (tree query.now) }
+    requires compression { IsCompression compress }
+    ensures plan { IfOk result (λ p. AddsTree compress (blocks_of blocks.now) (tree query.now) [] (map rows_of p.1.items) (plan_tree p.0.plan) p.0.layout.columns) }
+    ensures overflow { result ≡ Err EvalFault.Overflow → ¬ (Fit (tree_numbers compress (tree query.now) (map bounded_table (blocks_of blocks.now)))) }
+{
+    let mut own = Vec::new(alloc);
+    let first = staged(runner, alloc, query, blocks, compress, &mut own);
+    let made = together(first, own)?;
+    Ok(made)
+}
+
+// Each pair of rows of two trees.
+#[cycle(stages)]
+fn paired<R: Threads + Sync, G: Gate + Sync>(
+    runner: &Runner<'_, R, G>,
+    alloc: Global,
+    left: &Query,
+    right: &Query,
+    blocks: &[(Word, Table)],
+    compress: Option<u32>,
+    tables: &mut Vec<Vec<PRow>>,
+) -> Result<Planned, EvalFault>
+    requires typed { IsTyped (map column_kinds (blocks_of blocks.now)) (Product (tree left.now) (tree right.now)) }
+    requires compression { IsCompression compress }
+    ensures plan { IfOk result (λ p. AddsTree compress (blocks_of blocks.now) (Product (tree left.now) (tree right.now)) (map rows_of tables.old.items) (map rows_of tables.new.items) (plan_tree p.plan) p.layout.columns) }
+    ensures overflow { result ≡ Err EvalFault.Overflow → ¬ (Fit (tree_numbers compress (Product (tree left.now) (tree right.now)) (map bounded_table (blocks_of blocks.now)))) }
+{
+    match compress {
+        None => {
+            let first = staged(runner, alloc, left, blocks, compress, tables)?;
+            let second = staged(runner, alloc, right, blocks, compress, tables);
+            let sides = together(second, first)?;
+            Ok(product_of(alloc, sides.1, sides.0)?)
+        }
+        Some(n) => {
+            let first = apart(runner, alloc, left, blocks, compress)?;
+            let second = apart(runner, alloc, right, blocks, compress);
+            let sides = together(second, first)?;
+            compressed_product_of(runner, alloc, sides.1, sides.0, n, tables)
+        }
+    }
+}
+
+// The rows of two trees.
+#[cycle(stages)]
+fn united<R: Threads + Sync, G: Gate + Sync>(
+    runner: &Runner<'_, R, G>,
+    alloc: Global,
+    left: &Query,
+    right: &Query,
+    blocks: &[(Word, Table)],
+    compress: Option<u32>,
+    tables: &mut Vec<Vec<PRow>>,
+) -> Result<Planned, EvalFault>
+    requires typed { IsTyped (map column_kinds (blocks_of blocks.now)) (Union (tree left.now) (tree right.now)) }
+    requires compression { IsCompression compress }
+    ensures plan { IfOk result (λ p. AddsTree compress (blocks_of blocks.now) (Union (tree left.now) (tree right.now)) (map rows_of tables.old.items) (map rows_of tables.new.items) (plan_tree p.plan) p.layout.columns) }
+    ensures overflow { result ≡ Err EvalFault.Overflow → ¬ (Fit (tree_numbers compress (Union (tree left.now) (tree right.now)) (map bounded_table (blocks_of blocks.now)))) }
+{
+    let first = staged(runner, alloc, left, blocks, compress, tables)?;
+    let second = staged(runner, alloc, right, blocks, compress, tables);
+    let sides = together(second, first)?;
+    Ok(union_of(alloc, sides.1, sides.0)?)
+}
+
+// The rows of a tree, each less those of another one.
+#[cycle(stages)]
+fn lessened<R: Threads + Sync, G: Gate + Sync>(
+    runner: &Runner<'_, R, G>,
+    alloc: Global,
+    left: &Query,
+    right: &Query,
+    blocks: &[(Word, Table)],
+    compress: Option<u32>,
+    tables: &mut Vec<Vec<PRow>>,
+) -> Result<Planned, EvalFault>
+    requires typed { IsTyped (map column_kinds (blocks_of blocks.now)) (Difference (tree left.now) (tree right.now)) }
+    requires compression { IsCompression compress }
+    ensures plan { IfOk result (λ p. AddsTree compress (blocks_of blocks.now) (Difference (tree left.now) (tree right.now)) (map rows_of tables.old.items) (map rows_of tables.new.items) (plan_tree p.plan) p.layout.columns) }
+    ensures overflow { result ≡ Err EvalFault.Overflow → ¬ (Fit (tree_numbers compress (Difference (tree left.now) (tree right.now)) (map bounded_table (blocks_of blocks.now)))) }
+{
+    let of = apart(runner, alloc, left, blocks, compress)?;
+    let first = materialized_combined(runner, alloc, of.0, of.1, tables)?;
+    let second = staged(runner, alloc, right, blocks, compress, tables);
+    let sides = together(second, first)?;
+    Ok(difference_of(alloc, sides.1, sides.0)?)
 }

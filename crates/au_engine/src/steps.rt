@@ -12,7 +12,7 @@ ghost use Rattle.au_rwgroup.specs.Gives.{Distincts, Groups, Totals};
 use au_algebra::Agg;
 use au_combine::combine;
 use au_expr::Expr;
-use au_plain::{Layout, Plan};
+use au_plain::{Layout, Plan, both};
 use au_rwcore::{product, project, select, union};
 use au_rwdiff::difference;
 use au_rwexpr::width_of;
@@ -63,16 +63,26 @@ pub(crate) fn project_of(alloc: Global, items: &[Expr], of: Planned) -> Result<P
     })
 }
 
+// A sum of two numbers of columns, if a row can have so many.
+fn sum_of(first: usize, second: usize) -> Result<usize, NoMemory>
+    ensures { IfOk result (λ n. n ≡ first + second) }
+{
+    match first.checked_add(second) {
+        Some(columns) => Ok(columns),
+        None => Err(NoMemory),
+    }
+}
+
 /// Each pair of rows.
 pub(crate) fn product_of(alloc: Global, left: Planned, right: Planned) -> Result<Planned, NoMemory>
     ensures columns { IfOk result (λ p. p.layout.columns ≡ left.layout.columns + right.layout.columns) }
     ensures plan { IfOk result (λ p. Multiplies left.layout.columns right.layout.columns (plan_tree left.plan) (plan_tree right.plan) (plan_tree p.plan)) }
 {
-    let Some(columns) = left.layout.columns.checked_add(right.layout.columns) else {
-        return Err(NoMemory);
-    };
+    let columns = sum_of(left.layout.columns, right.layout.columns);
+    let made = product(alloc, left.plan, right.plan, &left.layout, &right.layout);
+    let (plan, columns) = both(made, columns)?;
     Ok(Planned {
-        plan: product(alloc, left.plan, right.plan, &left.layout, &right.layout)?,
+        plan,
         layout: Layout { columns },
     })
 }
@@ -135,11 +145,11 @@ pub(crate) fn group_of(
     ensures columns { IfOk result (λ p. p.layout.columns ≡ keys + length aggs.now) }
     ensures plan { IfOk result (λ p. Groups of.layout.columns keys aggs.now (plan_tree of.plan) (plan_tree p.plan)) }
 {
-    let Some(columns) = keys.checked_add(aggs.len()) else {
-        return Err(NoMemory);
-    };
+    let columns = sum_of(keys, aggs.len());
+    let made = group(alloc, of.plan, keys, aggs, &of.layout);
+    let (plan, columns) = both(made, columns)?;
     Ok(Planned {
-        plan: group(alloc, of.plan, keys, aggs, &of.layout)?,
+        plan,
         layout: Layout { columns },
     })
 }

@@ -6,7 +6,9 @@ use Rattle.au_expr.specs.Terms.{term}
 use Rattle.au_algebra.specs.Trees.{Group, Project, Total, tree}
 use Rattle.au_plain.specs.Plans.{plan_tree}
 use Rattle.au_typing.specs.Queries.{data_kinds, relations, table_kinds}
+use Rattle.au_combine.specs.Gives.{Combines}
 use Rattle.au_engine.specs.Rewriting.{GivesTree}
+use Rattle.au_engine.proofs.Together.{at_equal, at_ok}
 use Rattle.au_engine.proofs.WholePlans.{difference_whole, distinct_whole, from_two, group_whole, product_whole, project_whole, scan_whole, schema_at, select_whole, total_whole, union_whole}
 use Rattle.au_engine.proofs.rewriting.+plan_of.Goals as goal
 
@@ -43,24 +45,30 @@ returns-in_ok-of-in-Project t c =
 
 pub returns-in_ok-right-in-Product : goal.returns-in_ok-right-in-Product
 returns-in_ok-right-in-Product t c =
-    let left = c.in_ok-left-in-Product.left in
+    let first = c.in_ok-left-in-Product.left in
+    let left = c.in_ok-right-in-Product.left in
     let right = c.in_ok-right-in-Product.right in
     let a = tree c.in-Product.left.value in
     let b = tree c.in-Product.right.value in
-    let of_left = subst (λ m. GivesTree (table_kinds (relations c.args.schemas.now)) (tree m) (plan_tree left.plan) left.layout.columns) c.deref-in-Product.ensures c.in_ok-left-in-Product.ensures in
-    let of_right = subst (λ m. GivesTree (table_kinds (relations c.args.schemas.now)) (tree m) (plan_tree right.plan) right.layout.columns) c.deref-in-Product-2.ensures c.in_ok-right-in-Product.ensures in
+    let own_left = subst (λ m. GivesTree (table_kinds (relations c.args.schemas.now)) (tree m) (plan_tree first.plan) first.layout.columns) c.deref-in-Product.ensures c.in_ok-left-in-Product.ensures in
+    let of_left = at_equal first left (sym c.in_ok-right-in-Product.ensures.values.1) (λ x. GivesTree (table_kinds (relations c.args.schemas.now)) a (plan_tree x.plan) x.layout.columns) own_left in
+    let own_right = at_ok c.plan_of-second.result right c.in_ok-right-in-Product.ensures.values.0 (λ x. GivesTree (table_kinds (relations c.args.schemas.now)) (tree c.deref-in-Product-2.result.now) (plan_tree x.plan) x.layout.columns) c.plan_of-second.ensures in
+    let of_right = subst (λ m. GivesTree (table_kinds (relations c.args.schemas.now)) (tree m) (plan_tree right.plan) right.layout.columns) c.deref-in-Product-2.ensures own_right in
     rw c.in-Product.is
     (from_two c.product_of.result _ _ _ (λ p wide step. product_whole (table_kinds (relations c.args.schemas.now)) a b (plan_tree left.plan) (plan_tree right.plan) (plan_tree p.plan) left.layout.columns right.layout.columns p.layout.columns of_right of_left wide step)
     c.product_of.ensures.columns c.product_of.ensures.plan)
 
 pub returns-in_ok-right-in-Union : goal.returns-in_ok-right-in-Union
 returns-in_ok-right-in-Union t c =
-    let left = c.in_ok-left-in-Union.left in
+    let first = c.in_ok-left-in-Union.left in
+    let left = c.in_ok-right-in-Union.left in
     let right = c.in_ok-right-in-Union.right in
     let a = tree c.in-Union.left.value in
     let b = tree c.in-Union.right.value in
-    let of_left = subst (λ m. GivesTree (table_kinds (relations c.args.schemas.now)) (tree m) (plan_tree left.plan) left.layout.columns) c.deref-in-Union.ensures c.in_ok-left-in-Union.ensures in
-    let of_right = subst (λ m. GivesTree (table_kinds (relations c.args.schemas.now)) (tree m) (plan_tree right.plan) right.layout.columns) c.deref-in-Union-2.ensures c.in_ok-right-in-Union.ensures in
+    let own_left = subst (λ m. GivesTree (table_kinds (relations c.args.schemas.now)) (tree m) (plan_tree first.plan) first.layout.columns) c.deref-in-Union.ensures c.in_ok-left-in-Union.ensures in
+    let of_left = at_equal first left (sym c.in_ok-right-in-Union.ensures.values.1) (λ x. GivesTree (table_kinds (relations c.args.schemas.now)) a (plan_tree x.plan) x.layout.columns) own_left in
+    let own_right = at_ok c.plan_of-second-in-Union.result right c.in_ok-right-in-Union.ensures.values.0 (λ x. GivesTree (table_kinds (relations c.args.schemas.now)) (tree c.deref-in-Union-2.result.now) (plan_tree x.plan) x.layout.columns) c.plan_of-second-in-Union.ensures in
+    let of_right = subst (λ m. GivesTree (table_kinds (relations c.args.schemas.now)) (tree m) (plan_tree right.plan) right.layout.columns) c.deref-in-Union-2.ensures own_right in
     rw c.in-Union.is
     (from_two c.union_of.result _ _ _ (λ p wide step. union_whole (table_kinds (relations c.args.schemas.now)) a b (plan_tree left.plan) (plan_tree right.plan) (plan_tree p.plan) left.layout.columns right.layout.columns p.layout.columns of_right of_left wide step)
     c.union_of.ensures.columns c.union_of.ensures.plan)
@@ -69,16 +77,21 @@ pub returns-in_ok-right-in-Difference : goal.returns-in_ok-right-in-Difference
 returns-in_ok-right-in-Difference t c =
     let kinds = table_kinds (relations c.args.schemas.now) in
     let of = c.in_ok-left-in-Difference.left in
-    let left = c.in_ok-left-in-Difference-2.left in
+    let first = c.in_ok-left-in-Difference-2.left in
+    let left = c.in_ok-right-in-Difference.left in
     let right = c.in_ok-right-in-Difference.right in
     let a = tree c.in-Difference.left.value in
     let b = tree c.in-Difference.right.value in
+    let is = sym c.in_ok-right-in-Difference.ensures.values.1 in
     let of_left = subst (λ m. GivesTree kinds (tree m) (plan_tree of.plan) of.layout.columns) c.deref-in-Difference.ensures c.in_ok-left-in-Difference.ensures in
-    let of_right = subst (λ m. GivesTree kinds (tree m) (plan_tree right.plan) right.layout.columns) c.deref-in-Difference-2.ensures c.in_ok-right-in-Difference.ensures in
+    let wide_left = at_equal first left is (λ x. x.layout.columns ≡ of.layout.columns) c.in_ok-left-in-Difference-2.ensures.columns in
+    let combines = at_equal first left is (λ x. Combines of.layout.columns (plan_tree of.plan) (plan_tree x.plan)) c.in_ok-left-in-Difference-2.ensures.plan in
+    let own_right = at_ok c.plan_of-second-in-Difference.result right c.in_ok-right-in-Difference.ensures.values.0 (λ x. GivesTree kinds (tree c.deref-in-Difference-2.result.now) (plan_tree x.plan) x.layout.columns) c.plan_of-second-in-Difference.ensures in
+    let of_right = subst (λ m. GivesTree kinds (tree m) (plan_tree right.plan) right.layout.columns) c.deref-in-Difference-2.ensures own_right in
     rw c.in-Difference.is
     (from_two c.difference_of.result _ _ _
     (λ p wide step. difference_whole kinds a b (plan_tree left.plan) (plan_tree right.plan) (plan_tree p.plan) left.layout.columns right.layout.columns p.layout.columns of_right
-    (plan_tree of.plan) of.layout.columns of_left c.in_ok-left-in-Difference-2.ensures.columns c.in_ok-left-in-Difference-2.ensures.plan wide step)
+    (plan_tree of.plan) of.layout.columns of_left wide_left combines wide step)
     c.difference_of.ensures.columns c.difference_of.ensures.plan)
 
 pub returns-in_ok-of-in-Distinct : goal.returns-in_ok-of-in-Distinct

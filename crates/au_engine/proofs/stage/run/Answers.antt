@@ -1,5 +1,5 @@
 -- The physical plan stands for the plan, so that its run finds what the plan gives.
-use Rattle.std.proofs.Common.{◌≡◌, map, sym, ◌∙◌}
+use Rattle.std.proofs.Common.{◌≡◌, map}
 use Rattle.au_expr.specs.declared.fault.EvalFault.TheVariants.{Overflow}
 use Rattle.au_plain.specs.Plans.{plan_tree}
 use Rattle.au_physical.specs.Physicals.{physical_tree}
