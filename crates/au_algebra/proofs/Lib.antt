@@ -63,5 +63,6 @@ pub mod NormalRows
 pub mod Runs
 pub mod TripleFits
 pub mod MergedRuns
+pub mod Gathering
 pub mod ByProduct
 pub mod AnyProduct

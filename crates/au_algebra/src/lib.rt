@@ -15,12 +15,14 @@
 //! ```
 #![tactic(auto)]
 
+mod gathered;
 mod normal_form;
 mod query;
 mod range_order;
 mod rel;
 mod theorems;
 
+pub use gathered::Gathered;
 pub use normal_form::normal;
 pub use query::{Agg, Query};
 pub use rel::Rel;
