@@ -4,8 +4,11 @@ ghost use Rattle.std.specs.List.Sorted.{IsPermutation, IsSortedBy};
 ghost use Rattle.std.specs.Ordering.{is_eq, is_lt};
 ghost use Rattle.au_annot.specs.Triples.{IsTriple, plus};
 ghost use Rattle.au_algebra.specs.Bounded.{normal as normal_of, ranges_order};
+ghost use Rattle.au_algebra.specs.Distribution.{Bounds};
 ghost use Rattle.au_algebra.specs.Entries.{entry};
 ghost use Rattle.au_algebra.specs.Fits.{triples_fit};
+ghost use Rattle.au_algebra.specs.Laws.{Guesses};
+ghost use Rattle.au_algebra.specs.Ordinary.{Rows};
 
 use crate::range_order::compare_ranges;
 use crate::rel::Rel;
@@ -18,11 +21,14 @@ use std::alloc::Global;
 type Row = (Vec<Range>, Triple);
 
 /// The normal form: rows that are equal in all their values are one row, with the sum of their triples, and the rows
-/// are ordered by their guesses, then by their lower ends, then by their upper ends.
+/// are ordered by their guesses, then by their lower ends, then by their upper ends. It bounds each list that the rows
+/// bound, and guesses what they guess.
 ///
 /// `Overflow` comes exactly where a component of such a sum passes 2^127-1.
 pub fn normal(alloc: Global, rel: Rel<Range, Triple>) -> Result<Rel<Range, Triple>, EvalFault>
     ensures form { IfOk result (λ n. n ≡ normal_of rel) }
+    ensures bounds { IfOk result (λ n. (w : Rows) → Bounds rel w → Bounds n w) }
+    ensures guesses { IfOk result (λ n. (w : Rows) → Guesses rel w → Guesses n w) }
     ensures fits { IfOk result (λ n. IsTrue (triples_fit (normal_of rel))) }
     ensures overflow { result ≡ Err EvalFault.Overflow → triples_fit (normal_of rel) ≡ false }
 {

@@ -1,6 +1,7 @@
 pub mod Answered
 pub mod Evaluated
 pub mod HasKinds
+pub mod ImageTables
 pub mod Images
 pub mod OneRow
 pub mod Passes

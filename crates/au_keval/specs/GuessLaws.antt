@@ -9,17 +9,23 @@ use Rattle.au_value.specs.Ranges.{range}
 use Rattle.au_expr.specs.Truths.{range_of_truth}
 use Rattle.au_value.specs.Ranges.{Span, IsRangeOf}
 use Rattle.au_value.specs.declared.kinds.Kind.TheVariants.{Flag}
-use Rattle.au_annot.specs.Triples.{plus, times, none, one}
+use Rattle.au_annot.specs.Triples.{IsTriple, plus, times, none, one}
 use Rattle.au_expr.specs.OnRanges.{on_ranges}
-use Rattle.au_expr.specs.Ordinary.{ordinary, is_true}
+use Rattle.au_expr.specs.Ordinary.{IsKind, ordinary, is_true}
 use Rattle.au_expr.specs.Truths.{IsThreeWay, three_way}
 use Rattle.au_algebra.proofs.PositiveGuesses.{guess_keeps}
 use Rattle.au_expr.proofs.Kept.{three_way_from}
-use Rattle.au_keval.specs.Homs.{KeepsCells, KeepsTruth, KeepsWeight, Keeps}
+use Rattle.au_keval.specs.Homs.{KeepsCells, KeepsKinds, KeepsTruth, KeepsValid, KeepsWeight, Keeps}
 use Rattle.au_keval.specs.Weights.{count_of, triple_of}
 
 pub guess_cells : KeepsCells IsRangeOf on_ranges ordinary (λ r. r.sg)
 guess_cells = guess_keeps.cells
+
+pub guess_kinds : KeepsKinds IsRangeOf IsKind (λ r. r.sg)
+guess_kinds k r ok = ok.kind
+
+pub guess_valid : KeepsValid IsTriple (λ _. Unit {0}) (λ k. k.guess)
+guess_valid k ok = tt
 
 -- a flag is the flag of its truth
 flag_is : (v : Value) → kind_of v ≡ Flag → value.Flag (is_true v) ≡ v

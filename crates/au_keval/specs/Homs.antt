@@ -1,5 +1,6 @@
 -- A map of cells and one of annotations that go along with the operators commutes with the general reading, rows of
--- annotation zero left out on both sides (Green, Karvounarakis, Tannen, PODS 2007).
+-- annotation zero left out on both sides (Green, Karvounarakis, Tannen, PODS 2007). Where they keep kinds and validity, a
+-- tree that can be evaluated over tables can be evaluated over their images.
 use Rattle.std.specs.Prelude.{◌≡◌, List, map}
 use Rattle.au_value.specs.declared.kinds.Kind.{Kind}
 use Rattle.au_value.specs.declared.kinds.Kind.TheVariants.{Flag}
@@ -13,6 +14,14 @@ use Rattle.au_keval.specs.Reading.{IsPositiveOver}
 -- cells of a kind stay of the kind, and each operator goes along
 abbrev pub KeepsCells : {C D : Type 0} → (Kind → C → Type 0) → Operators C → Operators D → (C → D) → Type 0
 KeepsCells is_kind c d f = Related (λ k x u. is_kind k x × (f x ≡ u)) c d
+
+-- the image of a cell of a kind is of the kind
+abbrev pub KeepsKinds : {C D : Type 0} → (Kind → C → Type 0) → (Kind → D → Type 0) → (C → D) → Type 0
+KeepsKinds {C} is_kind has_kind f = (k : Kind) (x : C) → is_kind k x → has_kind k (f x)
+
+-- the image of a valid annotation is valid
+abbrev pub KeepsValid : {K L : Type 0} → (K → Type 0) → (L → Type 0) → (K → L) → Type 0
+KeepsValid {K} is_valid to_valid h = (k : K) → is_valid k → to_valid (h k)
 
 -- the truth of a flag is valid and goes along
 abbrev pub KeepsTruth : {C D T U : Type 0} → (Kind → C → Type 0) → (T → Type 0) → (C → T) → (D → U) → (C → D) → (T → U) → Type 0
@@ -36,3 +45,9 @@ Commutes {C} {D} {K} is_kind is_valid c d a b f h =
     (q : Tree) (ts : List (List (Entry C K))) →
     IsPositiveOver is_kind is_valid q ts →
     images d b f h (positive c a q ts) ≡ positive d b q (map (images d b f h) ts)
+
+-- a tree that is positive over tables is positive over their images
+abbrev pub StaysPositive : {C D K L : Type 0} → (Kind → C → Type 0) → (K → Type 0) → (Kind → D → Type 0) → (L → Type 0) → Operators D → Annotations D L → (C → D) → (K → L) → Type 0
+StaysPositive {C} {D} {K} is_kind is_valid has_kind to_valid d b f h =
+    (q : Tree) (ts : List (List (Entry C K))) →
+    IsPositiveOver is_kind is_valid q ts → IsPositiveOver has_kind to_valid q (map (images d b f h) ts)

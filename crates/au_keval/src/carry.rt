@@ -1,7 +1,7 @@
 //! Maps between two domains and two annotations.
 ghost use Rattle.std.specs.Prelude.{◌≡◌};
-ghost use Rattle.au_keval.specs.GuessLaws.{guess_cells, guess_truth, guess_weight, guess_zero, guess_one, guess_plus, guess_times};
-ghost use Rattle.au_keval.specs.Homs.{Commutes, Keeps, KeepsCells, KeepsTruth, KeepsWeight};
+ghost use Rattle.au_keval.specs.GuessLaws.{guess_cells, guess_kinds, guess_truth, guess_valid, guess_weight, guess_zero, guess_one, guess_plus, guess_times};
+ghost use Rattle.au_keval.specs.Homs.{Commutes, Keeps, KeepsCells, KeepsKinds, KeepsTruth, KeepsValid, KeepsWeight, StaysPositive};
 ghost use Rattle.au_keval.specs.Reading.{annotations};
 
 use crate::weigh::Weigh;
@@ -9,7 +9,7 @@ use au_annot::{Count, Triple};
 use au_expr::{Domain, PlainDomain, RangeDomain};
 
 /// A map of cells, truths and annotations, from one domain and annotation to others, that goes along with all that
-/// the evaluation of a query does. It has no call.
+/// the evaluation of a query does. What it maps to can be evaluated, too. It has no call.
 pub trait Carry<D: Domain, K: Weigh<D>, E: Domain, L: Weigh<E>> {
     ghost cell: { D.Cell → E.Cell };
 
@@ -19,6 +19,12 @@ pub trait Carry<D: Domain, K: Weigh<D>, E: Domain, L: Weigh<E>> {
 
     // kinds, literals and the operators on cells whose kinds fit
     ghost keeps_cells: { KeepsCells D.is_kind D.operators E.operators cell };
+
+    // the kinds of cells
+    ghost keeps_kinds: { KeepsKinds D.is_kind E.is_kind cell };
+
+    // valid annotations
+    ghost keeps_valid: { KeepsValid K.IsValid L.IsValid annot };
 
     // the truths of flags
     ghost keeps_truth: { KeepsTruth D.is_kind D.is_valid D.truth_of E.truth_of cell truth };
@@ -47,6 +53,10 @@ impl Carry<RangeDomain, Triple, PlainDomain, Count> for Guessing {
 
     ghost keeps_cells = { guess_cells };
 
+    ghost keeps_kinds = { guess_kinds };
+
+    ghost keeps_valid = { guess_valid };
+
     ghost keeps_truth = { guess_truth };
 
     ghost keeps_weight = { guess_weight };
@@ -61,7 +71,8 @@ impl Carry<RangeDomain, Triple, PlainDomain, Count> for Guessing {
 }
 
 /// Mapping the rows of the tables commutes with the evaluation of a query, rows of annotation zero left out on both
-/// sides, under the condition of `positive`.
+/// sides, under the condition of `positive`, which the images of the tables meet, too.
 pub fn hom<D: Domain, K: Weigh<D>, E: Domain, L: Weigh<E>, C: Carry<D, K, E, L>>()
-    ensures { Commutes D.is_kind K.IsValid D.operators E.operators (annotations K.zero K.one K.plus K.times K.at_most K.weight D.truth_of) (annotations L.zero L.one L.plus L.times L.at_most L.weight E.truth_of) C.cell C.annot }
+    ensures commutes { Commutes D.is_kind K.IsValid D.operators E.operators (annotations K.zero K.one K.plus K.times K.at_most K.weight D.truth_of) (annotations L.zero L.one L.plus L.times L.at_most L.weight E.truth_of) C.cell C.annot }
+    ensures evaluates { StaysPositive D.is_kind K.IsValid E.is_kind L.IsValid E.operators (annotations L.zero L.one L.plus L.times L.at_most L.weight E.truth_of) C.cell C.annot }
 {}

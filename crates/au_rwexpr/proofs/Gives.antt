@@ -3,9 +3,8 @@ use Rattle.std.specs.Prelude.{◌≡◌, Bool, true, false, ◌&&◌, cond, ℕ,
 use Rattle.std.specs.List.{AllByRecursion}
 use Rattle.std.proofs.Common.{refl, sym, ◌∙◌, ap}
 use Rattle.au_value.specs.declared.kinds.Kind.{Kind}
-use Rattle.au_value.specs.declared.kinds.Kind.TheVariants.{Int, Text, Flag}
+use Rattle.au_value.specs.declared.kinds.Kind.TheVariants.{Flag}
 use Rattle.au_value.specs.declared.value.Value.{Value}
-use Rattle.au_value.specs.Order.{kind_eq}
 use Rattle.au_value.specs.KindLaws.{kind_itself}
 use Rattle.au_expr.specs.Kinds.{is_kind}
 use Rattle.au_algebra.specs.Typing.{kinds_if, same_kinds}

@@ -4,6 +4,7 @@ pub mod CellSteps
 pub mod Coded
 pub mod Columns
 pub mod Counting
+pub mod Filled
 pub mod Flags
 pub mod FlattenLaws
 pub mod Flattening

@@ -12,6 +12,10 @@
 //! let possible = filter(alloc, RangeColumns::at(last)?.hi(), wider)?;
 //! ```
 //!
+//! The calls that reckon with widths and places, and those of the operators above, give `NoMemory` also where a row cannot
+//! have so many columns, as their places pass the greatest `usize`: no memory could hold such a row. No clause tells this
+//! case from the others, since none says when memory is wanting.
+//!
 //! It belongs to docs/ARCHITECTURE.md.
 #![tactic(auto)]
 
