@@ -1,15 +1,19 @@
--- One pass over rows: what each row adds to those that are done.
+-- One pass over rows: what each row adds to those that are done, and what the call of each operator answers.
 -- A row of annotation zero is not put behind them.
-use Rattle.std.specs.Prelude.{◌≡◌, Bool, true, List, [], ◌∷◌, ◌++◌, map, flat_map, if◌then◌else◌}
+use Rattle.std.specs.Prelude.{◌≡◌, Bool, true, false, List, [], ◌∷◌, ◌++◌, map, flat_map, if◌then◌else◌, Result, MatchResult, Vec}
 use Rattle.std.specs.List.{list_all, AllByRecursion}
+use Rattle.std.specs.declared.alloc.Global.{Global}
 use Rattle.au_value.specs.declared.kinds.Kind.{Kind}
 use Rattle.au_value.specs.declared.kinds.Kind.TheVariants.{Flag}
 use Rattle.au_expr.specs.Terms.{Term}
 use Rattle.au_expr.specs.Evaluate.{Operators, evaluate, HasKind}
 use Rattle.au_expr.specs.Figures.{Figures, fit, numbers_of}
+use Rattle.au_expr.specs.declared.fault.EvalFault.{EvalFault}
+use Rattle.au_expr.specs.declared.fault.EvalFault.TheVariants as fault
 use Rattle.au_algebra.specs.Entries.{Entry, entry}
 use Rattle.au_algebra.specs.Positive.{Annotations}
-use Rattle.au_keval.specs.Reading.{select_fits}
+use Rattle.au_keval.specs.Held.{HeldRow, held_entries}
+use Rattle.au_keval.specs.Reading.{select_fits, project_fits, pair_fits, product_fits}
 
 -- the rows after a pass, that each row passed a test, and what was learned of it
 pub record Passed {A B : Type 0} (step : A → List B) (test : A → Bool) (Learned : A → Type 0) (xs : List A) (before after : List B) : Type 0 where
@@ -76,3 +80,58 @@ pub record Weighed {C K : Type 0} (d : Operators C) (n : Figures C) (a : Annotat
   pub value : k ≡ a.times r.annot (a.weight (evaluate d e r.cells))
   pub fits : select_fits d n a in_range e r ≡ true
   pub valid : WeightIsValid d a is_valid e r
+
+-- ---- what the calls answer
+
+-- One has gone through a step, behind what was done. An overflow comes only where it fails the test.
+abbrev pub PassesOne : {A B R : Type 0} → (A → List B) → (A → Bool) → (A → Type 0) → A → List B → List B → Result R EvalFault → Type 0
+PassesOne step test Learned x before after result =
+    MatchResult result (λ _. Passed step test Learned (x ∷ []) before after) (λ f. f ≡ fault.Overflow → test x ≡ false)
+
+-- All have gone through a step. An overflow comes only where one fails the test.
+abbrev pub PassesAll : {A B R : Type 0} → (A → List B) → (A → Bool) → (A → Type 0) → List A → (R → List B) → Result R EvalFault → Type 0
+PassesAll step test Learned xs made result =
+    MatchResult result (λ r. Passed step test Learned xs [] (made r)) (λ f. f ≡ fault.Overflow → list_all test xs ≡ false)
+
+-- Items have been evaluated on a row, one behind others or all of them.
+module _ {C : Type 0} (d : Operators C) (n : Figures C) (is_kind : Kind → C → Type 0) (row : List C) where
+  abbrev pub PutsItem : {R : Type 0} → Term → List C → List C → Result R EvalFault → Type 0
+  PutsItem e before after result = PassesOne (value_step d row) (value_fits d n row) (KeepsKind d is_kind row) e before after result
+
+  abbrev pub HasItems : List Term → Result (Vec C Global) EvalFault → Type 0
+  HasItems items result = PassesAll (value_step d row) (value_fits d n row) (KeepsKind d is_kind row) items (λ v. v.items) result
+
+module _ {C K : Type 0} (d : Operators C) (n : Figures C) (a : Annotations C K) (in_range : K → Bool) where
+  -- The row's annotation has been multiplied by the condition's. An overflow comes only where a number or the product
+  -- leaves the range.
+  abbrev pub Weighs : (K → Type 0) → Term → Entry C K → Result K EvalFault → Type 0
+  Weighs is_valid e r result =
+      MatchResult result (λ k. Weighed d n a in_range is_valid e r k) (λ f. f ≡ fault.Overflow → select_fits d n a in_range e r ≡ false)
+
+  -- Select of a row, and of all rows.
+  abbrev pub SelectsOne : {R : Type 0} → (K → Type 0) → Term → Entry C K → List (HeldRow C K) → List (HeldRow C K) → Result R EvalFault → Type 0
+  SelectsOne is_valid e r before after result =
+      PassesOne (selected a d e) (select_fits d n a in_range e) (WeightIsValid d a is_valid e) r (held_entries before) (held_entries after) result
+
+  abbrev pub SelectsAll : (K → Type 0) → Term → List (Entry C K) → Result (Vec (HeldRow C K) Global) EvalFault → Type 0
+  SelectsAll is_valid e rows result =
+      PassesAll (selected a d e) (select_fits d n a in_range e) (WeightIsValid d a is_valid e) rows (λ v. held_entries v.items) result
+
+  -- Project of a row, and of all rows.
+  abbrev pub ProjectsOne : {R : Type 0} → (Kind → C → Type 0) → List Term → Entry C K → List (HeldRow C K) → List (HeldRow C K) → Result R EvalFault → Type 0
+  ProjectsOne is_kind items r before after result =
+      PassesOne (projected a d items) (project_fits d n a in_range items) (KeepKinds d is_kind items) r (held_entries before) (held_entries after) result
+
+  abbrev pub ProjectsAll : (Kind → C → Type 0) → List Term → List (Entry C K) → Result (Vec (HeldRow C K) Global) EvalFault → Type 0
+  ProjectsAll is_kind items rows result =
+      PassesAll (projected a d items) (project_fits d n a in_range items) (KeepKinds d is_kind items) rows (λ v. held_entries v.items) result
+
+  -- The join of a row with one of the other side, that of a row with all of them, and that of all rows.
+  abbrev pub JoinsPair : {R : Type 0} → Entry C K → Entry C K → List (HeldRow C K) → List (HeldRow C K) → Result R EvalFault → Type 0
+  JoinsPair x y before after result = PassesOne (pair a x) (pair_fits d n a in_range x) Nothing y (held_entries before) (held_entries after) result
+
+  abbrev pub JoinsOne : {R : Type 0} → List (Entry C K) → Entry C K → List (HeldRow C K) → List (HeldRow C K) → Result R EvalFault → Type 0
+  JoinsOne ys x before after result = PassesOne (joined a ys) (product_fits d n a in_range ys) Nothing x (held_entries before) (held_entries after) result
+
+  abbrev pub JoinsAll : List (Entry C K) → List (Entry C K) → Result (Vec (HeldRow C K) Global) EvalFault → Type 0
+  JoinsAll xs ys result = PassesAll (joined a ys) (product_fits d n a in_range ys) Nothing xs (λ v. held_entries v.items) result

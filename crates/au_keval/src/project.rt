@@ -1,11 +1,10 @@
 //! Project: each row's list of item values.
-ghost use Rattle.std.specs.Prelude.{◌≡◌, MatchResult, [], ◌∷◌, map, false};
-ghost use Rattle.std.specs.List.{list_all, AllByRecursion};
+ghost use Rattle.std.specs.Prelude.{map};
+ghost use Rattle.std.specs.List.{AllByRecursion};
 ghost use Rattle.au_expr.specs.Terms.{term};
-ghost use Rattle.au_expr.specs.declared.fault.EvalFault.TheVariants as fault;
-ghost use Rattle.au_algebra.specs.Entries.{entry};
-ghost use Rattle.au_keval.specs.Passes.{Passed, projected, value_step, value_fits, HaveKinds, HasSomeKind, KeepKinds, KeepsKind};
-ghost use Rattle.au_keval.specs.Reading.{annotations, project_fits};
+ghost use Rattle.au_keval.specs.Held.{held_entry, held_entries};
+ghost use Rattle.au_keval.specs.Passes.{HaveKinds, HasSomeKind, PutsItem, HasItems, ProjectsOne, ProjectsAll};
+ghost use Rattle.au_keval.specs.Reading.{annotations};
 
 use crate::row::{Row, push};
 use crate::weigh::Weigh;
@@ -19,7 +18,7 @@ fn push_value<D: Domain>(
     done: &mut Vec<D::Cell>,
 ) -> Result<(), EvalFault>
     requires { HasSomeKind D.is_kind row.now (term item.now) }
-    ensures { MatchResult result (λ _. Passed (value_step D.operators row.now) (value_fits D.operators D.figures row.now) (KeepsKind D.operators D.is_kind row.now) (term item.now ∷ []) done.old.items done.new.items) (λ f. f ≡ fault.Overflow → value_fits D.operators D.figures row.now (term item.now) ≡ false) }
+    ensures { PutsItem D.operators D.figures D.is_kind row.now (term item.now) done.old.items done.new.items result }
 {
     let value = evaluate::<D>(item, row)?;
     match done.push(value) {
@@ -35,7 +34,7 @@ fn values<D: Domain>(
     row: &[D::Cell],
 ) -> Result<Vec<D::Cell>, EvalFault>
     requires { AllByRecursion (HasSomeKind D.is_kind row.now) (map term items.now) }
-    ensures { MatchResult result (λ v. Passed (value_step D.operators row.now) (value_fits D.operators D.figures row.now) (KeepsKind D.operators D.is_kind row.now) (map term items.now) [] v.items) (λ f. f ≡ fault.Overflow → list_all (value_fits D.operators D.figures row.now) (map term items.now) ≡ false) }
+    ensures { HasItems D.operators D.figures D.is_kind row.now (map term items.now) result }
 {
     let mut done = Vec::new(alloc);
     for item in items {
@@ -51,8 +50,8 @@ fn project_row<D: Domain, K: Weigh<D>>(
     row: &Row<D::Cell, K>,
     done: &mut Vec<Row<D::Cell, K>>,
 ) -> Result<(), EvalFault>
-    requires { HaveKinds D.is_kind (map term items.now) (entry row.now.0.items row.now.1) }
-    ensures { let a = annotations K.zero K.one K.plus K.times K.at_most K.weight D.truth_of in MatchResult result (λ _. Passed (projected a D.operators (map term items.now)) (project_fits D.operators D.figures a K.in_range (map term items.now)) (KeepKinds D.operators D.is_kind (map term items.now)) (entry row.now.0.items row.now.1 ∷ []) (map (λ r. entry r.0.items r.1) done.old.items) (map (λ r. entry r.0.items r.1) done.new.items)) (λ f. f ≡ fault.Overflow → project_fits D.operators D.figures a K.in_range (map term items.now) (entry row.now.0.items row.now.1) ≡ false) }
+    requires { HaveKinds D.is_kind (map term items.now) (held_entry row.now) }
+    ensures { let a = annotations K.zero K.one K.plus K.times K.at_most K.weight D.truth_of in ProjectsOne D.operators D.figures a K.in_range D.is_kind (map term items.now) (held_entry row.now) done.old.items done.new.items result }
 {
     let cells = values::<D>(alloc, items, row.0.as_slice())?;
     push::<D, K>(done, cells, row.1)
@@ -64,8 +63,8 @@ pub fn project<D: Domain, K: Weigh<D>>(
     items: &[Expr],
     rows: &[Row<D::Cell, K>],
 ) -> Result<Vec<Row<D::Cell, K>>, EvalFault>
-    requires { AllByRecursion (HaveKinds D.is_kind (map term items.now)) (map (λ r. entry r.0.items r.1) rows.now) }
-    ensures { let a = annotations K.zero K.one K.plus K.times K.at_most K.weight D.truth_of in MatchResult result (λ v. Passed (projected a D.operators (map term items.now)) (project_fits D.operators D.figures a K.in_range (map term items.now)) (KeepKinds D.operators D.is_kind (map term items.now)) (map (λ r. entry r.0.items r.1) rows.now) [] (map (λ r. entry r.0.items r.1) v.items)) (λ f. f ≡ fault.Overflow → list_all (project_fits D.operators D.figures a K.in_range (map term items.now)) (map (λ r. entry r.0.items r.1) rows.now) ≡ false) }
+    requires { AllByRecursion (HaveKinds D.is_kind (map term items.now)) (held_entries rows.now) }
+    ensures { let a = annotations K.zero K.one K.plus K.times K.at_most K.weight D.truth_of in ProjectsAll D.operators D.figures a K.in_range D.is_kind (map term items.now) (held_entries rows.now) result }
 {
     let mut done = Vec::new(alloc);
     for row in rows {

@@ -1,8 +1,7 @@
 //! Rows that a table lends or an operator made.
-ghost use Rattle.std.specs.Prelude.{◌≡◌, ◌++◌, MatchResult, [], ◌∷◌, map, flat_map, ◌<◌, length, unwrap_or, slice_get};
-ghost use Rattle.au_algebra.specs.Entries.{entry};
-ghost use Rattle.au_expr.specs.declared.fault.EvalFault.TheVariants as fault;
+ghost use Rattle.std.specs.Prelude.{◌≡◌, [], flat_map, ◌<◌, length, unwrap_or, slice_get};
 ghost use Rattle.au_keval.specs.Evaluation.{rows_in};
+ghost use Rattle.au_keval.specs.Held.{held_entries, MakesRows, PutsRows};
 ghost use Rattle.au_keval.specs.Passes.{kept};
 ghost use Rattle.au_keval.specs.Reading.{annotations};
 
@@ -22,14 +21,14 @@ pub enum Rows<'a, C, K> {
 /// The rows of the table with this number.
 pub fn table<C, K>(tables: &[Rel<C, K>], i: usize) -> &[Row<C, K>]
     requires { i < length tables.now }
-    ensures { map (λ r. entry r.0.items r.1) result.now ≡ unwrap_or (slice_get tables.now i) [] }
+    ensures { held_entries result.now ≡ unwrap_or (slice_get tables.now i) [] }
 {
     tables[i].rows()
 }
 
 /// The rows, to be read.
 pub fn slice<'b, C, K>(rows: &'b Rows<'_, C, K>) -> &'b [Row<C, K>]
-    ensures { map (λ r. entry r.0.items r.1) result.now ≡ rows_in rows.now }
+    ensures { held_entries result.now ≡ rows_in rows.now }
 {
     match rows {
         Rows::Lent(rows) => rows,
@@ -43,7 +42,7 @@ pub(crate) fn push_present<D: Domain, K: Weigh<D>>(
     done: &mut Vec<Row<D::Cell, K>>,
     rows: &[Row<D::Cell, K>],
 ) -> Result<(), EvalFault>
-    ensures { MatchResult result (λ _. map (λ r. entry r.0.items r.1) done.new.items ≡ map (λ r. entry r.0.items r.1) done.old.items ++ flat_map (kept (annotations K.zero K.one K.plus K.times K.at_most K.weight D.truth_of)) (map (λ r. entry r.0.items r.1) rows.now)) (λ f. f ≡ fault.NoMemory) }
+    ensures { let a = annotations K.zero K.one K.plus K.times K.at_most K.weight D.truth_of in PutsRows (flat_map (kept a) (held_entries rows.now)) done.old.items done.new.items result }
 {
     for row in rows {
         push_copy::<D, K>(alloc, done, row.0.as_slice(), row.1)?;
@@ -56,7 +55,7 @@ pub fn copied<D: Domain, K: Weigh<D>>(
     alloc: Global,
     rows: &[Row<D::Cell, K>],
 ) -> Result<Vec<Row<D::Cell, K>>, EvalFault>
-    ensures { MatchResult result (λ v. map (λ r. entry r.0.items r.1) v.items ≡ map (λ r. entry r.0.items r.1) rows.now) (λ f. f ≡ fault.NoMemory) }
+    ensures { MakesRows (held_entries rows.now) result }
 {
     let mut done = Vec::new(alloc);
     for row in rows {

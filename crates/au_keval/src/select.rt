@@ -1,12 +1,11 @@
 //! Select: each row's annotation times its condition's.
-ghost use Rattle.std.specs.Prelude.{◌≡◌, MatchResult, [], ◌∷◌, map, false};
-ghost use Rattle.std.specs.List.{list_all, AllByRecursion};
+ghost use Rattle.std.specs.List.{AllByRecursion};
 ghost use Rattle.au_expr.specs.Terms.{term};
-ghost use Rattle.au_expr.specs.declared.fault.EvalFault.TheVariants as fault;
 ghost use Rattle.au_algebra.specs.Entries.{entry};
 ghost use Rattle.au_keval.specs.Evaluation.{rows_in};
-ghost use Rattle.au_keval.specs.Passes.{Passed, Weighed, selected, IsCondition, WeightIsValid};
-ghost use Rattle.au_keval.specs.Reading.{annotations, select_fits};
+ghost use Rattle.au_keval.specs.Held.{held_entry, held_entries};
+ghost use Rattle.au_keval.specs.Passes.{IsCondition, Weighs, SelectsOne, SelectsAll};
+ghost use Rattle.au_keval.specs.Reading.{annotations};
 
 use crate::row::{Row, push, push_copy};
 use crate::rows::Rows;
@@ -23,7 +22,7 @@ fn weighed<D: Domain, K: Weigh<D>>(
 where
     D::Truth: Drop,
     requires { IsCondition D.is_kind (term condition.now) (entry cells.now annot) }
-    ensures { MatchResult result (λ k. Weighed D.operators D.figures (annotations K.zero K.one K.plus K.times K.at_most K.weight D.truth_of) K.in_range K.IsValid (term condition.now) (entry cells.now annot) k) (λ f. f ≡ fault.Overflow → select_fits D.operators D.figures (annotations K.zero K.one K.plus K.times K.at_most K.weight D.truth_of) K.in_range (term condition.now) (entry cells.now annot) ≡ false) }
+    ensures { let a = annotations K.zero K.one K.plus K.times K.at_most K.weight D.truth_of in Weighs D.operators D.figures a K.in_range K.IsValid (term condition.now) (entry cells.now annot) result }
 {
     let flag = evaluate::<D>(condition, cells)?;
     let truth = D::truth(&flag);
@@ -39,8 +38,8 @@ fn select_lent<D: Domain, K: Weigh<D>>(
 ) -> Result<(), EvalFault>
 where
     D::Truth: Drop,
-    requires { IsCondition D.is_kind (term condition.now) (entry row.now.0.items row.now.1) }
-    ensures { let a = annotations K.zero K.one K.plus K.times K.at_most K.weight D.truth_of in MatchResult result (λ _. Passed (selected a D.operators (term condition.now)) (select_fits D.operators D.figures a K.in_range (term condition.now)) (WeightIsValid D.operators a K.IsValid (term condition.now)) (entry row.now.0.items row.now.1 ∷ []) (map (λ r. entry r.0.items r.1) done.old.items) (map (λ r. entry r.0.items r.1) done.new.items)) (λ f. f ≡ fault.Overflow → select_fits D.operators D.figures a K.in_range (term condition.now) (entry row.now.0.items row.now.1) ≡ false) }
+    requires { IsCondition D.is_kind (term condition.now) (held_entry row.now) }
+    ensures { let a = annotations K.zero K.one K.plus K.times K.at_most K.weight D.truth_of in SelectsOne D.operators D.figures a K.in_range K.IsValid (term condition.now) (held_entry row.now) done.old.items done.new.items result }
 {
     let annot = weighed::<D, K>(condition, row.0.as_slice(), row.1)?;
     push_copy::<D, K>(alloc, done, row.0.as_slice(), annot)
@@ -54,8 +53,8 @@ fn select_made<D: Domain, K: Weigh<D>>(
 ) -> Result<(), EvalFault>
 where
     D::Truth: Drop,
-    requires { IsCondition D.is_kind (term condition.now) (entry row.0.items row.1) }
-    ensures { let a = annotations K.zero K.one K.plus K.times K.at_most K.weight D.truth_of in MatchResult result (λ _. Passed (selected a D.operators (term condition.now)) (select_fits D.operators D.figures a K.in_range (term condition.now)) (WeightIsValid D.operators a K.IsValid (term condition.now)) (entry row.0.items row.1 ∷ []) (map (λ r. entry r.0.items r.1) done.old.items) (map (λ r. entry r.0.items r.1) done.new.items)) (λ f. f ≡ fault.Overflow → select_fits D.operators D.figures a K.in_range (term condition.now) (entry row.0.items row.1) ≡ false) }
+    requires { IsCondition D.is_kind (term condition.now) (held_entry row) }
+    ensures { let a = annotations K.zero K.one K.plus K.times K.at_most K.weight D.truth_of in SelectsOne D.operators D.figures a K.in_range K.IsValid (term condition.now) (held_entry row) done.old.items done.new.items result }
 {
     let (cells, annot) = row;
     let annot = weighed::<D, K>(condition, cells.as_slice(), annot)?;
@@ -70,8 +69,8 @@ fn select_from<D: Domain, K: Weigh<D>>(
 ) -> Result<Vec<Row<D::Cell, K>>, EvalFault>
 where
     D::Truth: Drop,
-    requires { AllByRecursion (IsCondition D.is_kind (term condition.now)) (map (λ r. entry r.0.items r.1) rows.now) }
-    ensures { let a = annotations K.zero K.one K.plus K.times K.at_most K.weight D.truth_of in MatchResult result (λ v. Passed (selected a D.operators (term condition.now)) (select_fits D.operators D.figures a K.in_range (term condition.now)) (WeightIsValid D.operators a K.IsValid (term condition.now)) (map (λ r. entry r.0.items r.1) rows.now) [] (map (λ r. entry r.0.items r.1) v.items)) (λ f. f ≡ fault.Overflow → list_all (select_fits D.operators D.figures a K.in_range (term condition.now)) (map (λ r. entry r.0.items r.1) rows.now) ≡ false) }
+    requires { AllByRecursion (IsCondition D.is_kind (term condition.now)) (held_entries rows.now) }
+    ensures { let a = annotations K.zero K.one K.plus K.times K.at_most K.weight D.truth_of in SelectsAll D.operators D.figures a K.in_range K.IsValid (term condition.now) (held_entries rows.now) result }
 {
     let mut done = Vec::new(alloc);
     for row in rows {
@@ -88,8 +87,8 @@ fn select_of<D: Domain, K: Weigh<D>>(
 ) -> Result<Vec<Row<D::Cell, K>>, EvalFault>
 where
     D::Truth: Drop,
-    requires { AllByRecursion (IsCondition D.is_kind (term condition.now)) (map (λ r. entry r.0.items r.1) rows.items) }
-    ensures { let a = annotations K.zero K.one K.plus K.times K.at_most K.weight D.truth_of in MatchResult result (λ v. Passed (selected a D.operators (term condition.now)) (select_fits D.operators D.figures a K.in_range (term condition.now)) (WeightIsValid D.operators a K.IsValid (term condition.now)) (map (λ r. entry r.0.items r.1) rows.items) [] (map (λ r. entry r.0.items r.1) v.items)) (λ f. f ≡ fault.Overflow → list_all (select_fits D.operators D.figures a K.in_range (term condition.now)) (map (λ r. entry r.0.items r.1) rows.items) ≡ false) }
+    requires { AllByRecursion (IsCondition D.is_kind (term condition.now)) (held_entries rows.items) }
+    ensures { let a = annotations K.zero K.one K.plus K.times K.at_most K.weight D.truth_of in SelectsAll D.operators D.figures a K.in_range K.IsValid (term condition.now) (held_entries rows.items) result }
 {
     let mut done = Vec::new(alloc);
     for row in rows {
@@ -107,7 +106,7 @@ pub fn select<D: Domain, K: Weigh<D>>(
 where
     D::Truth: Drop,
     requires { AllByRecursion (IsCondition D.is_kind (term condition.now)) (rows_in rows) }
-    ensures { let a = annotations K.zero K.one K.plus K.times K.at_most K.weight D.truth_of in MatchResult result (λ v. Passed (selected a D.operators (term condition.now)) (select_fits D.operators D.figures a K.in_range (term condition.now)) (WeightIsValid D.operators a K.IsValid (term condition.now)) (rows_in rows.entry) [] (map (λ r. entry r.0.items r.1) v.items)) (λ f. f ≡ fault.Overflow → list_all (select_fits D.operators D.figures a K.in_range (term condition.now)) (rows_in rows.entry) ≡ false) }
+    ensures { let a = annotations K.zero K.one K.plus K.times K.at_most K.weight D.truth_of in SelectsAll D.operators D.figures a K.in_range K.IsValid (term condition.now) (rows_in rows.entry) result }
 {
     match rows {
         Rows::Lent(rows) => select_from::<D, K>(alloc, condition, rows),

@@ -1,8 +1,8 @@
 //! Union: the left rows and the right rows.
-ghost use Rattle.std.specs.Prelude.{◌≡◌, ◌++◌, MatchResult, map, flat_map};
-ghost use Rattle.au_algebra.specs.Entries.{entry};
+ghost use Rattle.std.specs.Prelude.{◌≡◌, ◌++◌, MatchResult, flat_map};
 ghost use Rattle.au_expr.specs.declared.fault.EvalFault.TheVariants as fault;
 ghost use Rattle.au_keval.specs.Evaluation.{rows_in, IsPresent};
+ghost use Rattle.au_keval.specs.Held.{MakesRows, PutsRows};
 ghost use Rattle.au_keval.specs.Passes.{kept};
 ghost use Rattle.au_keval.specs.Reading.{annotations};
 
@@ -18,7 +18,7 @@ fn owned<D: Domain, K: Weigh<D>>(
     rows: Rows<'_, D::Cell, K>,
 ) -> Result<Vec<Row<D::Cell, K>>, EvalFault>
     requires { IsPresent (annotations K.zero K.one K.plus K.times K.at_most K.weight D.truth_of) rows }
-    ensures { MatchResult result (λ v. map (λ r. entry r.0.items r.1) v.items ≡ flat_map (kept (annotations K.zero K.one K.plus K.times K.at_most K.weight D.truth_of)) (rows_in rows.entry)) (λ f. f ≡ fault.NoMemory) }
+    ensures { let a = annotations K.zero K.one K.plus K.times K.at_most K.weight D.truth_of in MakesRows (flat_map (kept a) (rows_in rows.entry)) result }
 {
     match rows {
         Rows::Lent(rows) => {
@@ -51,7 +51,7 @@ fn push_rows<D: Domain, K: Weigh<D>>(
     rows: Rows<'_, D::Cell, K>,
 ) -> Result<(), EvalFault>
     requires { IsPresent (annotations K.zero K.one K.plus K.times K.at_most K.weight D.truth_of) rows }
-    ensures { MatchResult result (λ _. map (λ r. entry r.0.items r.1) done.new.items ≡ map (λ r. entry r.0.items r.1) done.old.items ++ flat_map (kept (annotations K.zero K.one K.plus K.times K.at_most K.weight D.truth_of)) (rows_in rows.entry)) (λ f. f ≡ fault.NoMemory) }
+    ensures { let a = annotations K.zero K.one K.plus K.times K.at_most K.weight D.truth_of in PutsRows (flat_map (kept a) (rows_in rows.entry)) done.old.items done.new.items result }
 {
     match rows {
         Rows::Lent(rows) => push_present::<D, K>(alloc, done, rows),
@@ -67,7 +67,7 @@ pub fn union<D: Domain, K: Weigh<D>>(
 ) -> Result<Vec<Row<D::Cell, K>>, EvalFault>
     requires left { IsPresent (annotations K.zero K.one K.plus K.times K.at_most K.weight D.truth_of) left }
     requires right { IsPresent (annotations K.zero K.one K.plus K.times K.at_most K.weight D.truth_of) right }
-    ensures { MatchResult result (λ v. map (λ r. entry r.0.items r.1) v.items ≡ flat_map (kept (annotations K.zero K.one K.plus K.times K.at_most K.weight D.truth_of)) (rows_in left.entry) ++ flat_map (kept (annotations K.zero K.one K.plus K.times K.at_most K.weight D.truth_of)) (rows_in right.entry)) (λ f. f ≡ fault.NoMemory) }
+    ensures { let a = annotations K.zero K.one K.plus K.times K.at_most K.weight D.truth_of in MakesRows (flat_map (kept a) (rows_in left.entry) ++ flat_map (kept a) (rows_in right.entry)) result }
 {
     let mut done = owned::<D, K>(alloc, left)?;
     push_rows::<D, K>(alloc, &mut done, right)?;

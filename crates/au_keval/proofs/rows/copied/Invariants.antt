@@ -1,7 +1,7 @@
 -- The rows so far are copied.
-use Rattle.std.proofs.Common.{◌≡◌, map, take}
-use Rattle.au_algebra.specs.Entries.{entry}
+use Rattle.std.proofs.Common.{◌≡◌, take}
+use Rattle.au_keval.specs.Held.{held_entries}
 use Rattle.au_keval.proofs.rows.copied.Given as goal
 
 abbrev pub invariant-loop-row : goal.invariant-loop-row
-invariant-loop-row g l = map (λ r. entry r.0.items r.1) l.done.items ≡ map (λ r. entry r.0.items r.1) (take l.row-index l.rows)
+invariant-loop-row g l = held_entries l.done.items ≡ held_entries (take l.row-index l.rows)

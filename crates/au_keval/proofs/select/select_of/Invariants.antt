@@ -1,8 +1,8 @@
 -- The rows that came are passed.
-use Rattle.std.proofs.Common.{◌≡◌, ◌++◌, [], length, map}
+use Rattle.std.proofs.Common.{◌≡◌, ◌++◌, [], length}
 use Rattle.std.specs.Vec.Iter.{into_iter_items, into_iter_len}
 use Rattle.au_expr.specs.Terms.{term}
-use Rattle.au_algebra.specs.Entries.{entry}
+use Rattle.au_keval.specs.Held.{held_entries}
 use Rattle.au_keval.specs.Passes.{Passed, selected, WeightIsValid}
 use Rattle.au_keval.specs.Reading.{annotations, select_fits}
 use Rattle.au_keval.proofs.select.select_of.Given as goal
@@ -19,5 +19,5 @@ invariant-loop-row g l =
       left : l.yielded ++ into_iter_items l.row-iterator ≡ into_iter_items l.initial.row-iterator;
       count : into_iter_len l.row-iterator ≡ length (into_iter_items l.row-iterator);
       passed : Passed (selected a d.operators e) (select_fits d.operators d.figures a k.in_range e) (WeightIsValid d.operators a k.IsValid e)
-          (map (λ r. entry r.0.items r.1) l.yielded) [] (map (λ r. entry r.0.items r.1) l.done.items);
+          (held_entries l.yielded) [] (held_entries l.done.items);
     }
