@@ -1,7 +1,11 @@
--- The fields of a record from the left, as its iterator gives them.
-use Rattle.std.proofs.Common.{◌≡◌, ℕ, zero, suc, ◌+◌, Bool, true, false, List, [], ◌∷◌, ◌++◌, take, Some, None, refl, ap, ◌&&◌, subst, arith}
-use Rattle.std.specs.List.{list_all}
-use Rattle.csv.specs.Records.{field_at}
+-- The fields of a record from the left, as its iterator gives them, at their places, and as texts.
+use Rattle.std.proofs.Common.{◌≡◌, ℕ, zero, suc, ◌+◌, true, false, List, [], ◌∷◌, ◌++◌, take, Some, None, inl, inr, refl, ap, subst, arith}
+use Rattle.std.specs.Prelude.{slice_get}
+use Rattle.std.specs.Str.{is_utf8}
+use Rattle.std.proofs.lemmas.Bool.{cases_Bool, and_parts}
+use Rattle.std.proofs.lemmas.Str.{is_utf8-from_IsUtf8, IsUtf8-from_is_utf8}
+use Rattle.csv.specs.Records.{AllText, field_at}
+use Rattle.au_csv.specs.Texts.{is_text}
 
 suc-add-one : (i : ℕ) → suc (i + 1) ≡ suc i + 1
 suc-add-one i = omega arith
@@ -23,9 +27,30 @@ take-field_at_end [] (suc i) is = refl
 take-field_at_end (x ∷ xs) zero is = cc
 take-field_at_end (x ∷ xs) (suc i) is = ap (λ r. x ∷ r) (take-field_at_end xs i is)
 
--- one field that fails a test
-pub list_all-field_at : (p : List ℕ → Bool) (xs : List (List ℕ)) (i : ℕ) (f : List ℕ) → field_at xs i ≡ Some f → p f ≡ false → list_all p xs ≡ false
+-- the field at a place is that of the list
+pub field_at-slice_get : (xs : List (List ℕ)) (i : ℕ) → field_at xs i ≡ slice_get xs i
 unfolding field_at
-list_all-field_at p [] i f is fails = cc
-list_all-field_at p (x ∷ xs) zero f is fails = let e : x ≡ f = cc in rw (e, fails) refl
-list_all-field_at p (x ∷ xs) (suc i) f is fails = rw (list_all-field_at p xs i f is fails) (elim (p x) as (λ b. (b && false) ≡ false) [ true ↦ refl | false ↦ refl ])
+field_at-slice_get [] zero = refl
+field_at-slice_get [] (suc i) = refl
+field_at-slice_get (x ∷ xs) zero = refl
+field_at-slice_get (x ∷ xs) (suc i) = field_at-slice_get xs i
+
+-- fields that are text pass the test, and those that pass are text
+pub text-passes : (xs : List (List ℕ)) → AllText xs → is_text xs ≡ true
+unfolding AllText
+text-passes [] text = refl
+text-passes (x ∷ xs) text = rw (is_utf8-from_IsUtf8 x text.0, text-passes xs text.1) refl
+
+pub passes-text : (xs : List (List ℕ)) → is_text xs ≡ true → AllText xs
+unfolding AllText
+passes-text [] pass = tt
+passes-text (x ∷ xs) pass =
+    let parts = and_parts (is_utf8 x) (is_text xs) pass in
+    (IsUtf8-from_is_utf8 x parts.0, passes-text xs parts.1)
+
+pub not-passes : (xs : List (List ℕ)) → (AllText xs → ⊥) → is_text xs ≡ false
+not-passes xs other =
+    elim (cases_Bool (is_text xs)) [
+      | inl pass ↦ absurd (other (passes-text xs pass))
+      | inr fails ↦ fails
+    ]

@@ -1,3 +1,4 @@
 pub mod Fields
 pub mod NotText
 pub mod Reached
+pub mod Stops

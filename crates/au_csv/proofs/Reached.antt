@@ -5,7 +5,7 @@ use Rattle.csv.specs.declared.parser.Config.{Config}
 use Rattle.csv.specs.declared.parser.State.{State}
 use Rattle.csv.specs.declared.parser.State.TheVariants as st
 use Rattle.csv.specs.Machine.{Read, next_record, is_end, step, fields_after, field_after, ends_at_end}
-use Rattle.csv.specs.Reading.{Reached, AreRecords, records, records_from, records_next}
+use Rattle.csv.specs.Reading.{Reached, AreRecords, default_config, is_bom, records, records_from, records_next, strip_bom}
 
 -- a record takes at least one byte, where there is one
 shorter_step : (b : Bool) (p q : Read) (more : Option Read) (n : ℕ) → length q.2 ≤ n → ((r : Read) → more ≡ Some r → length r.2 ≤ n)
@@ -78,3 +78,22 @@ records-front cfg xs ys s rows reached =
 pub records-AreRecords : (cfg : Config) (xs : List ℕ) (rows : List (List (List ℕ))) → AreRecords cfg st.StartRecord xs rows → records cfg xs ≡ rows
 records-AreRecords cfg xs rows all =
     records_from-Reached cfg rows (length xs + 1) st.StartRecord all.0 xs all.1 all.2 all.3 (rows_fit cfg rows st.StartRecord all.0 xs all.1 all.2)
+
+-- a text without its byte order mark isn't longer
+strip_bom-le : (xs : List ℕ) → length (strip_bom xs) ≤ length xs
+unfolding strip_bom
+strip_bom-le [] = omega arith
+strip_bom-le (a ∷ []) = omega arith
+strip_bom-le (a ∷ b ∷ []) = omega arith
+strip_bom-le (a ∷ b ∷ c ∷ rest) =
+    elim (is_bom a b c) as (λ t. length (if t then rest else a ∷ b ∷ c ∷ rest) ≤ length (a ∷ b ∷ c ∷ rest)) [
+      | true ↦ omega arith
+      | false ↦ omega arith
+    ]
+
+-- so its reader gives at most one record more than there are bytes
+pub records-fit : (xs ys : List ℕ) (s : State) (rows : List (List (List ℕ))) → Reached default_config st.StartRecord (strip_bom xs) rows s ys → length rows ≤ length xs + 1
+records-fit xs ys s rows reached =
+    let fit = rows_fit default_config rows st.StartRecord s (strip_bom xs) ys reached in
+    let shorter = strip_bom-le xs in
+    omega arith

@@ -1,8 +1,8 @@
 //! The records of a CSV text.
 //!
 //! [`records`] reads the text of a table file: fields between commas, quoted by double quotes where they hold commas or
-//! ends of lines (RFC 4180, as the `csv` crate reads it). Each [`Rec`] is a list of words. Records may differ in length,
-//! and no record is a header here.
+//! ends of lines (RFC 4180, as the `csv` crate reads it). Each [`Rec`] is a list of texts, which [`Rec::len`] and
+//! [`Rec::get`] read. Records may differ in length, and no record is a header here.
 //!
 //! ```text
 //! match records(alloc, bytes) {

@@ -1,15 +1,13 @@
 //! The records of a text.
 ghost use Rattle.std.specs.Prelude.{◌≡◌, ◌⊎◌, true, false, Ok, Err, IfOk, IfErr};
-ghost use Rattle.std.specs.Str.{is_utf8};
 ghost use Rattle.csv.specs.Records.{fields_of};
+ghost use Rattle.csv.specs.Reading.{error_kind, stops_reader};
 ghost use Rattle.au_csv.specs.Texts.{is_text, text_records};
 
 use crate::faults::CsvFault;
 use crate::rec::Rec;
-use au_value::Word;
-use csv::{ByteRecord, ReaderBuilder};
+use csv::{ByteRecord, Error, ErrorKind, ReaderBuilder, StringRecord};
 use std::alloc::Global;
-use std::str;
 
 /// The records of a text: its fields stand between commas, and a field in double quotes may hold commas, ends of lines
 /// and doubled quotes. One byte order mark at the start is dropped. Records may differ in length, no record is a header,
@@ -26,38 +24,40 @@ pub fn records(alloc: Global, bytes: &[u8]) -> Result<Vec<Rec>, CsvFault>
         .from_reader(alloc, bytes);
     let mut row = ByteRecord::new(alloc);
     let mut records = Vec::new(alloc);
-    for _ in 0..u64::MAX {
+    // There is at most one record more than there are bytes, and then the end.
+    let turns = bytes.len() as u128 + 2;
+    for _ in 0..turns {
         match reader.read_byte_record(&mut row) {
             Ok(true) => {
                 let number = records.len();
-                records.push(text_record(alloc, &row, number)?)?;
+                records.push(text_record(&row, number)?)?;
             }
             Ok(false) => return Ok(records),
-            Err(_) => return Err(CsvFault::NoMemory),
+            Err(error) => return Err(fault_of(&error)),
         }
     }
-    Err(CsvFault::NoMemory)
+    unreachable!()
 }
 
 // The record of these fields, which has this number.
-fn text_record(alloc: Global, row: &ByteRecord, number: usize) -> Result<Rec, CsvFault>
+fn text_record(row: &ByteRecord, number: usize) -> Result<Rec, CsvFault>
     ensures fields { IfOk result (λ r. (r ≡ fields_of row.now) × (is_text (fields_of row.now) ≡ true)) }
     ensures fault { IfErr result (λ e. (e ≡ CsvFault.NoMemory) ⊎ ((e ≡ CsvFault.NotText number) × (is_text (fields_of row.now) ≡ false))) }
 {
-    let mut fields = Vec::new(alloc);
-    for field in row {
-        fields.push(word(alloc, field, number)?)?;
+    match StringRecord::from_byte_record(row.clone()?) {
+        Ok(fields) => Ok(Rec::of(fields)),
+        Err(_) => Err(CsvFault::NotText(number)),
     }
-    Ok(Rec::new(fields))
 }
 
-// The text of a field of the record that has this number.
-fn word(alloc: Global, field: &[u8], number: usize) -> Result<Word, CsvFault>
-    ensures text { IfOk result (λ w. (w ≡ field.now) × (is_utf8 field.now ≡ true)) }
-    ensures fault { IfErr result (λ e. (e ≡ CsvFault.NoMemory) ⊎ ((e ≡ CsvFault.NotText number) × (is_utf8 field.now ≡ false))) }
+// The fault of a reader of bytes that are in memory. A slice gives its bytes and no fault, so that the reader under them
+// never is the cause, though the reader's contract doesn't say it.
+fn fault_of(error: &Error) -> CsvFault
+    requires { stops_reader (error_kind error.now) ≡ true }
+    ensures { result ≡ CsvFault.NoMemory }
 {
-    match str::from_utf8(field) {
-        Ok(text) => Ok(Word::new(String::from_str(alloc, text)?)),
-        Err(_) => Err(CsvFault::NotText(number)),
+    match error.kind() {
+        ErrorKind::OutOfMemory | ErrorKind::Io(_) => CsvFault::NoMemory,
+        _ => unreachable!(),
     }
 }

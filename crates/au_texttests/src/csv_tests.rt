@@ -7,9 +7,9 @@ use std::test::Fail;
 // A bar, and the fields in brackets.
 fn push_record(text: &mut String, record: &Rec) -> Result<(), AllocError> {
     text.push_str("|")?;
-    for field in record.fields() {
+    for place in 0..record.len() {
         text.push_str("[")?;
-        text.push_str(field.as_str())?;
+        text.push_str(record.get(place).unwrap_or("none"))?;
         text.push_str("]")?;
     }
     Ok(())

@@ -1,6 +1,7 @@
--- A record more, the end of the text, and a record that isn't text.
-use Rattle.std.proofs.Common.{Bor, ◌≡◌, ◌∙◌, ◌∷◌, ◌++◌, [], ℕ, List, inl, inr, refl, sym, true, false, Some, None, Ok, Err, length, append_assoc}
+-- A record more, the end of the text, a record that isn't text, a read that fails, and the turns.
+use Rattle.std.proofs.Common.{Bor, ◌≡◌, ◌∙◌, ◌∷◌, ◌++◌, [], ℕ, List, inl, inr, refl, sym, true, false, Some, None, Ok, Err, length, append_assoc, arith}
 use Rattle.std.specs.List.{list_all}
+use Rattle.std.proofs.lemmas.List.{length_push}
 use Rattle.std.proofs.lemmas.List.Folds.{list_all-append}
 use Rattle.std.proofs.lemmas.Result.{err_from_is_err_and}
 use Rattle.csv.specs.Records.{fields_of}
@@ -12,7 +13,8 @@ use Rattle.csv.proofs.ReadFacts.{rows-end, rows-more}
 use Rattle.au_csv.specs.declared.faults.CsvFault.TheVariants as fault
 use Rattle.au_csv.specs.Texts.{Record, is_text, text_records}
 use Rattle.au_csv.proofs.NotText.{position-first, position-none}
-use Rattle.au_csv.proofs.Reached.{records-front, records-AreRecords}
+use Rattle.au_csv.proofs.Reached.{records-fit, records-front, records-AreRecords}
+use Rattle.au_csv.proofs.Stops.{explained-stops}
 use Rattle.au_csv.proofs.read.records.Goals as goal
 
 -- the text of records in turn of which the last isn't text, and of all records
@@ -39,6 +41,8 @@ loop-init c =
       trim = rw (f, e) at fr.trim ∙ c.new.ensures.trim;
       ready = inr (inr (rw (f, e) at fr.has_headers, fr.headers));
       config = rw (f, e) at fr.config ∙ c.new.ensures.config;
+      flexible = rw f at fr.flexible;
+      turns = rw c.new-records.ensures.items refl;
       reached = (strip_bom c.args.bytes.now, fr.source, rw c.new-records.ensures.items (sym fr.state, refl));
       text = rw c.new-records.ensures.items refl;
     }
@@ -77,6 +81,21 @@ loop-preserved c =
       trim = on.1 ∙ inv.trim;
       ready = (on.4 inv.ready).0;
       config = on.0 ∙ inv.config;
+      flexible = on.2 ∙ inv.flexible;
+      turns = rw (items, length_push c.loop.records.items row, inv.turns) refl;
       reached = (more.0, more.1, rw items more.2);
       text = rw (items, list_all-append is_text c.loop.records.items (row ∷ []), inv.text, text.1) refl;
     }
+
+pub fault_of-requires : goal.fault_of-requires
+fault_of-requires c =
+    let inv = c.loop.invariant in
+    explained-stops (λ (s : Bor (List ℕ)). Some s.now) c.loop.reader c.read_byte_record.new.self c.in-Err.error.kind inv.flexible (c.in-Err.ensures.why inv.ready)
+
+pub unreachable-requires : goal.unreachable-requires
+unreachable-requires c =
+    let inv = c.loop.invariant in
+    let fit = records-fit c.args.bytes.now inv.reached.0 c.loop.reader.state c.loop.records.items inv.reached.2 in
+    let turns = inv.turns in
+    let last = c.loop-test.false in
+    omega arith

@@ -1,4 +1,4 @@
-use Rattle.std.proofs.Common.{◌≡◌, ℕ, List, Some, true}
+use Rattle.std.proofs.Common.{◌≡◌, ℕ, List, Some, true, length}
 use Rattle.std.specs.List.{list_all}
 use Rattle.csv.specs.Reading.{Reached, Ready, default_config, source_of, strip_bom}
 use Rattle.csv.specs.declared.parser.State.TheVariants as st
@@ -6,12 +6,14 @@ use Rattle.csv.specs.declared.reader.Trim.TheVariants as trim
 use Rattle.au_csv.specs.Texts.{is_text}
 use Rattle.au_csv.proofs.read.records.Given as goal
 
--- the records so far are those that the reader took in turn, and they are text
+-- the records so far are those that the reader took, one in each turn, and they are text
 abbrev pub invariant-loop : goal.invariant-loop
 invariant-loop l = record {
   trim : l.reader.trim ≡ trim.None;
   ready : Ready l.reader;
   config : l.reader.config ≡ default_config;
+  flexible : l.reader.flexible ≡ true;
+  turns : length l.records.items ≡ l.counter;
   reached : (y : List ℕ) × (source_of (λ s. Some s.now) l.reader ≡ Some y) × Reached default_config st.StartRecord (strip_bom l.fn.bytes) l.records.items l.reader.state y;
   text : list_all is_text l.records.items ≡ true;
 }

@@ -1,0 +1,8 @@
+-- The field at a place of the record is the list's.
+use Rattle.std.proofs.Common.{◌∙◌}
+use Rattle.csv.specs.Records.{fields_of}
+use Rattle.au_csv.proofs.Fields.{field_at-slice_get}
+use Rattle.au_csv.proofs.rec.Rec.get.Goals as goal
+
+pub returns : goal.returns
+returns c = rw (← c.self.view_is) (c.get.ensures.value ∙ field_at-slice_get (fields_of c.self.inside.fields) c.args.place)
