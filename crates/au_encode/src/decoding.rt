@@ -24,7 +24,9 @@ pub fn decode(
     ensures rows { IfOk result (λ rel. rel ≡ decoded columns (map (λ row. row.items) rows.items)) }
     ensures back { IfOk result (λ rel. encoded rel ≡ map (λ row. row.items) rows.items) }
 {
-    let mut rel = Rel::new(alloc);
+    let mut rel = Rel {
+        rows: Vec::with_capacity(alloc, rows.len())?,
+    };
     for row in rows {
         let (cells, triple) = decode_row(alloc, row, columns)?;
         rel.push(cells, triple)?;

@@ -67,7 +67,9 @@ fn gathered(
 ) -> Result<Rel<Range, Triple>, NoMemory>
     ensures { IfOk result (AreDecoded parts.items) }
 {
-    let mut rel = Rel::new(alloc);
+    let mut rel = Rel {
+        rows: Vec::with_capacity(alloc, parts.len())?,
+    };
     for part in parts {
         let (cells, triple) = part?;
         rel.push(cells, triple)?;

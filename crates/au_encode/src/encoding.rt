@@ -24,7 +24,7 @@ pub fn encode(alloc: Global, rel: &Rel<Range, Triple>) -> Result<Vec<PRow>, NoMe
     ensures back { IfOk result (λ rows. (c : ℕ) → HaveColumns c rel.now → decoded c (map (λ row. row.items) rows.items) ≡ rel.now) }
     ensures fit { IfOk result (λ rows. FitRows (map (λ row. row.items) rows.items)) }
 {
-    let mut rows = Vec::new(alloc);
+    let mut rows = Vec::with_capacity(alloc, rel.rows().len())?;
     for (cells, triple) in rel.rows() {
         rows.push(encode_row(alloc, cells, *triple)?)?;
     }
@@ -36,23 +36,31 @@ fn encode_row(alloc: Global, cells: &[Range], triple: Triple) -> Result<PRow, No
     ensures row { IfOk result (λ row. row.items ≡ encoded_row (entry cells.now triple)) }
     ensures fits { IfOk result (λ row. row_fits row.items ≡ true) }
 {
-    let room = cells.len().saturating_mul(3).saturating_add(3);
-    let mut row = Vec::with_capacity(alloc, room)?;
+    let mut row = empty_row(alloc, cells.len())?;
     for range in cells {
-        push_range(&mut row, range)?;
+        push_range(&mut row, range.lo(), range.sg(), range.hi())?;
     }
     push_counts(&mut row, triple)?;
     Ok(row)
 }
 
-// The ends of a range and its guess, behind a row.
-fn push_range(row: &mut PRow, range: &Range) -> Result<(), NoMemory>
-    ensures row { OnOk result (row.new.items ≡ row.old.items ++ range.now.lo ∷ range.now.sg ∷ range.now.hi ∷ []) }
+/// A row without values, with room for those of an encoded row of so many columns.
+pub fn empty_row(alloc: Global, columns: usize) -> Result<PRow, NoMemory>
+    ensures { IfOk result (λ row. row.items ≡ []) }
+{
+    let room = columns.saturating_mul(3).saturating_add(3);
+    let row = Vec::with_capacity(alloc, room)?;
+    Ok(row)
+}
+
+/// Copies of the lower end, the guess and the upper end of a range, behind a row.
+pub fn push_range(row: &mut PRow, lo: &Value, sg: &Value, hi: &Value) -> Result<(), NoMemory>
+    ensures row { OnOk result (row.new.items ≡ row.old.items ++ lo.now ∷ sg.now ∷ hi.now ∷ []) }
     ensures fits { OnOk result (row_fits row.old.items ≡ true → row_fits row.new.items ≡ true) }
 {
-    row.push(copied(range.lo())?)?;
-    row.push(copied(range.sg())?)?;
-    row.push(copied(range.hi())?)?;
+    row.push(copied(lo)?)?;
+    row.push(copied(sg)?)?;
+    row.push(copied(hi)?)?;
     Ok(())
 }
 
@@ -67,8 +75,8 @@ fn copied(value: &Value) -> Result<Value, NoMemory>
     }
 }
 
-// The three counts, behind a row.
-fn push_counts(row: &mut PRow, triple: Triple) -> Result<(), NoMemory>
+/// The three counts of a triple, behind a row.
+pub fn push_counts(row: &mut PRow, triple: Triple) -> Result<(), NoMemory>
     ensures row { OnOk result (row.new.items ≡ row.old.items ++ encode_counts triple) }
     ensures fits { OnOk result (row_fits row.old.items ≡ true → row_fits row.new.items ≡ true) }
 {

@@ -2,7 +2,8 @@
 //!
 //! An encoded row has `lo`, `sg` and `hi` of each column, then least, guess and most as numbers (see docs/FORMATS.md).
 //! [`encode`] gives the plain rows of a relation, and [`decode`] the relation that plain rows encode; [`decode_rows`] gives
-//! the same of rows that are lent, in several threads.
+//! the same of rows that are lent, in several threads. [`empty_row`], [`push_range`] and [`push_counts`] make an encoded row
+//! where there is no relation to encode.
 //!
 //! ```text
 //! let mut rel = Rel::new(alloc);
@@ -19,4 +20,4 @@ mod encoding;
 
 pub use decoding::decode;
 pub use decoding_rows::decode_rows;
-pub use encoding::encode;
+pub use encoding::{empty_row, encode, push_counts, push_range};

@@ -2,7 +2,6 @@
 use Rattle.std.proofs.Common.{◌≡◌, ◌++◌, drop, map}
 use Rattle.au_plain.specs.PlanKinds.{FitRows}
 use Rattle.au_algebra.specs.Entries.{entry}
-use Rattle.au_plain.specs.PlanKinds.{FitRows}
 use Rattle.au_encode.specs.Encode.{encode as encoded}
 use Rattle.au_encode.proofs.encoding.encode.Given as goal
 
