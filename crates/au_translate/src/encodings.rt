@@ -2,7 +2,7 @@
 ghost use Rattle.std.specs.Prelude.{◌≡◌, ◌++◌, ◌∷◌, [], IsTrue, IfOk, OnOk, List, length, map, true};
 ghost use Rattle.std.specs.List.{list_all};
 ghost use Rattle.au_value.specs.declared.kinds.Kind.{Kind};
-ghost use Rattle.au_blocks.specs.Tables.{column_kinds, fits_kinds};
+ghost use Rattle.au_blocks.specs.Tables.{IsBlockTable, column_kinds, fits_kinds, table};
 ghost use Rattle.au_algebra.specs.Entries.{entry};
 ghost use Rattle.au_plain.specs.PlanKinds.{FitRows, HaveKinds, row_fits};
 ghost use Rattle.au_encode.specs.Encode.{AreEncoded, encode, encode_row, encoded_kinds};
@@ -10,7 +10,7 @@ ghost use Rattle.au_translate.specs.Translate.{bounded_blocks, bounded_table, ra
 
 use crate::bounds::{ends, shown, triple};
 use au_annot::Triple;
-use au_blocks::{Block, Table};
+use au_blocks::{Block, Column, Table};
 use au_encode::{empty_row, push_counts, push_range};
 use au_plain::PRow;
 use au_value::NoMemory;
@@ -27,8 +27,23 @@ pub fn encoded(alloc: Global, table: &Table) -> Result<Vec<PRow>, NoMemory>
     ensures kinds { IfOk result (λ rows. HaveKinds (encoded_kinds (column_kinds table.now)) (map (λ row. row.items) rows.items)) }
     ensures fit { IfOk result (λ rows. FitRows (map (λ row. row.items) rows.items)) }
 {
-    let mut rows = Vec::with_capacity(alloc, table.blocks().len())?;
-    for block in table.blocks() {
+    encoded_blocks(alloc, table.columns(), table.blocks())
+}
+
+/// The same of some blocks of a table of these columns.
+pub fn encoded_blocks(
+    alloc: Global,
+    columns: &[Column],
+    blocks: &[Block],
+) -> Result<Vec<PRow>, NoMemory>
+    requires { IsBlockTable (table columns.now blocks.now) }
+    ensures rows { IfOk result (λ rows. map (λ row. row.items) rows.items ≡ encode (bounded_blocks blocks.now)) }
+    ensures encodings { IfOk result (λ rows. AreEncoded (length columns.now) (map (λ row. row.items) rows.items)) }
+    ensures kinds { IfOk result (λ rows. HaveKinds (encoded_kinds (column_kinds (table columns.now blocks.now))) (map (λ row. row.items) rows.items)) }
+    ensures fit { IfOk result (λ rows. FitRows (map (λ row. row.items) rows.items)) }
+{
+    let mut rows = Vec::with_capacity(alloc, blocks.len())?;
+    for block in blocks {
         push_block(alloc, &mut rows, block)?;
     }
     Ok(rows)

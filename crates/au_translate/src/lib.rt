@@ -1,9 +1,9 @@
 //! Block tables as relations: with bounds over all worlds, and as they are in the guess world.
 //!
-//! [`bounded`] makes a row of ranges with a triple of each block, [`encoded`] the same rows as plain rows, and [`guessed`]
-//! the rows of the guess world, each with its number of copies. [`bounded_answer_holds`] is the law on whole queries over
-//! such tables: the bounded answer bounds the ordinary answer in every world, and its guesses are the ordinary answer in
-//! the guess world.
+//! [`bounded`] makes a row of ranges with a triple of each block, [`encoded`] the same rows as plain rows,
+//! [`encoded_blocks`] those of some of a table's blocks, and [`guessed`] the rows of the guess world, each with its number
+//! of copies. [`bounded_answer_holds`] is the law on whole queries over such tables: the bounded answer bounds the ordinary
+//! answer in every world, and its guesses are the ordinary answer in the guess world.
 //!
 //! ```text
 //! let rows = bounded(alloc, &table)?;
@@ -20,7 +20,7 @@ mod guesses;
 mod relations;
 mod theorems;
 
-pub use encodings::encoded;
+pub use encodings::{encoded, encoded_blocks};
 pub use guesses::guessed;
 pub use relations::bounded;
 pub use theorems::bounded_answer_holds;

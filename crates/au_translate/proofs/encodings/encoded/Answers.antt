@@ -1,45 +1,24 @@
--- The rows are those of the table's relation, of which the laws speak.
-use Rattle.std.proofs.Common.{◌≡◌, length, map, true, refl, sym, subst, arith}
-use Rattle.std.specs.List.{list_all}
-use Rattle.std.proofs.lemmas.Grind.{common_steps}
-use Rattle.std.proofs.lemmas.List.{length-map}
-use Rattle.std.proofs.lemmas.Option.{slice_get_read}
-use Rattle.au_value.specs.Order.{data_kind}
-use Rattle.au_blocks.specs.declared.column.Column.{Column}
-use Rattle.au_blocks.specs.Blocks.{Candidate, Choices}
-use Rattle.au_blocks.specs.Tables.{column_kinds, fits_kinds}
+-- The blocks are those of the table, and so are the columns.
+use Rattle.std.specs.Prelude.{IfOk}
+use Rattle.std.proofs.Common.{◌≡◌, length, map, subst, sym}
+use Rattle.au_blocks.specs.Tables.{IsBlockTable, column_kinds, table}
 use Rattle.au_plain.specs.PlanKinds.{HaveKinds}
-use Rattle.au_encode.specs.Encode.{AreEncoded, encoded_kinds}
-use Rattle.au_encode.proofs.Decoded.{columns_of, rows_encoded}
-use Rattle.au_encode.proofs.EncodedKinds.{rows_have_kinds}
-use Rattle.au_translate.specs.Translate.{bounded_table}
-use Rattle.au_translate.proofs.Alternatives.{passes_at}
-use Rattle.au_translate.proofs.BlockRelation.{table_relation}
+use Rattle.au_encode.specs.Encode.{AreEncoded, encode, encoded_kinds}
+use Rattle.au_translate.specs.Translate.{bounded_blocks}
 use Rattle.au_translate.proofs.encodings.encoded.Goals as goal
 
-pub push_block-requires : goal.push_block-requires
-push_block-requires c =
-    let t = c.args.table.now in
-    let blocks = c.blocks-block-items.result.now in
-    let fits = λ (b : Choices). list_all (λ (a : Candidate). fits_kinds (column_kinds t) a.cells) b.alternatives in
-    let rows = subst (λ bs. list_all fits bs ≡ true) (sym c.blocks-block-items.ensures.of) c.blocks-block-items.ensures.is_table.table.rows in
-    let at = slice_get_read blocks (length blocks) c.loop-block.block-index c.block-item.result refl c.loop-block-test.true c.block-item.is in
-    (column_kinds t, passes_at fits blocks rows c.loop-block.block-index c.block-item.result at)
+pub encoded_blocks-requires : goal.encoded_blocks-requires
+encoded_blocks-requires c = subst IsBlockTable (λ i. table (sym c.columns.ensures.of i) (sym c.blocks-2.ensures.of i)) c.columns.ensures.is_table
 
 pub returns-clause-rows : goal.returns-clause-rows
-returns-clause-rows c = grind (arith, common_steps)
+returns-clause-rows c =
+    subst (λ blocks. IfOk c.encoded_blocks.result (λ rows. map (λ row. row.items) rows.items ≡ encode (bounded_blocks blocks))) c.blocks-2.ensures.of c.encoded_blocks.ensures.rows
 
 pub returns-clause-encodings : goal.returns-clause-encodings
 returns-clause-encodings c =
-    let t = c.args.table.now in
-    let ok = c.blocks-block-items.ensures.is_table in
-    let relation = table_relation t ok.table ok.blocks in
-    let encoded = rows_encoded (column_kinds t) (length (column_kinds t)) (bounded_table t) relation (columns_of (column_kinds t) (bounded_table t) relation) in
-    subst (λ n. AreEncoded n (map (λ row. row.items) c.loop-block.rows.items)) (length-map t.columns (λ (x : Column). data_kind x.kind))
-    (subst (AreEncoded (length (column_kinds t))) (sym (returns-clause-rows c)) encoded)
+    subst (λ columns. IfOk c.encoded_blocks.result (λ rows. AreEncoded (length columns) (map (λ row. row.items) rows.items))) c.columns.ensures.of c.encoded_blocks.ensures.encodings
 
 pub returns-clause-kinds : goal.returns-clause-kinds
 returns-clause-kinds c =
-    let t = c.args.table.now in
-    let ok = c.blocks-block-items.ensures.is_table in
-    subst (HaveKinds (encoded_kinds (column_kinds t))) (sym (returns-clause-rows c)) (rows_have_kinds (column_kinds t) (bounded_table t) (table_relation t ok.table ok.blocks))
+    subst (λ columns. IfOk c.encoded_blocks.result (λ rows. HaveKinds (encoded_kinds (column_kinds (table columns c.args.table.now.blocks))) (map (λ row. row.items) rows.items))) c.columns.ensures.of
+    c.encoded_blocks.ensures.kinds
