@@ -38,7 +38,8 @@ cells_length Q [] (x ∷ xs) z = elim z [ ]
 cells_length Q (k ∷ ks) [] z = elim z [ ]
 cells_length Q (k ∷ ks) (x ∷ xs) z = ap suc (cells_length Q ks xs z.1)
 
-columns_of : (ks : List Kind) (rows : Bounded) → IsRelation ks rows → HaveColumns (length ks) rows
+-- the rows of a relation have as many columns as there are kinds
+pub columns_of : (ks : List Kind) (rows : Bounded) → IsRelation ks rows → HaveColumns (length ks) rows
 columns_of ks [] ok = tt
 columns_of ks (r ∷ rows) ok = (cells_length IsRangeOf ks r.cells ok.0.cells, columns_of ks rows ok.1)
 

@@ -173,17 +173,3 @@ module _ (alternatives : List Candidate) where
       -- the ranges have the kinds of the rows
       pub spans_ranges : AllZip IsRangeOf K (spans_from 0 (guesses a.cells))
       spans_ranges = ranges_from 0 K a.cells refl refl (passes_at (λ x. fits_kinds K x.cells) alternatives all n a at)
-
-      -- and so has each of them
-      pub span_here : (j : ℕ) (us : List Span) (u : Span) → drop j a.cells ≡ u ∷ us → (k : Kind) × IsRangeOf k (span_in alternatives j u.sg)
-      span_here j us u e = found j K a.cells us u refl e (passes_at (λ x. fits_kinds K x.cells) alternatives all n a at) (λ k ks f fit. (k, span_is j k ks us u f e fit)) where
-        found : {R : Type 0} (j : ℕ) (ks : List Kind) (cs us : List Span) (u : Span) → ks ≡ ks → drop j cs ≡ u ∷ us → fits_kinds ks cs ≡ true → ((k : Kind) (rest : List Kind) → drop j ks ≡ k ∷ rest → is_range_of k u ≡ true → R) → R
-        found j [] [] us u z e h give = no_item j e where
-          no_item : {R : Type 0} (j : ℕ) → drop j [] ≡ u ∷ us → R
-          no_item zero e = cc
-          no_item (suc j) e = cc
-        found j [] (c ∷ cs) us u z e h give = absurd (true≢false (sym h))
-        found j (k ∷ ks) [] us u z e h give = absurd (true≢false (sym h))
-        found zero (k ∷ ks) (c ∷ cs) us u z e h give =
-            let same : c ≡ u = cc in give k ks refl (subst (λ r. is_range_of k r ≡ true) same (and_parts (is_range_of k c) (fits_kinds ks cs) h).0)
-        found (suc j) (k ∷ ks) (c ∷ cs) us u z e h give = found j ks cs us u refl e (and_parts (is_range_of k c) (fits_kinds ks cs) h).1 give

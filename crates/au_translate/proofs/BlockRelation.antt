@@ -43,7 +43,7 @@ guess_within : (b : Choices) (o : Option ℕ) → MayMark b o → 0 < length b.a
 guess_within b None h some = some
 guess_within b (Some i) h some = h
 
-shown_place : (b : Choices) (o : Option ℕ) → MayMark b o → 0 < length b.alternatives → slice_get b.alternatives (unwrap_or o 0) ≡ Some (shown_at b o)
+pub shown_place : (b : Choices) (o : Option ℕ) → MayMark b o → 0 < length b.alternatives → slice_get b.alternatives (unwrap_or o 0) ≡ Some (shown_at b o)
 shown_place b o h some = place_within b.alternatives (candidate [] once) (unwrap_or o 0) (guess_within b o h some)
 
 -- ---- numbers of copies

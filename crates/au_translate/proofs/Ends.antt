@@ -1,6 +1,6 @@
 -- The least and the greatest of some values, one value after the other.
-use Rattle.std.specs.Prelude.{◌≡◌, List, [], ◌∷◌, map}
-use Rattle.std.proofs.Common.{refl, sym, ◌∙◌, ap}
+use Rattle.std.specs.Prelude.{◌≡◌, ℕ, zero, suc, List, [], ◌∷◌, length, map, slice_get, Some}
+use Rattle.std.proofs.Common.{arith, refl, sym, ◌∙◌, ap}
 use Rattle.au_value.specs.declared.value.Value.{Value}
 use Rattle.au_value.specs.Ranges.{lesser, greater}
 use Rattle.au_value.proofs.RangeLaws.{lesser_assoc, greater_assoc}
@@ -25,3 +25,10 @@ module _ (f : Candidate → Value) (a : Candidate) (others rest : List Candidate
   pub next_greatest : (best found all : Value) → found ≡ greater best (f a) → greatest (best ∷ map f rest) ≡ all → greatest (found ∷ map f others) ≡ all
   next_greatest best found all e h =
       ap (λ x. greatest (x ∷ map f others)) e ∙ sym (greatest_two best (f a) (map f others)) ∙ ap (λ rs. greatest (best ∷ map f rs)) (sym split) ∙ h
+
+-- of one item
+pub only_one : {X : Type 0} (f : X → Value) (xs : List X) (i : ℕ) (x : X) → length xs ≡ 1 → slice_get xs i ≡ Some x → map f xs ≡ f x ∷ []
+only_one f [] i x one at = let never : ⊥ = omega (arith, one) in absurd never
+only_one f (y ∷ []) zero x one at = let same : y ≡ x = cc in ap (λ z. f z ∷ []) same
+only_one f (y ∷ []) (suc i) x one at = cc
+only_one f (y ∷ z ∷ xs) i x one at = let never : ⊥ = omega (arith, one) in absurd never

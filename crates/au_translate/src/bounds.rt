@@ -1,75 +1,38 @@
-//! The bounded relation of a block table.
-ghost use Rattle.std.specs.Prelude.{◌≡◌, ◌<◌, ◌≤◌, ◌++◌, ◌∷◌, ◌^◌, [], IsTrue, IfOk, OnOk, Some, List, length, map, slice_get, unwrap_or};
-ghost use Rattle.std.specs.List.{AllByRecursion, list_all};
-ghost use Rattle.au_value.specs.declared.kinds.Kind.{Kind};
+//! What the row of a block says: the ends in each column, and the triple.
+ghost use Rattle.std.specs.Prelude.{◌≡◌, ◌<◌, Some, length, map, slice_get, unwrap_or};
+ghost use Rattle.std.specs.List.{AllByRecursion};
 ghost use Rattle.au_value.specs.Ranges.{lesser as lesser_of, greater as greater_of};
 ghost use Rattle.au_annot.specs.Triples.{IsTriple, counts};
-ghost use Rattle.au_blocks.specs.Tables.{column_kinds, fits_kinds};
-ghost use Rattle.au_blocks.specs.Worlds.{TableWorld, IsTableWorld, rows_in};
-ghost use Rattle.au_algebra.specs.Distribution.{Bounds};
-ghost use Rattle.au_algebra.specs.Laws.{Guesses, IsRelation};
 ghost use Rattle.au_algebra.specs.Lists.{least as least_of, greatest as greatest_of};
-ghost use Rattle.au_translate.specs.Translate.{bounded_blocks, bounded_table, cell_at, greatest_number, guess_choices, guessed_copies as guessed_copies_of, high_at, least_number, low_at, ranges_of, shown as shown_of, triple_of};
+ghost use Rattle.au_translate.specs.Translate.{cell_at, greatest_number, guessed_copies as guessed_copies_of, high_at, least_number, low_at, shown as shown_of, triple_of};
 
-use au_algebra::Rel;
 use au_annot::{Annot, Count, Triple};
-use au_blocks::{Alternative, Block, Cell, Table};
-use au_value::{NoMemory, Range, Value, compare, copy};
-use std::alloc::Global;
+use au_blocks::{Alternative, Block, Cell};
+use au_value::{Value, compare};
 
-/// A row for each block, in block order: per column the least and the greatest value that an alternative may have there,
-/// with the marked alternative's guess, or the first alternative's where absence is marked. The triple's least is 0 where
-/// the block is optional, and else the least number of copies of an alternative; its guess is 0 where absence is marked,
-/// and else the marked alternative's; its most is the greatest number of copies of an alternative. A block whose most is
-/// 0 has no row.
-///
-/// It takes time linear in the table's cells, and copies three values a cell of a row that it makes.
-pub fn bounded(alloc: Global, table: &Table) -> Result<Rel<Range, Triple>, NoMemory>
-    ensures rows { IfOk result (λ r. r ≡ bounded_table table.now) }
-    ensures relation { IfOk result (λ r. IsRelation (column_kinds table.now) r) }
-    ensures bounds { IfOk result (λ r. (w : TableWorld) → IsTableWorld table.now w → Bounds r (rows_in table.now.blocks w)) }
-    ensures guesses { IfOk result (λ r. Guesses r (rows_in table.now.blocks (guess_choices table.now))) }
-{
-    let mut rel = Rel::new(alloc);
-    for block in table.blocks() {
-        push_block(alloc, &mut rel, block)?;
-    }
-    Ok(rel)
-}
-
-// A block's row behind the others, unless it has no copies in any world.
-fn push_block(alloc: Global, rel: &mut Rel<Range, Triple>, block: &Block) -> Result<(), NoMemory>
-    requires { (ks : List Kind) × IsTrue (list_all (λ a. fits_kinds ks a.cells) block.now.alternatives) }
-    ensures { OnOk result (rel.new ≡ rel.old ++ bounded_blocks (block.now ∷ [])) }
-{
-    let triple = triple(block);
-    if triple.most().get() == 0 {
-        return Ok(());
-    }
-    rel.push(ranges(alloc, block)?, triple)
-}
-
-// The ranges of a block's row.
-fn ranges(alloc: Global, block: &Block) -> Result<Vec<Range>, NoMemory>
-    requires { (ks : List Kind) × IsTrue (list_all (λ a. fits_kinds ks a.cells) block.now.alternatives) }
-    ensures { IfOk result (λ v. v.items ≡ ranges_of block.now) }
-{
-    let mut ranges = Vec::new(alloc);
-    for (at, cell) in shown(block).iter().enumerate() {
-        let least = least(block.alternatives(), at);
-        let greatest = greatest(block.alternatives(), at);
-        ranges.push(Range::of(copy(least)?, copy(cell.sg())?, copy(greatest)?))?;
-    }
-    Ok(ranges)
-}
-
-// The cells whose guesses a block's row shows.
-fn shown(block: &Block) -> &[Cell]
+/// The cells whose guesses a block's row shows.
+pub(crate) fn shown(block: &Block) -> &[Cell]
     ensures of { result.now ≡ (shown_of block.now).cells }
     ensures place { slice_get block.now.alternatives (unwrap_or block.now.guess 0) ≡ Some (shown_of block.now) }
 {
     let at = block.guess().unwrap_or(0);
     block.alternatives()[at].cells()
+}
+
+/// The least and the greatest value in a column of a block, of which the row that is shown has this cell there. Where it
+/// is the only alternative, the cell's own ends are they.
+pub(crate) fn ends<'a>(block: &'a Block, at: usize, cell: &'a Cell) -> (&'a Value, &'a Value)
+    requires wide { AllByRecursion (λ a. at < length a.cells) block.now.alternatives }
+    requires cell { cell.now ≡ cell_at at (shown_of block.now) }
+    ensures least { result.0.now ≡ least_of (map (low_at at) block.now.alternatives) }
+    ensures greatest { result.1.now ≡ greatest_of (map (high_at at) block.now.alternatives) }
+{
+    let alternatives = block.alternatives();
+    if alternatives.len() == 1 {
+        (cell.lo(), cell.hi())
+    } else {
+        (least(alternatives, at), greatest(alternatives, at))
+    }
 }
 
 // The least value in a column of some alternatives.
@@ -142,8 +105,8 @@ fn cell(alternative: &Alternative, at: usize) -> &Cell
     &alternative.cells()[at]
 }
 
-// The triple of a block's row.
-fn triple(block: &Block) -> Triple
+/// The triple of a block's row.
+pub(crate) fn triple(block: &Block) -> Triple
     ensures { result ≡ triple_of block.now }
 {
     let least = least_count(block);
@@ -207,7 +170,7 @@ fn most_copies(alternatives: &[Alternative]) -> u64
     most
 }
 
-// A number of copies as a count.
+/// A number of copies as a count.
 pub(crate) fn count(copies: u64) -> Count
     ensures { result ≡ copies }
 {

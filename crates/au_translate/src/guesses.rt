@@ -17,7 +17,9 @@ use std::alloc::Global;
 pub fn guessed(alloc: Global, table: &Table) -> Result<Rel<Value, Count>, NoMemory>
     ensures { IfOk result (λ r. r ≡ guessed_table table.now) }
 {
-    let mut rel = Rel::new(alloc);
+    let mut rel = Rel {
+        rows: Vec::with_capacity(alloc, table.blocks().len())?,
+    };
     for block in table.blocks() {
         push_guess(alloc, &mut rel, block)?;
     }
