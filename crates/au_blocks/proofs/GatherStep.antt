@@ -13,6 +13,7 @@ use Rattle.au_blocks.specs.Headers.{has_blocks}
 use Rattle.au_blocks.specs.Entries.{Entry, entry_of, entries_of, label_of, labelled, distinct, blocks_of}
 use Rattle.au_blocks.specs.Gathered.{Gathered, gathered, nothing, with_entry}
 use Rattle.au_blocks.proofs.Gathering.{gathered-push}
+use Rattle.au_blocks.proofs.Places.{absent-place, known-place}
 use Rattle.au_blocks.proofs.Distinct.{Text, Apart, one, itself, turned, same, any-distinct, distinct-push, apart-distinct}
 
 -- a list by labels, where the value of one label changes
@@ -51,16 +52,6 @@ module _ (G H : Text → Gathered) (l : Text) (keeps : (m : Text) → bytes_eq l
             let next : 1 + position_or_len (bytes_eq l) ls ≡ suc (position_or_len (bytes_eq l) ls) = omega arith in
             rw (here, next, keeps m here, set-label ls apart later) refl
       ]
-
-position-absent : (l : Text) (ls : List Text) → list_any (bytes_eq l) ls ≡ false → position_or_len (bytes_eq l) ls ≡ length ls
-position-absent l [] absent = refl
-position-absent l (m ∷ ls) absent =
-    elim (cases_Bool (bytes_eq l m)) [
-      | inl here ↦ let t : true ≡ false = rw here at absent in cc
-      | inr here ↦
-          let later : list_any (bytes_eq l) ls ≡ false = rw here at absent in
-          rw (here, position-absent l ls later) (omega arith)
-    ]
 
 -- no record has a label that is none of theirs
 labelled-absent : (l : Text) (rows : List Record) → list_any (bytes_eq l) (map label_of rows) ≡ false → labelled l rows ≡ []
@@ -125,7 +116,7 @@ step-new f kinds rows r e is new =
     let G = under f kinds rows in
     let H = under f kinds (rows ++ r ∷ []) in
     let l = label_of r in
-    let at : position_or_len (bytes_eq l) (labels rows) ≡ length (labels rows) = position-absent l (labels rows) new in
+    let at : position_or_len (bytes_eq l) (labels rows) ≡ length (labels rows) = absent-place (bytes_eq l) (labels rows) new in
     let long : length (builders f kinds rows) ≡ length (labels rows) = length-map (labels rows) G in
     let none : list_any (bytes_eq l) (map label_of rows) ≡ false = sym (any-distinct l (map label_of rows)) ∙ new in
     let start : under f kinds rows l ≡ nothing = ap (λ rs. gathered kinds (entries_of f rs)) (labelled-absent l rows none) in
@@ -149,17 +140,6 @@ builders-push f kinds rows r e is gs are =
           rw (more, labels-push rows r, new) (step-new f kinds rows r e is new)
     ]
 
-position-known : (l : Text) (ls : List Text) → list_any (bytes_eq l) ls ≡ true → position_or_len (bytes_eq l) ls < length ls
-position-known l [] known = cc
-position-known l (m ∷ ls) known =
-    elim (cases_Bool (bytes_eq l m)) [
-      | inl here ↦ rw here (omega arith)
-      | inr here ↦
-          let later : list_any (bytes_eq l) ls ≡ true = rw here at known in
-          let low : position_or_len (bytes_eq l) ls < length ls = position-known l ls later in
-          rw here (omega arith)
-    ]
-
 -- the label's place is one of a builder
 pub place-within : (f : Format) (kinds : List Kind) (rows : List Record) (l : Text) (gs : List Gathered) → gs ≡ with_builder (builders f kinds rows) (list_any (bytes_eq l) (labels rows))
     → position_or_len (bytes_eq l) (labels rows) < length gs
@@ -168,11 +148,11 @@ place-within f kinds rows l gs are =
     elim (cases_Bool (list_any (bytes_eq l) (labels rows))) [
       | inl known ↦
           let kept : gs ≡ builders f kinds rows = are ∙ rw known (append-nil (builders f kinds rows)) in
-          let low = position-known l (labels rows) known in
+          let low = known-place (bytes_eq l) (labels rows) known in
           rw (kept, long) low
       | inr new ↦
           let more : gs ≡ builders f kinds rows ++ nothing ∷ [] = are ∙ rw new refl in
-          rw (more, position-absent l (labels rows) new, length_push (builders f kinds rows) nothing, long) (omega arith)
+          rw (more, absent-place (bytes_eq l) (labels rows) new, length_push (builders f kinds rows) nothing, long) (omega arith)
     ]
 
 -- what is gathered under each label is what each block's entries amount to

@@ -9,5 +9,6 @@ pub mod GatherStep
 pub mod Gathering
 pub mod InferredKinds
 pub mod LabelKeys
+pub mod Places
 pub mod RowValues
 pub mod WellFormed

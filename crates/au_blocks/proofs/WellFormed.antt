@@ -1,11 +1,11 @@
 -- The table of records without a defect is well-formed.
 use Rattle.std.proofs.Common.{◌≡◌, ℕ, zero, suc, ◌+◌, ◌-◌, ◌^◌, ◌<◌, ◌≤◌, Bool, true, false, cond, ◌||◌, ◌&&◌, ℤ, List, [], ◌∷◌, ◌++◌, length, map, get_or, Option, Some, None, inl, inr, refl, sym, ap, ◌∙◌, arith, subst, eqb, ltb}
 use Rattle.std.specs.Prelude.{not, filter, flat_map, zip, count_by, position, is_some, is_none, unwrap_or, option_map, option_and_then, IfSome, bytes_eq, codes, nat_le}
-use Rattle.std.specs.List.{list_any, list_all, enumerate_from, position_or_len, cons_option, AllByRecursion}
+use Rattle.std.specs.List.{list_any, list_all, enumerate_from, cons_option, AllByRecursion}
 use Rattle.std.specs.Option.{option_or}
 use Rattle.std.specs.Str.Parse.{digits_value}
 use Rattle.std.specs.Cmp.Lexicographic.{pointwise}
-use Rattle.std.proofs.lemmas.Bool.{cases_Bool, lt-ltb, eqb-true, and_parts, and_from}
+use Rattle.std.proofs.lemmas.Bool.{cases_Bool, eqb-true, and_parts, and_from}
 use Rattle.std.proofs.lemmas.List.{length-map, length-drop}
 use Rattle.std.proofs.lemmas.List.Quantifiers.{position-Some}
 use Rattle.std.proofs.lemmas.List.FromFn.{length-enumerate_from}
@@ -34,6 +34,7 @@ use Rattle.au_blocks.specs.Defects.{where_true, is_field, bad_fields, alternativ
 use Rattle.au_blocks.specs.Read.{cell, row, candidate_of, block_of, columns_of, header_kinds, header_columns, first}
 use Rattle.au_blocks.proofs.Gathering.{any-count}
 use Rattle.au_blocks.proofs.InferredKinds.{inferred_kind-rows}
+use Rattle.au_blocks.proofs.Places.{no-position}
 
 -- two parts without a defect
 first-parts : (xs ys : List TableFault) → first (xs ++ ys) ≡ None → (first xs ≡ None) × (first ys ≡ None)
@@ -403,17 +404,6 @@ or_false : (a b : Bool) → (a || b) ≡ false → (a ≡ false) × (b ≡ false
 or_false true b is = cc
 or_false false b is = (refl, is)
 
-known-place : {X : Type 0} (p : X → Bool) (xs : List X) → list_any p xs ≡ true → position_or_len p xs < length xs
-known-place p [] some = cc
-known-place p (x ∷ xs) some =
-    elim (cases_Bool (p x)) [
-      | inl here ↦ rw here (omega arith)
-      | inr here ↦
-          let later : list_any p xs ≡ true = rw here at some in
-          let low : position_or_len p xs < length xs = known-place p xs later in
-          rw here (omega arith)
-    ]
-
 position-low : {X : Type 0} (p : X → Bool) (xs : List X) (i : ℕ) → position p xs ≡ Some i → i < length xs
 position-low p [] i is = cc
 position-low p (x ∷ xs) i is = (position-Some p (x ∷ xs) i x is).0
@@ -426,15 +416,6 @@ any-of-count : (p : Entry → Bool) (es : List Entry) → eqb (count_by p es) 0 
 any-of-count p es is = any-count p es ∙ ap not is
 
 -- a block without a defect offers its guess
-no-position : {X : Type 0} (p : X → Bool) (xs : List X) → position p xs ≡ None → list_any p xs ≡ false
-no-position p xs none =
-    elim (cases_Bool (list_any p xs)) [
-      | inl some ↦
-          let low = known-place p xs some in
-          let e : position p xs ≡ Some (position_or_len p xs) = rw (lt-ltb (position_or_len p xs) (length xs) low) refl in cc (e, none)
-      | inr other ↦ other
-    ]
-
 marked-absent : (es : List Entry) → list_any (λ e. is_marked e.role) es ≡ true → list_any (λ e. is_marked e.role) (alternatives es) ≡ false → list_any (λ e. is_absent e.role) es ≡ true
 marked-absent [] marked none = cc
 marked-absent (e ∷ es) marked none =

@@ -5,4 +5,4 @@ use Rattle.au_blocks.specs.declared.cell.Content.TheVariants.{Certain, Between}
 
 abbrev pub span_of : Content → Span
 span_of (Certain value) = certain value
-span_of (Between range) = range
+span_of (Between range) = range.value

@@ -45,7 +45,7 @@ fn finish_all(alloc: Global, builders: Vec<BlockBuilder>) -> Result<Vec<Block>, 
     ensures blocks { IfOk result (λ bs. all_finished 0 builders.items ≡ Ok bs.items) }
     ensures fault { IfErr result (λ e. (e ≡ TableFault.NoMemory) ⊎ (all_finished 0 builders.items ≡ Err e)) }
 {
-    let mut blocks = Vec::new(alloc);
+    let mut blocks = Vec::with_capacity(alloc, builders.len())?;
     for builder in builders {
         let number = blocks.len();
         blocks.push(builder.finish(number)?)?;
@@ -57,19 +57,19 @@ fn finish_all(alloc: Global, builders: Vec<BlockBuilder>) -> Result<Vec<Block>, 
 fn plain_blocks(alloc: Global, columns: &[Column], rows: Vec<Rec>) -> Result<Vec<Block>, NoMemory>
     ensures { IfOk result (λ bs. bs.items ≡ map (block_of (map (λ c. c.kind) columns.now)) (blocks_of Format.Plain rows.items)) }
 {
-    let mut blocks = Vec::new(alloc);
+    let mut blocks = Vec::with_capacity(alloc, rows.len())?;
     for record in rows {
-        blocks.push(certain(alloc, columns, record)?)?;
+        blocks.push(certain(alloc, columns, &record)?)?;
     }
     Ok(blocks)
 }
 
 // The block of one marked alternative.
-fn certain(alloc: Global, columns: &[Column], record: Rec) -> Result<Block, NoMemory>
-    ensures { IfOk result (λ b. b ≡ block_of (map (λ c. c.kind) columns.now) (entry Role.Guess once «record» ∷ [])) }
+fn certain(alloc: Global, columns: &[Column], record: &Rec) -> Result<Block, NoMemory>
+    ensures { IfOk result (λ b. b ≡ block_of (map (λ c. c.kind) columns.now) (entry Role.Guess once «record».now ∷ [])) }
 {
-    let mut alternatives = Vec::new(alloc);
-    let cells = row(alloc, columns, record.into_fields())?;
+    let mut alternatives = Vec::with_capacity(alloc, 1)?;
+    let cells = row(alloc, Format::Plain, columns, record)?;
     alternatives.push(Alternative::of(cells, Times::once()))?;
     Ok(Block::of(alternatives, false, Some(0)))
 }

@@ -1,8 +1,9 @@
 //! A cell of an alternative.
-ghost use Rattle.std.specs.Prelude.{◌≡◌};
+ghost use Rattle.std.specs.Prelude.{◌≡◌, IfOk};
 ghost use Rattle.au_value.specs.Ranges.{certain, is_certain};
 
-use au_value::{Range, Value, compare};
+use au_value::{NoMemory, Range, Value, compare};
+use std::alloc::Global;
 use std::marker::Model;
 
 /// What is known of a value: itself, or a range that holds it. Contracts see a range in either case; a value is kept once.
@@ -11,11 +12,11 @@ pub struct Cell {
     content: Content,
 }
 
-/// A value, or a range.
+/// A value, or a range. Ranges are rare and three values wide, so that they stand apart.
 #[derive(Drop)]
 pub(crate) enum Content {
     Certain(Value),
-    Between(Range),
+    Between(Box<Range>),
 }
 
 impl Model for Cell {
@@ -37,13 +38,13 @@ impl Cell {
         }
     }
 
-    // The cell of a range. It takes no memory.
-    pub(crate) fn between(range: Range) -> Cell
-        ensures { result ≡ range }
+    // The cell of a range.
+    pub(crate) fn between(alloc: Global, range: Range) -> Result<Cell, NoMemory>
+        ensures { IfOk result (λ c. c ≡ range) }
     {
-        Cell {
-            content: Content::Between(range),
-        }
+        Ok(Cell {
+            content: Content::Between(Box::new(alloc, range)?),
+        })
     }
 
     /// The least value that the cell may have.

@@ -4,11 +4,11 @@ ghost use Rattle.std.specs.List.{list_all, list_any};
 ghost use Rattle.au_blocks.specs.Entries.{entries_of};
 ghost use Rattle.au_blocks.specs.Inferring.{column_kind as column_kind_of, holds_numeral as holds_numeral_of, inferred, is_alternative as is_alternative_of, kinds_of};
 
+use crate::fields::cell_text;
 use crate::format::Format;
-use crate::header::cells;
 use crate::row_faults::role;
 use au_csv::Rec;
-use au_value::{Kind, NoMemory, Word, read_numeral};
+use au_value::{Kind, NoMemory, read_numeral};
 use std::alloc::Global;
 
 // The kinds of columns with these written kinds, over the records below the header.
@@ -51,34 +51,32 @@ fn inferred_kind(format: Format, place: usize, rows: &[Rec]) -> Kind
 fn any_alternative(format: Format, rows: &[Rec]) -> bool
     ensures { result ≡ list_any (is_alternative_of format) rows.now }
 {
-    rows.iter()
-        .any(|record| is_alternative(format, record.fields()))
+    rows.iter().any(|record| is_alternative(format, record))
 }
 
 fn all_numerals(format: Format, place: usize, rows: &[Rec]) -> bool
     ensures { result ≡ list_all (holds_numeral_of format place) rows.now }
 {
     rows.iter()
-        .all(|record| holds_numeral(format, place, record.fields()))
+        .all(|record| holds_numeral(format, place, record))
 }
 
 // Whether a record is an alternative.
-fn is_alternative(format: Format, fields: &[Word]) -> bool
-    ensures { result ≡ is_alternative_of format fields.now }
+fn is_alternative(format: Format, record: &Rec) -> bool
+    ensures { result ≡ is_alternative_of format «record».now }
 {
-    match role(format, fields) {
+    match role(format, record) {
         Some(role) => !role.is_absent(),
         None => false,
     }
 }
 
 // Whether a record is no alternative, or has a numeral at this place.
-fn holds_numeral(format: Format, place: usize, fields: &[Word]) -> bool
-    ensures { result ≡ holds_numeral_of format place fields.now }
+fn holds_numeral(format: Format, place: usize, record: &Rec) -> bool
+    ensures { result ≡ holds_numeral_of format place «record».now }
 {
-    if !is_alternative(format, fields) {
+    if !is_alternative(format, record) {
         return true;
     }
-    let cells = cells(format, fields);
-    place < cells.len() && read_numeral(cells[place].as_str().as_bytes()).is_some()
+    read_numeral(cell_text(format, record, place).as_bytes()).is_some()
 }

@@ -22,6 +22,7 @@ mod builder;
 mod cell;
 mod column;
 mod faults;
+mod fields;
 mod format;
 mod gather;
 mod header;

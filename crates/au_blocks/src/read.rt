@@ -30,8 +30,8 @@ pub fn read_table(alloc: Global, bytes: &[u8]) -> Result<Table, TableFault>
     if rows.is_empty() {
         return Err(TableFault::NoHeader);
     }
-    let header = rows.remove(0);
-    table_under(alloc, header.fields(), rows)
+    let header = rows.remove(0).words(alloc)?;
+    table_under(alloc, header.as_slice(), rows)
 }
 
 // The block table of a header and the records below it.

@@ -3,17 +3,18 @@ ghost use Rattle.std.specs.Prelude.{◌≡◌, Some, drop, is_some, length, nat_
 ghost use Rattle.std.specs.List.{list_any};
 ghost use Rattle.au_blocks.specs.Defects.{alternative_defects, bad_fields, is_field as is_field_of, record_defects, role_defects, rows_defects};
 ghost use Rattle.au_blocks.specs.Entries.{copies_in, role_of, written_copies};
+ghost use Rattle.au_blocks.specs.Headers.{cells_of};
 ghost use Rattle.au_blocks.specs.Spellings.{value_written};
 ghost use Rattle.au_blocks.specs.Read.{first};
 
 use crate::faults::TableFault;
+use crate::fields::{cell_count, cell_text, field};
 use crate::format::Format;
-use crate::header::cells;
 use crate::role::Role;
 use crate::spellings::{flag_written, number_written, range_written, times_written};
 use crate::times::Times;
 use au_csv::Rec;
-use au_value::{Kind, Word};
+use au_value::Kind;
 
 // The first defect of the records below a header of this width, whose columns have these written kinds.
 pub(crate) fn row_fault(
@@ -25,7 +26,7 @@ pub(crate) fn row_fault(
     ensures { result ≡ first (rows_defects format width written.now rows.now) }
 {
     for place in 0..rows.len() {
-        if let Some(fault) = record_fault(format, width, written, place + 1, rows[place].fields()) {
+        if let Some(fault) = record_fault(format, width, written, place + 1, &rows[place]) {
             return Some(fault);
         }
     }
@@ -38,30 +39,27 @@ fn record_fault(
     width: usize,
     written: &[Option<Kind>],
     number: usize,
-    fields: &[Word],
+    record: &Rec,
 ) -> Option<TableFault>
-    ensures { result ≡ first (record_defects format width written.now (number, fields.now)) }
+    ensures { result ≡ first (record_defects format width written.now (number, «record».now)) }
 {
-    if fields.len() != width {
+    if record.len() != width {
         return Some(TableFault::WrongWidth(number));
     }
-    match role(format, fields) {
+    match role(format, record) {
         None => Some(TableFault::BadRole(number)),
-        Some(role) => role_fault(format, number, written, fields, role),
+        Some(role) => role_fault(format, number, written, record, role),
     }
 }
 
 // The role of a record: in a plain table each is a marked alternative.
-pub(crate) fn role(format: Format, fields: &[Word]) -> Option<Role>
-    ensures { result ≡ role_of format fields.now }
+pub(crate) fn role(format: Format, record: &Rec) -> Option<Role>
+    ensures { result ≡ role_of format «record».now }
 {
     if !format.has_blocks() {
         return Some(Role::Guess);
     }
-    match fields {
-        [_, word, ..] => Role::named(word.as_str()),
-        _ => None,
-    }
+    Role::named(field(record, 1))
 }
 
 // The first defect of a record with this role.
@@ -69,27 +67,30 @@ fn role_fault(
     format: Format,
     number: usize,
     written: &[Option<Kind>],
-    fields: &[Word],
+    record: &Rec,
     role: Role,
 ) -> Option<TableFault>
-    ensures { result ≡ first (role_defects format number written.now fields.now (Some role)) }
+    ensures { result ≡ first (role_defects format number written.now «record».now (Some role)) }
 {
     if !role.is_absent() {
-        return alternative_fault(format, number, written, fields);
+        return alternative_fault(format, number, written, record);
     }
-    if has_value(fields) {
+    if has_value(record) {
         return Some(TableFault::AbsentWithValues(number));
     }
     None
 }
 
 // Whether a field behind the label and the role isn't empty.
-fn has_value(fields: &[Word]) -> bool
-    ensures { result ≡ list_any (λ text. nat_lt 0 (length text)) (drop 2 fields.now) }
+fn has_value(record: &Rec) -> bool
+    ensures { result ≡ list_any (λ text. nat_lt 0 (length text)) (drop 2 «record».now) }
 {
-    cells(Format::Blocks, fields)
-        .iter()
-        .any(|field| field.as_str().len() > 0)
+    for place in 0..cell_count(Format::Blocks, record) {
+        if cell_text(Format::Blocks, record, place).len() > 0 {
+            return true;
+        }
+    }
+    false
 }
 
 // The first defect of an alternative.
@@ -97,34 +98,31 @@ fn alternative_fault(
     format: Format,
     number: usize,
     written: &[Option<Kind>],
-    fields: &[Word],
+    record: &Rec,
 ) -> Option<TableFault>
-    ensures { result ≡ first (alternative_defects format number written.now fields.now) }
+    ensures { result ≡ first (alternative_defects format number written.now «record».now) }
 {
-    if written_times(format, fields).is_none() {
+    if written_times(format, record).is_none() {
         return Some(TableFault::BadTimes(number));
     }
-    bad_field(format, number, written, cells(format, fields))
+    bad_field(format, number, written, record)
 }
 
 // The numbers of copies that a record writes.
-fn written_times(format: Format, fields: &[Word]) -> Option<Times>
-    ensures { result ≡ written_copies format fields.now }
+fn written_times(format: Format, record: &Rec) -> Option<Times>
+    ensures { result ≡ written_copies format «record».now }
 {
     if !format.has_copies() {
         return Some(Times::once());
     }
-    match fields {
-        [_, _, times, ..] => times_written(times.as_str()),
-        _ => None,
-    }
+    times_written(field(record, 2))
 }
 
 // The numbers of copies of a record.
-pub(crate) fn times_in(format: Format, fields: &[Word]) -> Times
-    ensures { result ≡ copies_in format fields.now }
+pub(crate) fn times_in(format: Format, record: &Rec) -> Times
+    ensures { result ≡ copies_in format «record».now }
 {
-    match written_times(format, fields) {
+    match written_times(format, record) {
         Some(times) => times,
         None => Times::once(),
     }
@@ -135,12 +133,12 @@ fn bad_field(
     format: Format,
     number: usize,
     written: &[Option<Kind>],
-    cells: &[Word],
+    record: &Rec,
 ) -> Option<TableFault>
-    ensures { result ≡ first (bad_fields format number written.now cells.now) }
+    ensures { result ≡ first (bad_fields format number written.now (cells_of format «record».now)) }
 {
-    for place in 0..written.len().min(cells.len()) {
-        if !is_field(format, written[place], cells[place].as_str()) {
+    for place in 0..written.len().min(cell_count(format, record)) {
+        if !is_field(format, written[place], cell_text(format, record, place)) {
             return Some(TableFault::BadField(number, place));
         }
     }

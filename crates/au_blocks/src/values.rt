@@ -1,75 +1,80 @@
 //! Texts as cells of their columns.
-ghost use Rattle.std.specs.Prelude.{◌≡◌, map, true, unwrap_or, zip, IfOk};
+ghost use Rattle.std.specs.Prelude.{◌≡◌, map, true, unwrap_or, IfOk};
+ghost use Rattle.au_blocks.specs.Headers.{cells_of};
 ghost use Rattle.au_blocks.specs.Read.{cell as cell_of, row as row_of};
 ghost use Rattle.au_blocks.specs.Spellings.{is_number_kind, range_written as range_written_of};
 ghost use Rattle.au_value.specs.Ranges.{certain};
 
 use crate::cell::Cell;
 use crate::column::Column;
+use crate::fields::{cell_count, cell_text};
+use crate::format::Format;
 use crate::spellings::{flag_written, number_written, range_written};
+use au_csv::Rec;
 use au_value::{Kind, NoMemory, Value, Word};
 use std::alloc::Global;
 
-// The row of these texts, one for each column.
-#[tactic(auto, using(crate::proofs::RowValues::row_by_columns))]
+// The row of a record: a cell for each column.
 pub(crate) fn row(
     alloc: Global,
+    format: Format,
     columns: &[Column],
-    words: Vec<Word>,
+    record: &Rec,
 ) -> Result<Vec<Cell>, NoMemory>
-    ensures { IfOk result (λ cells. cells.items ≡ row_of (map (λ c. c.kind) columns.now) words.items) }
+    ensures { IfOk result (λ cells. cells.items ≡ row_of (map (λ c. c.kind) columns.now) (cells_of format «record».now)) }
 {
-    cells(alloc, columns, words)
-}
-
-// The cells of these texts, one for each column.
-fn cells(alloc: Global, columns: &[Column], words: Vec<Word>) -> Result<Vec<Cell>, NoMemory>
-    ensures { IfOk result (λ cells. cells.items ≡ map (λ p. cell_of (p.0.kind, p.1)) (zip columns.now words.items)) }
-{
-    let cells = columns
-        .iter()
-        .zip(words)
-        .map(|(column, word)| cell(column.kind, word));
-    Ok(cells.collect(alloc)?)
+    let mut cells = Vec::with_capacity(alloc, columns.len())?;
+    for place in 0..columns.len().min(cell_count(format, record)) {
+        let text = cell_text(format, record, place);
+        cells.push(cell(alloc, columns[place].kind, text)?)?;
+    }
+    Ok(cells)
 }
 
 // The cell of a text: of the value that it writes, or else the range. Where it writes neither, it stays a text.
-fn cell(kind: Kind, word: Word) -> Cell
-    ensures { result ≡ cell_of (kind, word) }
+fn cell(alloc: Global, kind: Kind, text: &str) -> Result<Cell, NoMemory>
+    ensures { IfOk result (λ c. c ≡ cell_of (kind, text.now)) }
 {
     match kind {
-        Kind::Text => Cell::certain(Value::Text(word)),
-        Kind::Flag => truth(word),
-        Kind::Int | Kind::Dec(_) => number(kind, word),
+        Kind::Text => text_cell(alloc, text),
+        Kind::Flag => truth(alloc, text),
+        Kind::Int | Kind::Dec(_) => number(alloc, kind, text),
     }
 }
 
-fn truth(word: Word) -> Cell
-    ensures { result ≡ cell_of (Kind.Flag, word) }
+fn text_cell(alloc: Global, text: &str) -> Result<Cell, NoMemory>
+    ensures { IfOk result (λ c. c ≡ certain (Value.Text text.now)) }
 {
-    match flag_written(word.as_str()) {
-        Some(truth) => Cell::certain(Value::Flag(truth)),
-        None => Cell::certain(Value::Text(word)),
+    let word = Word::new(String::from_str(alloc, text)?);
+    Ok(Cell::certain(Value::Text(word)))
+}
+
+fn truth(alloc: Global, text: &str) -> Result<Cell, NoMemory>
+    ensures { IfOk result (λ c. c ≡ cell_of (Kind.Flag, text.now)) }
+{
+    match flag_written(text) {
+        Some(truth) => Ok(Cell::certain(Value::Flag(truth))),
+        None => text_cell(alloc, text),
     }
 }
 
 // The cell of a text in a column of numbers.
-fn number(kind: Kind, word: Word) -> Cell
+fn number(alloc: Global, kind: Kind, text: &str) -> Result<Cell, NoMemory>
     requires { is_number_kind kind ≡ true }
-    ensures { result ≡ cell_of (kind, word) }
+    ensures { IfOk result (λ c. c ≡ cell_of (kind, text.now)) }
 {
-    match number_written(kind, word.as_str()) {
-        Some(number) => Cell::certain(Value::Int(number)),
-        None => ranged(kind, word),
+    match number_written(kind, text) {
+        Some(number) => Ok(Cell::certain(Value::Int(number))),
+        None => ranged(alloc, kind, text),
     }
 }
 
 // The cell of a text in a column of numbers that writes no number.
-fn ranged(kind: Kind, word: Word) -> Cell
-    ensures { result ≡ unwrap_or (range_written_of kind word) (certain (Value.Text word)) }
+fn ranged(alloc: Global, kind: Kind, text: &str) -> Result<Cell, NoMemory>
+    ensures { IfOk result (λ c. c ≡ unwrap_or (range_written_of kind text.now) (certain (Value.Text text.now))) }
 {
-    match range_written(kind, word.as_str()) {
-        Some(range) => Cell::between(range),
-        None => Cell::certain(Value::Text(word)),
+    match range_written(kind, text) {
+        Some(range) => Cell::between(alloc, range),
+        None => text_cell(alloc, text),
     }
 }

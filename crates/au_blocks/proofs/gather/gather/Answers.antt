@@ -10,7 +10,6 @@ use Rattle.au_blocks.specs.declared.column.Column.{Column}
 use Rattle.au_blocks.specs.declared.format.Format.{Format}
 use Rattle.au_blocks.specs.declared.role.Role.{Role}
 use Rattle.au_blocks.specs.Entries.{entry, entry_of, label_of, role_of, copies_in}
-use Rattle.au_blocks.specs.Blocks.{Copies}
 use Rattle.au_blocks.specs.Headers.{cells_of}
 use Rattle.au_blocks.specs.Gathered.{Gathered, nothing}
 use Rattle.au_blocks.specs.Labels.{label_bytes}
@@ -25,16 +24,15 @@ builders-are f kinds rows l ls gs hs same are later =
     later ∙ ap (λ (g : List Gathered). with_builder g (list_any (bytes_eq l) ls)) are ∙ ap (λ (x : List Text). with_builder (builders f kinds rows) (list_any (bytes_eq l) x)) same
 
 -- the entry of a record
-entry-is : (f : Format) (r : Record) (x : Role) (copies : Copies) (cells : Record) → role_of f r ≡ Some x → copies ≡ copies_in f r → cells ≡ cells_of f r
-    → entry_of f r ≡ Some (entry x copies cells)
-entry-is f r x copies cells has times rest = rw (has, times, rest) refl
+entry-is : (f : Format) (r : Record) (x : Role) → role_of f r ≡ Some x → entry_of f r ≡ Some (entry x (copies_in f r) (cells_of f r))
+entry-is f r x has = rw has refl
 
 pub index_mut-requires : goal.index_mut-requires
 index_mut-requires c =
     let inv = c.loop-record.invariant in
     let kinds = map (λ (x : Column). x.kind) c.args.columns.now in
     let f = c.args.format in
-    let l = c.parts-label.result.0 in
+    let l = c.field.result.now in
     let are = builders-are f kinds c.loop-record.yielded l (label_bytes c.loop-record.labels) c.loop-record.builders.items c.place_of.new.builders.items inv.labels inv.builders c.in_ok-place.ensures.builders in
     let place : c.in_ok-place.place ≡ position_or_len (bytes_eq l) (labels c.loop-record.yielded) = c.in_ok-place.ensures.place ∙ ap (position_or_len (bytes_eq l)) inv.labels in
     let low = place-within f kinds c.loop-record.yielded l c.place_of.new.builders.items are in
@@ -46,15 +44,15 @@ loop-record-preserved c =
     let rows = c.loop-record.yielded in
     let kinds = map (λ (x : Column). x.kind) c.args.columns.now in
     let f = c.args.format in
-    let l = c.parts-label.result.0 in
-    let label : l ≡ label_of c.in-Some.record = c.parts-label.ensures.label in
+    let l = c.field.result.now in
+    let label : l ≡ label_of c.in-Some.record = c.field.ensures in
     let are = builders-are f kinds rows l (label_bytes c.loop-record.labels) c.loop-record.builders.items c.place_of.new.builders.items inv.labels inv.builders c.in_ok-place.ensures.builders in
     let place : c.in_ok-place.place ≡ position_or_len (bytes_eq l) (labels rows) = c.in_ok-place.ensures.place ∙ ap (position_or_len (bytes_eq l)) inv.labels in
     let low = place-within f kinds rows l c.place_of.new.builders.items are in
-    let is = entry-is f c.in-Some.record c.parts-label.result.1 c.times_in-times.result c.parts-label.result.2.items c.parts-label.ensures.role (rw c.fields.ensures at c.times_in-times.ensures) c.parts-label.ensures.cells in
+    let is = entry-is f c.in-Some.record c.role_in-role.result c.role_in-role.ensures in
     let gs = c.place_of.new.builders.items in
     let at : c.index_mut.result.now ≡ get_or gs c.in_ok-place.place nothing = get_or_read gs c.in_ok-place.place c.index_mut.result.now (rw place low) c.index_mut.ensures.value nothing in
-    let e = entry c.parts-label.result.1 c.times_in-times.result c.parts-label.result.2.items in
+    let e = entry c.role_in-role.result (copies_in f c.in-Some.record) (cells_of f c.in-Some.record) in
     let pushed = builders-push f kinds rows c.in-Some.record e is gs (rw label at are) in
     record {
       all = append_assoc rows (c.in-Some.record ∷ []) (into_iter_items c.next.new.self) ∙ sym (ap (λ (rest : List Record). rows ++ rest) c.in-Some.ensures.steps.0) ∙ inv.all;

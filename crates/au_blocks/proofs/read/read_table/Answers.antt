@@ -25,10 +25,11 @@ head-others (z ∷ xs) x some is = rw is refl
 pub returns-clause-table : goal.returns-clause-table
 returns-clause-table c =
     let rows = c.in_ok-rows.rows.items in
-    let header = c.fields.result.now in
-    let rest = c.remove-header.new.self.items in
-    let here : header ≡ get_or rows 0 header = rw (c.fields.ensures) c.remove-header.ensures.value in
-    let whole : header ∷ rest ≡ rows = rw (c.remove-header.ensures.items) (head-others rows header (omega (arith, c.remove-header.ensures.len, c.in_ok-rows.rows.ok.0)) here) in
+    let header = c.as_slice.result.now in
+    let rest = c.remove.new.self.items in
+    let first_row : header ≡ c.remove.result = c.as_slice.ensures.value ∙ c.in_ok-header.ensures in
+    let here : header ≡ get_or rows 0 header = rw first_row c.remove.ensures.value in
+    let whole : header ∷ rest ≡ rows = rw (c.remove.ensures.items) (head-others rows header (omega (arith, c.remove.ensures.len, c.in_ok-rows.rows.ok.0)) here) in
     let table = table-of-records c.args.bytes.now rows c.in_ok-rows.ensures.records in
     IfOk-weaker c.table_under.result (λ t. unless (first (table_defects (header ∷ rest))) (contents (header ∷ rest)) ≡ Ok t) (λ t. table_of c.args.bytes.now ≡ Ok t)
     (λ t is. table ∙ ap (λ rs. unless (first (table_defects rs)) (contents rs)) (sym whole) ∙ is) c.table_under.ensures.table

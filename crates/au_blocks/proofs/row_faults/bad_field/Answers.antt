@@ -1,12 +1,12 @@
 -- A cell that is no value of the written kind, and one that is.
 use Rattle.std.proofs.Common.{◌≡◌, ◌∙◌, ◌<◌, ℕ, List, [], Option, None, Bool, get_or, length, min, refl, sym, arith}
 use Rattle.std.specs.Prelude.{zip, not}
-use Rattle.std.proofs.lemmas.List.{get_or_read}
 use Rattle.std.proofs.lemmas.Slice.Zip.{length-zip, get_or-zip}
 use Rattle.au_value.specs.declared.kinds.Kind.{Kind}
 use Rattle.au_blocks.specs.declared.format.Format.{Format}
 use Rattle.au_blocks.specs.declared.faults.TableFault.{TableFault}
 use Rattle.au_blocks.specs.declared.faults.TableFault.TheVariants as fault
+use Rattle.au_blocks.specs.Headers.{cells_of}
 use Rattle.au_blocks.specs.Defects.{is_field, where_true}
 use Rattle.au_blocks.proofs.First.{scan-more, scan-here, scan-end}
 use Rattle.au_blocks.proofs.row_faults.bad_field.Goals as goal
@@ -24,27 +24,26 @@ defects-at f number written cells i b in_written in_cells is =
 pub returns-then-not-is_field : goal.returns-then-not-is_field
 returns-then-not-is_field c =
     let written = c.args.written.now in
-    let cells = c.args.cells.now in
+    let cells = cells_of c.args.format c.args.record.now in
     let i = c.loop-place.place in
-    let end : c.min-place-end.result ≡ min (length written) (length cells) = c.min-place-end.ensures in
+    let end : c.min-place-end.result ≡ min (length written) (length cells) = rw c.cell_count.ensures at c.min-place-end.ensures in
     let in_cells : i < length cells = omega arith in
-    let cell : c.index-cells-place.result ≡ get_or cells i [] = get_or_read cells i c.index-cells-place.result in_cells c.index-cells-place.is [] in
-    let at = defects-at c.args.format c.args.number written cells i c.is_field.result (omega arith) in_cells (rw (c.as_str.ensures, cell) at c.is_field.ensures) in
+    let at = defects-at c.args.format c.args.number written cells i c.is_field.result (omega arith) in_cells (rw c.cell_text.ensures at c.is_field.ensures) in
     sym (c.loop-place.invariant ∙ scan-here (of_cell c.args.format c.args.number) i (zip written cells) i (None, []) (fault.BadField c.args.number i) (omega (arith, length-zip written cells)) (rw (at, c.if-not-is_field.true) refl))
 
 pub loop-place-preserved : goal.loop-place-preserved
 loop-place-preserved c =
     let written = c.args.written.now in
-    let cells = c.args.cells.now in
+    let cells = cells_of c.args.format c.args.record.now in
     let i = c.loop-place.place in
-    let end : c.min-place-end.result ≡ min (length written) (length cells) = c.min-place-end.ensures in
+    let end : c.min-place-end.result ≡ min (length written) (length cells) = rw c.cell_count.ensures at c.min-place-end.ensures in
     let in_cells : i < length cells = omega arith in
-    let cell : c.index-cells-place.result ≡ get_or cells i [] = get_or_read cells i c.index-cells-place.result in_cells c.index-cells-place.is [] in
-    let at = defects-at c.args.format c.args.number written cells i c.is_field.result (omega arith) in_cells (rw (c.as_str.ensures, cell) at c.is_field.ensures) in
+    let at = defects-at c.args.format c.args.number written cells i c.is_field.result (omega arith) in_cells (rw c.cell_text.ensures at c.is_field.ensures) in
     c.loop-place.invariant ∙ scan-more (of_cell c.args.format c.args.number) i (zip written cells) i (None, []) (omega (arith, length-zip written cells)) (rw (at, c.if-not-is_field.false) refl)
 
 pub returns : goal.returns
 returns c =
     let written = c.args.written.now in
-    let cells = c.args.cells.now in
+    let cells = cells_of c.args.format c.args.record.now in
+    let end : c.min-place-end.result ≡ min (length written) (length cells) = rw c.cell_count.ensures at c.min-place-end.ensures in
     sym (c.loop-place.invariant ∙ scan-end (of_cell c.args.format c.args.number) c.loop-place.place (zip written cells) c.loop-place.place (omega (arith, length-zip written cells)))
