@@ -7,6 +7,7 @@ pub mod FirstSeen
 pub mod GroupSteps
 pub mod AllPairs
 pub mod KeyParts
+pub mod NearPlaces
 pub mod Members
 pub mod NarrowSteps
 pub mod ChainSteps

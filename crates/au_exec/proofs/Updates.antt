@@ -90,7 +90,7 @@ module _ (k j : Cells) (n m : List Fold) (f h : Change) (apart : same_row k j �
       ]
 
 -- the place of a key among the keys
-next_place : (p : ℕ) → 1 + p ≡ suc p
+pub next_place : (p : ℕ) → 1 + p ≡ suc p
 next_place p = omega arith
 
 module _ (A : List Folded → ℕ → List Folded) (k : Cells) (new : List Fold) (f : Change)

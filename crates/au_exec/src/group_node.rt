@@ -87,6 +87,7 @@ fn folded_rows(
     let mut groups = Groups {
         seen: IndexSet::new(alloc),
         held: Vec::new(alloc),
+        recent: 0,
     };
     'pulling: loop {
         let next = pull(alloc, of)?;

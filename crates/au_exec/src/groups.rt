@@ -1,5 +1,5 @@
 //! Groups of rows by the values in their key columns, row by row.
-ghost use Rattle.std.specs.Prelude.{◌≡◌, ◌≤◌, ◌++◌, ◌∷◌, [], true, false, IfOk, IfSome, OnOk, MatchResult, map, vec_len};
+ghost use Rattle.std.specs.Prelude.{◌≡◌, ◌≤◌, ◌++◌, ◌∷◌, [], true, false, IfOk, IfSome, IsTrue, OnOk, MatchResult, map, vec_len};
 ghost use Rattle.std.specs.List.{list_any, position_or_len};
 ghost use Rattle.indexmap.specs.IndexSet.{insert_key};
 ghost use Rattle.au_expr.specs.Figures.{Fit};
@@ -14,7 +14,7 @@ ghost use Rattle.au_exec.specs.Tables.{CanGrow, CanGrowAll, CanPut, finished_row
 
 use crate::fold::{Fold, add_all, first_folds};
 use crate::keep::columns;
-use crate::key::{Part, push_parts};
+use crate::key::{Part, has_parts, push_parts};
 use crate::rows::{push_row, push_value};
 use au_expr::EvalFault;
 use au_plain::{PAgg, PRow};
@@ -28,6 +28,8 @@ use std::mem;
 pub(crate) struct Groups {
     pub(crate) seen: IndexSet<Vec<Part>>,
     pub(crate) held: Vec<(PRow, Vec<Fold>)>,
+    /// The place that was found last. Rows of one group often come one after the other, so it is tried first.
+    pub(crate) recent: usize,
 }
 
 /// More rows.
@@ -82,9 +84,43 @@ fn add_row(
     requires { CanGrow keys.now aggs.now (table_of groups.old) row.now }
     ensures { MatchResult result (λ _. (table_of groups.new ≡ grow keys.now aggs.now (table_of groups.old) row.now) × Fit (grow_numbers keys.now aggs.now (table_of groups.old) row.now)) (λ f. f ≡ fault.Overflow → ¬ (Fit (grow_numbers keys.now aggs.now (table_of groups.old) row.now))) }
 {
-    let place = place_of(alloc, &mut groups.seen, keys, row, key)?;
+    let recent = groups.recent;
+    let place = place_near(alloc, &mut groups.seen, keys, row, key, recent)?;
+    groups.recent = place;
     put(alloc, keys, aggs, &mut groups.held, place, row)?;
     Ok(())
+}
+
+// The place of a row's key values, where they may well stand at this place. No key is made where they do.
+fn place_near(
+    alloc: Global,
+    seen: &mut IndexSet<Vec<Part>>,
+    keys: &[usize],
+    row: &[Value],
+    key: &mut Vec<Part>,
+    recent: usize,
+) -> Result<usize, NoMemory>
+    requires { HavePlaces keys.now row.now }
+    ensures keys { OnOk result (key_values seen.new.keys ≡ insert_key same_row (key_values seen.old.keys) (kept keys.now row.now)) }
+    ensures place { IfOk result (λ place. place ≡ position_or_len (same_row (kept keys.now row.now)) (key_values seen.old.keys)) }
+{
+    if stands_at(seen, keys, row, recent) {
+        return Ok(recent);
+    }
+    place_of(alloc, seen, keys, row, key)
+}
+
+// Whether a row's key values are those at a place.
+fn stands_at(seen: &IndexSet<Vec<Part>>, keys: &[usize], row: &[Value], place: usize) -> bool
+    requires { HavePlaces keys.now row.now }
+    ensures { IsTrue result → (list_any (same_row (kept keys.now row.now)) (key_values seen.now.keys) ≡ true) × (place ≡ position_or_len (same_row (kept keys.now row.now)) (key_values seen.now.keys)) }
+{
+    let known = seen.as_slice();
+    if place < known.len() {
+        has_parts(row, keys, &known[place])
+    } else {
+        false
+    }
 }
 
 /// The place of a row's key values among those that were seen, behind the others where they are new. The key is room that
