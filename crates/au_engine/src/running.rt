@@ -18,6 +18,7 @@ use crate::steps::{Planned, combined_of};
 use au_algebra::{Query, Rel};
 use au_annot::Triple;
 use au_blocks::Table;
+use au_encode::decode;
 use au_expr::EvalFault;
 use au_par::Gate;
 use au_plain::PRow;
@@ -85,7 +86,7 @@ pub(crate) fn evaluated_by_plan<R: Threads + Sync, G: Gate + Sync>(
         Ok(found) => found,
         Err(fault) => return Err(fault),
     };
-    match runner.decoded(alloc, rows, columns) {
+    match decode(alloc, rows, columns) {
         Ok(relation) => Ok(relation),
         Err(NoMemory) => Err(EvalFault::NoMemory),
     }
