@@ -6,18 +6,14 @@ ghost use Rattle.au_physical.specs.PhysicalKinds.{IsPhysicalFor};
 ghost use Rattle.au_physical.specs.PhysicalMeaning.{physical_rows};
 ghost use Rattle.au_physical.specs.PhysicalNumbers.{physical_numbers};
 ghost use Rattle.au_physical.specs.Physicals.{physical_tree};
-ghost use Rattle.au_encode.specs.Encode.{AreEncoded, decode as decode_of};
 ghost use Rattle.au_exec.specs.Outcomes.{rows_of};
 
-use au_algebra::Rel;
-use au_annot::Triple;
-use au_encode::{decode, decode_rows};
 use au_exec::Run;
 use au_expr::EvalFault;
 use au_par::Gate;
 use au_physical::Physical;
 use au_plain::PRow;
-use au_value::{NoMemory, Range};
+use au_value::NoMemory;
 use std::alloc::Global;
 use std::marker::Model;
 use std::thread::Threads;
@@ -69,23 +65,6 @@ impl<'a, R: Threads + Sync, G: Gate + Sync> Runner<'a, R, G> {
         match run.all(self.rt) {
             Ok(rows) => Ok(rows),
             Err(fault) => Err(fault),
-        }
-    }
-
-    /// The relation that rows encode, each with so many columns, in their order.
-    pub(crate) fn decoded(
-        &self,
-        alloc: Global,
-        rows: Vec<PRow>,
-        columns: usize,
-    ) -> Result<Rel<Range, Triple>, NoMemory>
-        requires rows { AreEncoded columns (map (λ row. row.items) rows.items) }
-        ensures rows { IfOk result (λ rel. rel ≡ decode_of columns (map (λ row. row.items) rows.items)) }
-    {
-        if self.workers == 1 {
-            decode(alloc, rows, columns)
-        } else {
-            decode_rows(self.rt, alloc, rows.as_slice(), columns)
         }
     }
 }

@@ -12,7 +12,6 @@ ghost use Rattle.au_sqltext.specs.Texts.{plan_text};
 ghost use Rattle.au_engine.specs.Answers.{AnswerCause, statement_defects};
 ghost use Rattle.au_engine.specs.Exchange.{IsPlanText, IsTreeText, encoded_text as encoded_text_of, value_kinds};
 
-use crate::encoded::encoded_table;
 use crate::faults::EngineFault;
 use crate::rewriting::rewritten;
 use crate::tables::schemas;
@@ -21,6 +20,7 @@ use au_blocks::{Column, Table};
 use au_parse::Statement;
 use au_plain::Plan;
 use au_sqltext::{plain_text, write_plan};
+use au_translate::encoded;
 use au_typing::Typed;
 use au_value::{Kind, NoMemory, Word};
 use std::alloc::Global;
@@ -34,7 +34,7 @@ pub fn encoded_text(alloc: Global, table: &Table) -> Result<Vec<u8>, NoMemory>
     ensures text { IfOk result (λ text. text.items ≡ encoded_text_of table.now) }
 {
     let kinds = encoded_kinds(alloc, table.columns())?;
-    let rows = encoded_table(alloc, table)?;
+    let rows = encoded(alloc, table)?;
     plain_text(alloc, kinds.as_slice(), rows.as_slice())
 }
 
