@@ -11,12 +11,12 @@ use au_value::{NoMemory, Range};
 use std::alloc::Global;
 use std::marker::Model;
 
-// So many rows are held as they came.
-const FEW_ROWS: usize = 65_536;
+// So many rows are brought to their normal form.
+const MANY_ROWS: usize = 65_536;
 
-/// The rows of a bounded relation that comes piece by piece. They are brought to their normal form whenever they are
-/// twice as many as when they last were in it, so that memory holds a few rows for each one of the normal form. Contracts
-/// see the normal form of all rows that were put.
+/// The rows of a bounded relation that comes piece by piece. They are brought to their normal form whenever they are many,
+/// 65,536 at least, and twice as many as the last normal form had. So memory holds at most twice as many rows as the normal
+/// form has, or 65,536, beside the last piece. Contracts see the normal form of all rows that were put.
 #[derive(Drop)]
 pub struct Gathered {
     rel: Rel<Range, Triple>,
@@ -77,7 +77,7 @@ impl Gathered {
 fn are_many(count: usize, settled: usize) -> bool
     ensures { result ≡ (nat_le 65536 count && nat_le settled (count / 2)) }
 {
-    FEW_ROWS <= count && settled <= count / 2
+    MANY_ROWS <= count && settled <= count / 2
 }
 
 // The rows of a normal form, all of which are settled.

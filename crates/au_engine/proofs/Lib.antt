@@ -17,6 +17,8 @@ mod PositiveTrees
 mod ReadCauses
 mod Reordered
 mod Shown
+mod SliceRows
+mod SliceRuns
 mod StageRuns
 mod StageSteps
 mod Together

@@ -5,5 +5,6 @@ pub mod Compressing
 pub mod Rewriting
 pub mod Exchange
 pub mod PlanAnswers
+pub mod Slicing
 pub mod Stages
 pub mod EncodedTables

@@ -23,15 +23,17 @@ use au_value::{NoMemory, Range};
 use std::alloc::Global;
 use std::thread::Threads;
 
-// A relation, with the number of its columns.
+/// A relation, with the number of its columns.
 #[derive(Drop)]
-struct Side {
-    rel: Rel<Range, Triple>,
+pub(crate) struct Side {
+    pub(crate) rel: Rel<Range, Triple>,
     columns: usize,
 }
 
-// The relation that a plan gives over its tables, which are let go, in some order.
-fn side_of<R: Threads + Sync, G: Gate + Sync>(
+/// The relation that a plan gives over its tables, which are let go, in some order.
+///
+/// `Overflow` comes only where a number of what the plan gives leaves 128 bits.
+pub(crate) fn side_of<R: Threads + Sync, G: Gate + Sync>(
     runner: &Runner<'_, R, G>,
     alloc: Global,
     planned: Planned,

@@ -32,6 +32,7 @@ mod results;
 mod rewriting;
 mod runner;
 mod running;
+mod slicing;
 mod stage;
 mod staged;
 mod steps;

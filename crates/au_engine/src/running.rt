@@ -12,6 +12,7 @@ ghost use Rattle.au_engine.specs.Stages.{AreRowsOf, Shows};
 
 use crate::options::Options;
 use crate::runner::Runner;
+use crate::slicing::{by_slices, table_by_row};
 use crate::stage::run;
 use crate::staged::staged;
 use crate::steps::{Planned, combined_of};
@@ -67,10 +68,8 @@ fn encoded_rows<R: Threads + Sync, G: Gate + Sync>(
     }
 }
 
-/// The relation that is shown of a tree that is typed for the tables, in some order, by its plans.
-///
-/// `Overflow` comes only where a number of the answer leaves 128 bits.
-pub(crate) fn evaluated_by_plan<R: Threads + Sync, G: Gate + Sync>(
+// The relation that is shown of a tree, by its plans over the whole tables.
+fn evaluated_at_once<R: Threads + Sync, G: Gate + Sync>(
     runner: &Runner<'_, R, G>,
     alloc: Global,
     query: &Query,
@@ -89,5 +88,33 @@ pub(crate) fn evaluated_by_plan<R: Threads + Sync, G: Gate + Sync>(
     match decode(alloc, rows, columns) {
         Ok(relation) => Ok(relation),
         Err(NoMemory) => Err(EvalFault::NoMemory),
+    }
+}
+
+/// The relation that is shown of a tree that is typed for the tables, in some order, by its plans. Where the tree works row
+/// by row over one table, and its rows are not combined, it is put together of the relations over slices of the table.
+///
+/// `Overflow` comes only where a number of the answer leaves 128 bits.
+pub(crate) fn evaluated_by_plan<R: Threads + Sync, G: Gate + Sync>(
+    runner: &Runner<'_, R, G>,
+    alloc: Global,
+    query: &Query,
+    tables: &[(Word, Table)],
+    options: Options,
+) -> Result<Rel<Range, Triple>, EvalFault>
+    requires typed { IsTyped (map column_kinds (blocks_of tables.now)) (tree query.now) }
+    requires compression { IsCompression options.compress }
+    ensures rows { IfOk result (λ r. normal_of r ≡ tree_asked options.compress options.combine tables.now (tree query.now)) }
+    ensures overflow { result ≡ Err EvalFault.Overflow → tree_asked_fits options.compress options.combine tables.now (tree query.now) ≡ false }
+{
+    if options.combine {
+        return evaluated_at_once(runner, alloc, query, tables, options);
+    }
+    let Some(table) = table_by_row(query, tables) else {
+        return evaluated_at_once(runner, alloc, query, tables, options);
+    };
+    match by_slices(runner, alloc, query, table) {
+        Ok(relation) => Ok(relation),
+        Err(fault) => Err(fault),
     }
 }

@@ -59,8 +59,8 @@ fn count(rt: &impl Abort, number: i128) -> Count {
     Count::of(number.unsigned_abs()).expect(rt, "a count")
 }
 
-// The triple of a text: least, guess and most.
-fn triple(rt: &impl Abort, text: &str) -> Triple
+/// The triple of a text: least, guess and most.
+pub(crate) fn triple(rt: &impl Abort, text: &str) -> Triple
     ensures ordered { IsTriple result }
     ensures present { 1 ≤ result.most }
 {

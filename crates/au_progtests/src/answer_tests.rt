@@ -1,6 +1,9 @@
 //! Runs that are done, and what they put.
 use crate::runs::{answer_of, judge};
+use std::alloc::Global;
+use std::process::Abort;
 use std::test::Fail;
+use std::thread::Threads;
 
 // Answers over worlds, as CSV.
 const ANSWERS: &str =
@@ -67,6 +70,27 @@ demo|1|3 -> 0 Done rows 2~least 1~guess 2~most 3~! ";
 const PAIRS: &str =
     "SELECT a.grp, MAX(a.id) AS m FROM t a, t b WHERE a.amount = b.amount AND a.grp = 'g0' AND b.grp = 'g1' GROUP BY a.grp";
 
+// A query that is answered slice by slice, and one whose rows are few.
+const BY_ROW: &str = "SELECT id, amount * 2 AS d FROM t WHERE amount > 50";
+
+const FEW_ROWS: &str = "SELECT grp FROM (SELECT * FROM t) s";
+
+// Both roads give one answer of a query over a file.
+fn agree<R: Abort + Threads + Sync>(
+    rt: &R,
+    alloc: Global,
+    query: &str,
+    file: &str,
+) -> Result<(), Fail> {
+    let planned = format!(in alloc; "answer|{query}|t={file}")?;
+    let planned = answer_of(rt, alloc, planned.as_str())?;
+    let direct = format!(in alloc; "direct|{query}|t={file}")?;
+    let direct = answer_of(rt, alloc, direct.as_str())?;
+    assert_eq!(rt; planned.as_str(), direct.as_str());
+    assert!(rt; planned.as_str().starts_with("0 Done "), "an answer");
+    Ok(())
+}
+
 #[test]
 fn answers_of_queries(rt: HostRuntime) -> Result<(), Fail> {
     judge(&rt, rt.alloc(), ANSWERS)
@@ -79,18 +103,11 @@ fn forms_of_answers(rt: HostRuntime) -> Result<(), Fail> {
 
 #[test]
 fn one_answer_by_both_roads(rt: HostRuntime) -> Result<(), Fail> {
-    let alloc = rt.alloc();
-    let planned = answer_of(
-        &rt,
-        alloc,
-        format!(in alloc; "answer|{PAIRS}|t=made.csv")?.as_str(),
-    )?;
-    let direct = answer_of(
-        &rt,
-        alloc,
-        format!(in alloc; "direct|{PAIRS}|t=made.csv")?.as_str(),
-    )?;
-    assert_eq!(rt; planned.as_str(), direct.as_str());
-    assert!(rt; planned.as_str().starts_with("0 Done "), "an answer");
-    Ok(())
+    agree(&rt, rt.alloc(), PAIRS, "made.csv")
+}
+
+#[test]
+fn one_answer_over_slices(rt: HostRuntime) -> Result<(), Fail> {
+    agree(&rt, rt.alloc(), BY_ROW, "slices.csv")?;
+    agree(&rt, rt.alloc(), FEW_ROWS, "slices.csv")
 }

@@ -33,6 +33,7 @@ kind.csv: _block,_role,x:y~
 large.csv: «8388608 1»
 larger.csv: «8388609 1»
 made.csv: «40 blocks»
+slices.csv: «5000 blocks»
 edge.csv: x:int~170141183460469231731687303715884105727~
 bare.csv: y:int~
 nordic.csv: _block,_role,city:text~a,guess,Malmö~a,absent,~

@@ -1,17 +1,16 @@
--- The Scan of the encoded rows gives the table's relation.
-use Rattle.std.proofs.Common.{◌∙◌, ◌+◌, ◌*◌, [], ◌∷◌, ap, length, map, sym}
-use Rattle.std.proofs.lemmas.List.{length-map, map-append}
-use Rattle.au_plain.specs.Plans.{Scan, plan_tree}
+-- The columns and the blocks are those of the table.
+use Rattle.std.specs.Prelude.{IfOk}
+use Rattle.std.proofs.Common.{map, subst, sym}
+use Rattle.au_blocks.specs.Tables.{BlockTable, IsBlockTable, table}
+use Rattle.au_plain.specs.Plans.{plan_tree}
 use Rattle.au_exec.specs.Outcomes.{rows_of}
-use Rattle.au_engine.proofs.Materialized.{adds_table}
+use Rattle.au_engine.specs.Stages.{AddsTable}
 use Rattle.au_engine.proofs.encoded.scanned.Goals as goal
 
-pub returns-in-Ok : goal.returns-in-Ok
-returns-in-Ok c =
-    let before = c.args.tables.now.items in
-    let columns = length c.columns-columns.result.now in
-    adds_table c.args.table.now columns (rows_of c.in_ok-rows.rows) (map rows_of before) (map rows_of c.put.new.tables.items) (plan_tree c.in-Ok.scan.plan) c.in-Ok.scan.layout.columns
-    c.columns-columns.ensures.is_table (ap length c.columns-columns.ensures.of) c.in_ok-rows.ensures.rows c.in_ok-rows.ensures.fit
-    (ap (map rows_of) c.in-Ok.ensures.tables ∙ map-append rows_of before (c.in_ok-rows.rows ∷ []))
-    c.in-Ok.ensures.columns
-    (c.in-Ok.ensures.plan ∙ ap (λ n. Scan n (3 * columns + 3)) (sym (length-map before rows_of)))
+pub scanned_blocks-requires : goal.scanned_blocks-requires
+scanned_blocks-requires c = subst IsBlockTable (λ i. table (sym c.columns.ensures.of i) (sym c.blocks-2.ensures.of i)) c.columns.ensures.is_table
+
+pub returns : goal.returns
+returns c =
+    subst (λ (t : BlockTable). IfOk c.scanned_blocks.result (λ p. AddsTable t (map rows_of c.args.tables.now.items) (map rows_of c.scanned_blocks.new.tables.items) (plan_tree p.plan) p.layout.columns))
+    (λ i. table (c.columns.ensures.of i) (c.blocks-2.ensures.of i)) c.scanned_blocks.ensures

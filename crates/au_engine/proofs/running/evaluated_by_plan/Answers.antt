@@ -1,15 +1,26 @@
--- The rows that were found decode to a relation of the answer's normal form.
-use Rattle.std.proofs.Common.{◌∙◌, ap}
-use Rattle.au_algebra.specs.Bounded.{normal}
+-- The rows of all slices are those of the answer, where rows are not combined.
+use Rattle.std.proofs.Common.{ap, sym, ◌∙◌}
 use Rattle.au_algebra.specs.Trees.{tree}
-use Rattle.au_exec.specs.Outcomes.{rows_of}
-use Rattle.au_engine.proofs.PlanRuns.{decodable, decoded}
+use Rattle.au_engine.specs.Answers.{tree_asked, tree_asked_fits}
+use Rattle.au_engine.proofs.SliceRows.{works_by_row}
+use Rattle.au_engine.proofs.SliceRuns.{asked_by_row, asked_leaves, typed_alone}
 use Rattle.au_engine.proofs.running.evaluated_by_plan.Goals as goal
 
-pub decode-requires : goal.decode-requires
-decode-requires g c = decodable c.args.options.compress c.args.options.combine c.args.tables.now (tree c.args.query.now) c.in-Ok.found.1 (rows_of c.in-Ok.found.0) c.in-Ok.ensures.rows
+pub by_slices-requires-clause-by_row : goal.by_slices-requires-clause-by_row
+by_slices-requires-clause-by_row g c κs within = works_by_row (tree c.args.query.now) c.in-Some.ensures.0 c.in-Some.ensures.1.0
 
-pub returns-in-Ok-decode-clause-rows : goal.returns-in-Ok-decode-clause-rows
-returns-in-Ok-decode-clause-rows g c =
-    ap normal c.in-Ok-decode.ensures.rows
-    ∙ decoded c.args.options.compress c.args.options.combine c.args.tables.now (tree c.args.query.now) c.in-Ok.found.1 (rows_of c.in-Ok.found.0) c.in-Ok.ensures.rows
+pub by_slices-requires-clause-typed : goal.by_slices-requires-clause-typed
+by_slices-requires-clause-typed g c κs within =
+    typed_alone c.args.options.compress c.args.tables.now (tree c.args.query.now) c.in-Some.ensures.0 c.in-Some.table.now c.in-Some.ensures.1.0 c.in-Some.ensures.1.1 c.requires.typed
+
+pub returns-in-Ok-clause-rows : goal.returns-in-Ok-clause-rows
+returns-in-Ok-clause-rows g c =
+    c.in-Ok.ensures.rows
+    ∙ asked_by_row c.args.options.compress c.args.tables.now (tree c.args.query.now) c.in-Some.ensures.0 c.in-Some.table.now c.in-Some.ensures.1.0 c.in-Some.ensures.1.1
+    ∙ ap (λ combined. tree_asked c.args.options.compress combined c.args.tables.now (tree c.args.query.now)) (sym c.if-options.false)
+
+pub returns-in-Err-clause-overflow : goal.returns-in-Err-clause-overflow
+returns-in-Err-clause-overflow g c e =
+    ap (λ combined. tree_asked_fits c.args.options.compress combined c.args.tables.now (tree c.args.query.now)) c.if-options.false
+    ∙ asked_leaves c.args.options.compress c.args.tables.now (tree c.args.query.now) c.in-Some.ensures.0 c.in-Some.table.now c.in-Some.ensures.1.0 c.in-Some.ensures.1.1
+    (c.in-Err.ensures.overflow e)

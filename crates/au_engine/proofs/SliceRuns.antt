@@ -1,0 +1,86 @@
+-- What the plan of a query that works row by row finds over a slice, and what the slices together are of the answer.
+use Rattle.std.specs.Prelude.{◌≡◌, ℕ, false, IsTrue, List, [], ◌∷◌, ◌++◌, map, Option, Some, None, is_some, option_map, slice_get, unwrap_or}
+use Rattle.std.proofs.Common.{sym, ◌∙◌, ap, subst}
+use Rattle.std.proofs.lemmas.Bool.{false_from_ne_true}
+use Rattle.std.proofs.lemmas.Option.{slice_get-map}
+use Rattle.au_expr.specs.Figures.{Fit}
+use Rattle.au_expr.proofs.Fits.{fit_both, fit_parts}
+use Rattle.au_algebra.specs.Bounded.{Bounded, normal}
+use Rattle.au_algebra.specs.Fits.{triple_numbers}
+use Rattle.au_algebra.specs.Ordinary.{Rows}
+use Rattle.au_algebra.specs.Trees.{Tree}
+use Rattle.au_algebra.specs.Typing.{IsTyped}
+use Rattle.au_blocks.specs.Tables.{BlockTable, column_kinds}
+use Rattle.au_translate.specs.Translate.{bounded_table}
+use Rattle.au_plain.specs.Plans.{PlanTree}
+use Rattle.au_encode.specs.Encode.{encode}
+use Rattle.au_encode.proofs.Decoded.{rows_back}
+use Rattle.au_engine.specs.Answers.{Named, blocks_of, tree_asked, tree_asked_fits}
+use Rattle.au_engine.specs.Compressing.{pair_numbers, pairs_by, tree_numbers, tree_rows}
+use Rattle.au_engine.specs.Slicing.{gathered_numbers, over_one, row_table, slice_numbers, slice_rows}
+use Rattle.au_engine.specs.Stages.{AddsTree, Decodes, LeavesRange}
+use Rattle.au_engine.proofs.AskedAnswers.{asked_is, parts_fit}
+use Rattle.au_engine.proofs.Operators.{typed_kinds}
+use Rattle.au_engine.proofs.Reordered.{normal_same}
+use Rattle.au_engine.proofs.Shown.{have_columns}
+use Rattle.au_engine.proofs.SliceRows.{kinds_alone, numbers_alone, rows_alone}
+use Rattle.au_engine.proofs.StageRuns.{adds_relation}
+
+-- ---- the plan over a slice
+
+module _ (q : Tree) (t : BlockTable) (typed : IsTyped (column_kinds t ∷ []) (over_one q)) (held : List Rows) (p : PlanTree) (c : ℕ) (part : AddsTree None (t ∷ []) (over_one q) [] held p c) where
+  abbrev rows : Bounded
+  rows = slice_rows q t.blocks
+
+  -- the relation that was found has the normal form of the slice's
+  pub slice_found : (rel : Bounded) → Decodes held p c rel → normal rel ≡ normal rows
+  slice_found rel decodes =
+      let k = typed_kinds (column_kinds t ∷ []) (over_one q) typed in
+      let a = part k.0 k.1 in
+      let d = decodes k.0 rows (slice_numbers q t.blocks) a in
+      let relation = adds_relation held p c k.0 rows (slice_numbers q t.blocks) a in
+      ap normal d.1.0
+      ∙ normal_same c d.0 (encode rows) d.1.1
+      ∙ ap normal (rows_back c rows (have_columns k.0 c rows a.columns relation))
+
+  -- a number that leaves the range is one of the slice
+  pub slice_passes : LeavesRange held p c → ¬ (Fit (slice_numbers q t.blocks))
+  slice_passes leaves = let k = typed_kinds (column_kinds t ∷ []) (over_one q) typed in leaves k.0 rows (slice_numbers q t.blocks) (part k.0 k.1)
+
+-- ---- the answer
+
+module _ (how : Option ℕ) (ts : List Named) (q : Tree) (i : ℕ) (t : BlockTable) (is : row_table q ≡ Some i) (at : slice_get (blocks_of ts) i ≡ Some t) where
+  abbrev tables : List Bounded
+  tables = map bounded_table (blocks_of ts)
+
+  table_rows : unwrap_or (slice_get tables i) [] ≡ bounded_table t
+  table_rows = ap (λ o. unwrap_or o []) (slice_get-map bounded_table (blocks_of ts) i ∙ ap (option_map bounded_table) at)
+
+  whole_rows : tree_rows how q tables ≡ slice_rows q t.blocks
+  whole_rows = rows_alone (pairs_by how) (pairs_by None) tables (bounded_table t) q i is table_rows
+
+  whole_numbers : tree_numbers how q tables ≡ slice_numbers q t.blocks
+  whole_numbers = numbers_alone (pairs_by how) (pairs_by None) tables (bounded_table t) (pair_numbers how) (pair_numbers None) q i is table_rows
+
+  -- the tree is typed for its table alone
+  pub typed_alone : IsTyped (map column_kinds (blocks_of ts)) q → IsTyped (column_kinds t ∷ []) (over_one q)
+  typed_alone typed =
+      subst (λ o. IsTrue (is_some o))
+      (kinds_alone (map column_kinds (blocks_of ts)) (column_kinds t) q i is (slice_get-map column_kinds (blocks_of ts) i ∙ ap (option_map column_kinds) at))
+      typed
+
+  -- the rows of all blocks are those of the answer
+  pub asked_by_row : normal (slice_rows q t.blocks) ≡ tree_asked how false ts q
+  asked_by_row = ap normal (sym whole_rows) ∙ sym (asked_is how false ts q)
+
+  -- and so are their numbers
+  pub asked_leaves : ¬ (Fit (gathered_numbers [] q t.blocks)) → tree_asked_fits how false ts q ≡ false
+  asked_leaves out =
+      let rows = tree_rows how q tables in
+      false_from_ne_true (tree_asked_fits how false ts q)
+      (λ f.
+      let a = fit_parts (tree_numbers how q tables) (triple_numbers rows ++ triple_numbers (normal rows)) (parts_fit how false ts q f) in
+      let b = fit_parts (triple_numbers rows) (triple_numbers (normal rows)) a.1 in
+      out
+      (fit_both (slice_numbers q t.blocks) (triple_numbers (normal (slice_rows q t.blocks))) (subst Fit whole_numbers a.0)
+      (subst (λ xs. Fit (triple_numbers (normal xs))) whole_rows b.1)))

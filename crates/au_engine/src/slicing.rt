@@ -1,0 +1,176 @@
+//! Queries that work row by row over one table: they are answered slice by slice of the table's blocks, so that memory holds
+//! the rows of one slice beside the answer.
+ghost use Rattle.std.specs.Prelude.{◌≡◌, ◌<◌, ◌∷◌, ◌++◌, ℕ, [], Err, None, Some, IfOk, IfSome, length, map, slice_get};
+ghost use Rattle.au_expr.specs.Figures.{Fit};
+ghost use Rattle.au_algebra.specs.Bounded.{normal as normal_of};
+ghost use Rattle.au_algebra.specs.Trees.{tree};
+ghost use Rattle.au_algebra.specs.Typing.{IsTyped};
+ghost use Rattle.au_blocks.specs.Tables.{IsBlockTable, column_kinds, table as table_of};
+ghost use Rattle.au_plain.specs.Plans.{plan_tree};
+ghost use Rattle.au_exec.specs.Outcomes.{rows_of};
+ghost use Rattle.au_engine.specs.Answers.{blocks_of};
+ghost use Rattle.au_engine.specs.Slicing.{WorksByRow, gathered_numbers, over_one, row_table as row_table_of, slice_numbers, slice_rows};
+ghost use Rattle.au_engine.specs.Stages.{AddsTree};
+
+use crate::compressing::side_of;
+use crate::encoded::scanned_blocks;
+use crate::runner::Runner;
+use crate::steps::{Planned, project_of, select_of};
+use au_algebra::{Gathered, Query, Rel};
+use au_annot::Triple;
+use au_blocks::{Block, Column, Table};
+use au_expr::EvalFault;
+use au_par::Gate;
+use au_plain::PRow;
+use au_value::{NoMemory, Range, Word};
+use std::alloc::Global;
+use std::thread::Threads;
+
+// So many blocks are a slice, or fewer.
+const SLICE: usize = 4_096;
+
+// The place of the table of a tree of Select and Project alone.
+fn row_table(query: &Query) -> Option<usize>
+    ensures { result ≡ row_table_of (tree query.now) }
+{
+    match query {
+        Query::Table(place) => Some(*place),
+        Query::Select(_, of) => row_table(of),
+        Query::Project(_, of) => row_table(of),
+        Query::Product(_, _)
+        | Query::Union(_, _)
+        | Query::Difference(_, _)
+        | Query::Distinct(_)
+        | Query::Group(_, _, _)
+        | Query::Total(_, _) => None,
+    }
+}
+
+/// The table over which a tree works row by row, if it does.
+pub(crate) fn table_by_row<'a>(query: &Query, tables: &'a [(Word, Table)]) -> Option<&'a Table>
+    ensures { IfSome result (λ t. (i : ℕ) × ((row_table_of (tree query.now) ≡ Some i) × (slice_get (blocks_of tables.now) i ≡ Some t.now))) }
+{
+    let Some(place) = row_table(query) else {
+        return None;
+    };
+    match tables.get(place) {
+        Some(table) => Some(&table.1),
+        None => None,
+    }
+}
+
+// The plan of such a tree over the encoded rows of a slice, which are put behind other tables.
+fn planned_slice(
+    alloc: Global,
+    query: &Query,
+    columns: &[Column],
+    blocks: &[Block],
+    tables: &mut Vec<Vec<PRow>>,
+) -> Result<Planned, NoMemory>
+    requires by_row { WorksByRow (tree query.now) }
+    requires slice { IsBlockTable (table_of columns.now blocks.now) }
+    ensures { IfOk result (λ p. AddsTree None (table_of columns.now blocks.now ∷ []) (over_one (tree query.now)) (map rows_of tables.old.items) (map rows_of tables.new.items) (plan_tree p.plan) p.layout.columns) }
+{
+    match query {
+        Query::Table(_) => scanned_blocks(alloc, columns, blocks, tables),
+        Query::Select(condition, of) => {
+            let of = planned_slice(alloc, of, columns, blocks, tables)?;
+            select_of(alloc, condition, of)
+        }
+        Query::Project(items, of) => {
+            let of = planned_slice(alloc, of, columns, blocks, tables)?;
+            project_of(alloc, items.as_slice(), of)
+        }
+        Query::Product(_, _)
+        | Query::Union(_, _)
+        | Query::Difference(_, _)
+        | Query::Distinct(_)
+        | Query::Group(_, _, _)
+        | Query::Total(_, _) => unreachable!(),
+    }
+}
+
+// The relation of such a tree over a slice, in some order.
+fn slice_of<R: Threads + Sync, G: Gate + Sync>(
+    runner: &Runner<'_, R, G>,
+    alloc: Global,
+    query: &Query,
+    columns: &[Column],
+    blocks: &[Block],
+) -> Result<Rel<Range, Triple>, EvalFault>
+    requires by_row { WorksByRow (tree query.now) }
+    requires slice { IsBlockTable (table_of columns.now blocks.now) }
+    requires typed { IsTyped (column_kinds (table_of columns.now blocks.now) ∷ []) (over_one (tree query.now)) }
+    ensures rows { IfOk result (λ r. normal_of r ≡ normal_of (slice_rows (tree query.now) blocks.now)) }
+    ensures overflow { result ≡ Err EvalFault.Overflow → ¬ (Fit (slice_numbers (tree query.now) blocks.now)) }
+{
+    let mut own = Vec::new(alloc);
+    let planned = match planned_slice(alloc, query, columns, blocks, &mut own) {
+        Ok(planned) => planned,
+        Err(NoMemory) => return Err(EvalFault::NoMemory),
+    };
+    match side_of(runner, alloc, planned, own) {
+        Ok(side) => Ok(side.rel),
+        Err(fault) => Err(fault),
+    }
+}
+
+// The first blocks, at most a slice of them, and the others.
+fn first_slice(blocks: &[Block]) -> (&[Block], &[Block])
+    requires { 0 < length blocks.now }
+    ensures parts { result.0.now ++ result.1.now ≡ blocks.now }
+    ensures others { length result.1.now < length blocks.now }
+{
+    blocks.split_at(blocks.len().min(SLICE))
+}
+
+// What was gathered before a slice, and its rows.
+fn with_slice<R: Threads + Sync, G: Gate + Sync>(
+    runner: &Runner<'_, R, G>,
+    alloc: Global,
+    query: &Query,
+    columns: &[Column],
+    blocks: &[Block],
+    before: Gathered,
+) -> Result<Gathered, EvalFault>
+    requires by_row { WorksByRow (tree query.now) }
+    requires slice { IsBlockTable (table_of columns.now blocks.now) }
+    requires typed { IsTyped (column_kinds (table_of columns.now blocks.now) ∷ []) (over_one (tree query.now)) }
+    ensures rows { IfOk result (λ g. g ≡ normal_of (before ++ slice_rows (tree query.now) blocks.now)) }
+    ensures overflow { result ≡ Err EvalFault.Overflow → ¬ (Fit (gathered_numbers before (tree query.now) blocks.now)) }
+{
+    let piece = match slice_of(runner, alloc, query, columns, blocks) {
+        Ok(piece) => piece,
+        Err(fault) => return Err(fault),
+    };
+    match before.put(alloc, piece) {
+        Ok(gathered) => Ok(gathered),
+        Err(fault) => Err(fault),
+    }
+}
+
+/// The relation of a tree that works row by row over a table, in some order. It is gathered slice by slice, and the rows of
+/// each slice are let go before those of the next are made.
+///
+/// `Overflow` comes only where a number of it or of its normal form leaves 128 bits.
+pub(crate) fn by_slices<R: Threads + Sync, G: Gate + Sync>(
+    runner: &Runner<'_, R, G>,
+    alloc: Global,
+    query: &Query,
+    table: &Table,
+) -> Result<Rel<Range, Triple>, EvalFault>
+    requires by_row { WorksByRow (tree query.now) }
+    requires typed { IsTyped (column_kinds table.now ∷ []) (over_one (tree query.now)) }
+    ensures rows { IfOk result (λ r. normal_of r ≡ normal_of (slice_rows (tree query.now) table.now.blocks)) }
+    ensures overflow { result ≡ Err EvalFault.Overflow → ¬ (Fit (gathered_numbers [] (tree query.now) table.now.blocks)) }
+{
+    let columns = table.columns();
+    let mut gathered = Gathered::new(alloc);
+    let mut rest = table.blocks();
+    while !rest.is_empty() {
+        let (slice, others) = first_slice(rest);
+        gathered = with_slice(runner, alloc, query, columns, slice, gathered)?;
+        rest = others;
+    }
+    Ok(gathered.into_rows())
+}
