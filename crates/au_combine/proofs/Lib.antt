@@ -1,3 +1,4 @@
+pub mod Added
 pub mod BoxKinds
 pub mod BoxPlaces
 pub mod BoxRows

@@ -3,6 +3,7 @@ ghost use Rattle.std.specs.Prelude.{◌≡◌, ◌≤◌, ◌+◌, ◌*◌, ◌�
 ghost use Rattle.au_plain.specs.declared.plan.PAgg.TheVariants.{Sum};
 ghost use Rattle.au_plain.specs.Plans.{plan_tree};
 ghost use Rattle.au_plain.specs.PlanNumbers.{scans};
+ghost use Rattle.au_combine.specs.Adds.{AddsByCombine};
 ghost use Rattle.au_combine.specs.Boxes.{combine as combined};
 ghost use Rattle.au_combine.specs.Gives.{Combines};
 
@@ -20,6 +21,7 @@ use std::alloc::Global;
 pub fn combine(alloc: Global, of: Plan, layout: &Layout) -> Result<Plan, NoMemory>
     ensures plan { IfOk result (λ p. plan_tree p ≡ combined layout.now.columns (plan_tree of)) }
     ensures gives { IfOk result (λ p. Combines layout.now.columns (plan_tree of) (plan_tree p)) }
+    ensures adds { IfOk result (λ p. AddsByCombine layout.now.columns (plan_tree of) (plan_tree p)) }
     ensures scans { IfOk result (λ p. scans (plan_tree p) ≤ scans (plan_tree of)) }
 {
     let plan = combine_plan(alloc, of, layout)?;

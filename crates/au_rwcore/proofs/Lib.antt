@@ -1,3 +1,4 @@
+pub mod Added
 pub mod CoreKinds
 pub mod ItemSteps
 pub mod Laws

@@ -6,6 +6,7 @@ ghost use Rattle.au_plain.specs.Plans.{plan_tree};
 ghost use Rattle.au_plain.specs.PlanNumbers.{scans};
 ghost use Rattle.au_rwexpr.specs.Cells.{three_places};
 ghost use Rattle.au_rwexpr.specs.Flatten.{flatten_items, item_places};
+ghost use Rattle.au_rwcore.specs.Adds.{AddsByProject};
 ghost use Rattle.au_rwcore.specs.Core.{project as projected};
 ghost use Rattle.au_rwcore.specs.Gives.{Projects};
 
@@ -23,6 +24,7 @@ use std::alloc::Global;
 pub fn project(alloc: Global, of: Plan, items: &[Expr], layout: &Layout) -> Result<Plan, NoMemory>
     ensures plan { IfOk result (λ p. plan_tree p ≡ projected layout.now.columns (map term items.now) (plan_tree of)) }
     ensures gives { IfOk result (λ p. Projects layout.now.columns (map term items.now) (plan_tree of) (plan_tree p)) }
+    ensures adds { IfOk result (λ p. AddsByProject layout.now.columns (map term items.now) (plan_tree of) (plan_tree p)) }
     ensures scans { IfOk result (λ p. scans (plan_tree p) ≤ scans (plan_tree of)) }
 {
     let plan = project_plan(alloc, of, items, layout)?;

@@ -7,6 +7,7 @@ ghost use Rattle.au_plain.specs.PlanNumbers.{scans};
 ghost use Rattle.au_rwexpr.specs.Cells.{cell_places};
 ghost use Rattle.au_rwexpr.specs.Counts.{zero_term};
 ghost use Rattle.au_rwexpr.specs.Flatten.{before, flatten};
+ghost use Rattle.au_rwcore.specs.Adds.{AddsBySelect};
 ghost use Rattle.au_rwcore.specs.Core.{select as selected, weighed};
 ghost use Rattle.au_rwcore.specs.Gives.{Selects};
 
@@ -24,6 +25,7 @@ use std::alloc::Global;
 pub fn select(alloc: Global, of: Plan, condition: &Expr, layout: &Layout) -> Result<Plan, NoMemory>
     ensures plan { IfOk result (λ p. plan_tree p ≡ selected layout.now.columns (term condition.now) (plan_tree of)) }
     ensures gives { IfOk result (λ p. Selects layout.now.columns (term condition.now) (plan_tree of) (plan_tree p)) }
+    ensures adds { IfOk result (λ p. AddsBySelect layout.now.columns (term condition.now) (plan_tree of) (plan_tree p)) }
     ensures scans { IfOk result (λ p. scans (plan_tree p) ≤ scans (plan_tree of)) }
 {
     let plan = select_plan(alloc, of, condition, layout)?;
