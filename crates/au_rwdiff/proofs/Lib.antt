@@ -1,3 +1,4 @@
+pub mod Added
 pub mod DifferenceKinds
 pub mod DifferenceNumbers
 pub mod DifferenceRows

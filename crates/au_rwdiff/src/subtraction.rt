@@ -4,6 +4,7 @@ ghost use Rattle.au_plain.specs.PTerms.{pterm};
 ghost use Rattle.au_plain.specs.Plans.{plan_tree};
 ghost use Rattle.au_plain.specs.PlanNumbers.{scans};
 ghost use Rattle.au_rwexpr.specs.Cells.{cell_places, run, three_places};
+ghost use Rattle.au_rwdiff.specs.Adds.{AddsByDifference};
 ghost use Rattle.au_rwdiff.specs.Differences.{difference as subtracted, summed as summed_tree, taken as taken_tree};
 ghost use Rattle.au_rwdiff.specs.Gives.{Subtracts};
 
@@ -20,6 +21,7 @@ use std::alloc::Global;
 /// columns.
 pub fn difference(alloc: Global, left: Plan, right: Plan, layout: &Layout) -> Result<Plan, NoMemory>
     ensures gives { IfOk result (λ p. Subtracts layout.now.columns (plan_tree left) (plan_tree right) (plan_tree p)) }
+    ensures adds { IfOk result (λ p. AddsByDifference layout.now.columns (plan_tree left) (plan_tree right) (plan_tree p)) }
     ensures scans { IfOk result (λ p. scans (plan_tree p) ≤ 2 * scans (plan_tree left) + scans (plan_tree right)) }
 {
     let plan = difference_plan(alloc, left, right, layout)?;
