@@ -27,6 +27,7 @@ answer|SELECT k, MIN(x) AS m FROM t GROUP BY k|t=sums.csv -> 0 Done row_lo,row,r
 answer|SELECT * FROM orders WHERE id = 4|orders=more.csv -> 0 Done row_lo,row,row_hi,id_lo,id,id_hi,city_lo,city,city_hi,amount_lo,amount,amount_hi~0,0,1,4,4,4,Moss,Moss,Moss,1,1,1~! 
 answer|SELECT \"Order Date\" AS d, id + 1 AS n, city FROM p|p=sheet.csv -> 0 Done row_lo,row,row_hi,d_lo,d,d_hi,n_lo,n,n_hi,city_lo,city,city_hi~1,1,1,2021-06-20,2021-06-20,2021-06-20,2,2,2,\"Oslo, Nord\",\"Oslo, Nord\",\"Oslo, Nord\"~! 
 answer|SELECT COUNT(*), SUM(x) FROM t|t=many.csv -> 0 Done row_lo,row,row_hi,col1_lo,col1,col1_hi,col2_lo,col2,col2_hi~1,1,1,300,300,300,300,300,600~! 
+answer|SELECT * FROM t|t=headed.csv -> 0 Done row_lo,row,row_hi,x_lo,x,x_hi~! 
 answer|SELECT * FROM t|t=cut.csv -> 0 Done row_lo,row,row_hi,id_lo,id,id_hi,city_lo,city,city_hi~1,1,1,1,1,1,Os,Os,Os~! 
 answer|SELECT 1 AS one FROM orders|orders=orders.csv -> 0 Done row_lo,row,row_hi,one_lo,one,one_hi~2,3,3,1,1,1~! 
 answer|SELECT city FROM orders UNION ALL SELECT city FROM rates|orders=orders.csv|rates=rates.csv -> 0 Done row_lo,row,row_hi,city_lo,city,city_hi~2,2,2,Bergen,Bergen,Bergen~1,1,1,Bergen,Oslo,Oslo~1,2,2,Oslo,Oslo,Oslo~! 
@@ -48,7 +49,7 @@ direct|SELECT m.x FROM m, e WHERE m.x + 1 > 0|m=edge.csv|e=bare.csv -> 0 Done ro
 direct|SELECT m.x FROM e, m WHERE m.x + 1 > 0|m=edge.csv|e=bare.csv -> 0 Done row_lo,row,row_hi,x_lo,x,x_hi~! 
 answer|SELECT k FROM (SELECT n AS k, n + 1 AS z FROM t) u|t=most.csv -> 0 Done row_lo,row,row_hi,k_lo,k,k_hi~1,1,1,170141183460469231731687303715884105727,170141183460469231731687303715884105727,170141183460469231731687303715884105727~! ";
 
-// Names that need quotes, tables for people, guess worlds, and a demonstration.
+// Names that need quotes, tables for people, and guess worlds.
 const FORMS: &str =
     "answer|SELECT id AS \"a,b\" FROM orders WHERE id = 2|orders=orders.csv -> 0 Done row_lo,row,row_hi,\"a,b_lo\",\"a,b\",\"a,b_hi\"~1,1,1,2,2,2~! 
 answer|SELECT id AS \"say \"\"x\"\"\" FROM orders WHERE id = 2|orders=orders.csv -> 0 Done row_lo,row,row_hi,\"say \"\"x\"\"_lo\",\"say \"\"x\"\"\",\"say \"\"x\"\"_hi\"~1,1,1,2,2,2~! 
@@ -64,8 +65,26 @@ guess|SELECT price * qty AS cost FROM p|p=price.csv -> 0 Done row,cost~1,7.50~!
 ua|SELECT * FROM t|t=times.csv -> 0 Done certain,row,id,amount~0,3,1,10~0,1,2,-1~! 
 guess|SELECT SUM(x) FROM t|t=sums.csv -> 0 Done row,col1~1,2~! 
 guess|SELECT id AS \"a,b\", city AS \"say \"\"x\"\"\" FROM t|t=none.csv -> 0 Done row,\"a,b\",\"say \"\"x\"\"\"~! 
-guess|SELECT t AS \"two~lines\", n FROM t|t=texts.csv -> 0 Done row,\"two~lines\",n~2,,-1~5,b,2~1,b,10~! 
-demo|1|3 -> 0 Done rows 2~least 1~guess 2~most 3~! ";
+guess|SELECT t AS \"two~lines\", n FROM t|t=texts.csv -> 0 Done row,\"two~lines\",n~2,,-1~5,b,2~1,b,10~! ";
+
+// Demonstrations: the least and the greatest words, the same twice, and words that are none.
+const DEMONSTRATIONS: &str = "demo|0|1 -> 0 Done rows 1~least 1~guess 1~most 1~! 
+demo|1|3 -> 0 Done rows 2~least 1~guess 2~most 3~! 
+demo|4294967295|7 -> 0 Done rows 4~least 4~guess 4~most 5~! 
+demo|7|40 -> 0 Done rows 4~least 4~guess 4~most 15~! 
+demo|7|--workers=64|40 -> 0 Done rows 4~least 4~guess 4~most 15~! 
+demo|1|100000 -> 0 Done rows 4~least 4~guess 4~most 33156~! 
+demo|1|100000 -> 0 Done rows 4~least 4~guess 4~most 33156~! 
+demo|1|0 -> 2 Usage(Words) ! audb: usage: audb answer SQL NAME=PATH..~
+demo|1|100001 -> 2 Usage(Words) ! audb: usage: audb answer SQL NAME=PATH..~
+demo|4294967296|1 -> 2 Usage(Words) ! audb: usage: audb answer SQL NAME=PATH..~
+demo|-1|1 -> 2 Usage(Words) ! audb: usage: audb answer SQL NAME=PATH..~
+demo|01|1 -> 2 Usage(Words) ! audb: usage: audb answer SQL NAME=PATH..~
+demo|one|1 -> 2 Usage(Words) ! audb: usage: audb answer SQL NAME=PATH..~
+demo||1 -> 2 Usage(Words) ! audb: usage: audb answer SQL NAME=PATH..~
+demo|1 -> 2 Usage(Words) ! audb: usage: audb answer SQL NAME=PATH..~
+demo|1|1|1 -> 2 Usage(Words) ! audb: usage: audb answer SQL NAME=PATH..~
+demo|--table|1|1 -> 2 Usage(Words) ! audb: usage: audb answer SQL NAME=PATH..~";
 
 const PAIRS: &str =
     "SELECT a.grp, MAX(a.id) AS m FROM t a, t b WHERE a.amount = b.amount AND a.grp = 'g0' AND b.grp = 'g1' GROUP BY a.grp";
@@ -99,6 +118,11 @@ fn answers_of_queries(rt: HostRuntime) -> Result<(), Fail> {
 #[test]
 fn forms_of_answers(rt: HostRuntime) -> Result<(), Fail> {
     judge(&rt, rt.alloc(), FORMS)
+}
+
+#[test]
+fn demonstrations(rt: HostRuntime) -> Result<(), Fail> {
+    judge(&rt, rt.alloc(), DEMONSTRATIONS)
 }
 
 #[test]

@@ -25,6 +25,7 @@ role.csv: _block,_role,x:int~a,maybe,1~
 more.csv: _block,_role,id:int,city:text,amount:int~a,guess,1,Oslo,10~d,absent-guess,,,~d,alt,4,Moss,1~
 sheet.csv: \u{FEFF}id,Order Date,city^~1,2021-06-20,\"Oslo, Nord\"^~
 many.csv: _block,_role,x:int~«300 %,guess,1~%,alt,2~»
+headed.csv: _block,_role,x:int~
 cut.csv: id,city~1,Os
 short.csv: id,city~1~
 empty.csv: 
@@ -32,6 +33,8 @@ same.csv: a,b,A~
 kind.csv: _block,_role,x:y~
 large.csv: «8388608 1»
 larger.csv: «8388609 1»
+full.csv: x:text~«8388601 a»
+byte.csv: x
 made.csv: «40 blocks»
 slices.csv: «5000 blocks»
 edge.csv: x:int~170141183460469231731687303715884105727~

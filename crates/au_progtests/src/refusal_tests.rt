@@ -43,6 +43,7 @@ answer|SELECT * FROM t|t=same.csv -> 3 Table(0, SameName(0, 2)) ! audb: file 0: 
 answer|SELECT * FROM t|t=kind.csv -> 3 Table(0, UnknownKind(0)) ! audb: file 0: unknown kind of column 0~
 answer|SELECT * FROM t|t=large.csv -> 3 Table(0, BadColumnName(0)) ! audb: file 0: bad name of column 0~
 answer|SELECT * FROM t|t=larger.csv -> 8 Limit(FileSize(0)) ! audb: limit: size of file 0~
+answer|SELECT 1 FROM t|t=full.csv|u=full.csv|v=byte.csv -> 8 Limit(AllFiles(2)) ! audb: limit: size of all files at file 2~
 answer|SELECT * FROM orders|orders=orders.csv|t=no.csv -> 9 NoFile(1) ! audb: file 1 is not there~
 answer|SELECT SUM(x) FROM t|t=sums.csv -> 4 Overflow ! audb: a number leaves 128 bits~
 answer|SELECT n + 1 FROM t|t=most.csv -> 4 Overflow ! audb: a number leaves 128 bits~
