@@ -1,5 +1,5 @@
 //! The bytes of a file, read from a shelf.
-ghost use Rattle.std.specs.Prelude.{◌≡◌, ◌≤◌, ◌<◌, ◌+◌, ℕ, List, Option, Some, IfOk, IfSome, IsSomeAnd, IsErrOf, OnOk, length, vec_len};
+ghost use Rattle.std.specs.Prelude.{◌≡◌, ◌≤◌, ◌<◌, ◌+◌, ℕ, List, Option, Some, IfOk, IfSome, IsSomeAnd, IsErrOf, OnOk, drop, length, vec_len};
 ghost use Rattle.std.specs.Io.KnownBytes.{Consumes};
 ghost use Rattle.au_io.specs.Counts.{Rose};
 ghost use Rattle.au_io.specs.Files.{Lacks, Opens, bytes_at};
@@ -16,7 +16,7 @@ pub enum ReadingFault {
     /// The shelf refused to start or to read the file.
     Failed,
 
-    /// The file has more than 8,388,608 bytes. No more than one byte above them was taken.
+    /// The file has more than 8,388,608 bytes, of which 8,388,609 were taken.
     TooLarge,
 
     /// Memory for the bytes was refused.
@@ -70,6 +70,7 @@ fn read_to_end<S: Shelf>(
 
     ensures failed { IsErrOf result ReadingFault.Failed → Rose (S.faults shelf.old) (S.faults shelf.new) }
     ensures too_large { IsErrOf result ReadingFault.TooLarge → IfSome (S.left shelf.old) (λ left. 8388608 < length left) }
+    ensures taken { IsErrOf result ReadingFault.TooLarge → IfSome (S.left shelf.old) (λ left. S.left shelf.new ≡ Some (drop 8388609 left)) }
     ensures not_absent { ¬ IsErrOf result ReadingFault.Absent }
 {
     let mut bytes = Vec::new(alloc);
@@ -93,6 +94,7 @@ fn read_started<S: Shelf>(alloc: Global, shelf: &mut S) -> Result<Vec<u8>, Readi
 
     ensures failed { IsErrOf result ReadingFault.Failed → Rose (S.faults shelf.old) (S.faults shelf.new) }
     ensures too_large { IsErrOf result ReadingFault.TooLarge → IfSome (S.left shelf.old) (λ left. 8388608 < length left) }
+    ensures taken { IsErrOf result ReadingFault.TooLarge → IfSome (S.left shelf.old) (λ left. S.left shelf.new ≡ Some (drop 8388609 left)) }
     ensures not_absent { ¬ IsErrOf result ReadingFault.Absent }
 {
     let Ok(mut buffer) = vec![in alloc; 0u8; PIECE] else {
@@ -135,6 +137,7 @@ pub fn read_file<S: Shelf>(
     ensures absent { IsErrOf result ReadingFault.Absent → Rose (S.absences shelf.old) (S.absences shelf.new) × Lacks (S.files shelf.old) path.now }
     ensures failed { IsErrOf result ReadingFault.Failed → Rose (S.faults shelf.old) (S.faults shelf.new) }
     ensures too_large { IsErrOf result ReadingFault.TooLarge → IfSome (S.files shelf.old) (λ files. IsSomeAnd (bytes_at files path.now) (λ bytes. 8388608 < length bytes)) }
+    ensures taken { IsErrOf result ReadingFault.TooLarge → IfSome (S.files shelf.old) (λ files. IsSomeAnd (bytes_at files path.now) (λ bytes. S.left shelf.new ≡ Some (drop 8388609 bytes))) }
 {
     start_file(alloc, shelf, path)?;
     read_started(alloc, shelf)

@@ -27,7 +27,7 @@ use std::alloc::Global;
 use std::thread::Threads;
 
 /// Does all that the program does with these words: reads the tables' files from the shelf, puts the answer on `out`,
-/// and on an outcome other than `Done` one line on `err`.
+/// and on an outcome other than `Done` one line on `err`, as far as memory and `err` allow.
 ///
 /// The gate is told of each piece that the workers of the answer begin; the program hands in `NoGate`. All clauses hold
 /// for every gate.
