@@ -10,7 +10,6 @@ use Rattle.au_exec.specs.Probed.{CanProbeRow, CanProbeRows, probed_fit, probed_r
 use Rattle.au_exec.specs.Tables.{CanGrowAll, Table, grow_all, grown_fit, table_with}
 use Rattle.au_exec.specs.declared.operators.Operator.{Operator}
 use Rattle.au_exec.specs.declared.right.Right.{Right}
-use Rattle.au_exec.proofs.Pulling.{and_false}
 use Rattle.au_exec.proofs.TableSteps.{can_append, fit_append, grow_append}
 
 and_swap : (a b c d : Bool) → (a && b) && (c && d) ≡ (a && c) && (b && d)
@@ -55,33 +54,21 @@ module _ (e : PTerm) (right : Right) (os : List Operator) (keys : List ℕ) (agg
     pub gather_this : CanProbeRow e right os a
     gather_this = this.can.0
 
-    pub grows_this : (got : Rows) → got ≡ own → CanGrowAll keys aggs t got
-    grows_this got same = subst (CanGrowAll keys aggs t) (sym same) both_can.0
+    pub grows_this : CanGrowAll keys aggs t own
+    grows_this = both_can.0
 
-    pub gathered_next :
-        (more : Table) (got : Rows) → got ≡ own → probed_fit e right os (a ∷ []) ≡ true → more ≡ grow_all keys aggs t got → grown_fit keys aggs t got ≡ true → Gathering all later more
-    gathered_next more got same fits grown sums =
-        let is_more : more ≡ grow_all keys aggs t own = grown ∙ ap (grow_all keys aggs t) same in
-        subst (Gathering all later) (sym is_more)
+    pub gathered_next : (more : Table) → more ≡ grow_all keys aggs t own → both_fit t (a ∷ []) ≡ true → Gathering all later more
+    gathered_next more grown fits =
+        subst (Gathering all later) (sym grown)
         (record {
           can = this.can.1;
           grows = both_can.1;
           table = sym (grow_append keys aggs t own (probed_rows e right os later)) ∙ ap (grow_all keys aggs t) (sym apart) ∙ this.table;
-          fits =
-              (λ i. (sym fits i && sym (sym (ap (grown_fit keys aggs t) same) ∙ sums) i) && both_fit (grow_all keys aggs t own) later)
-              ∙ sym split_fit
-              ∙ this.fits;
+          fits = ap (λ b. b && both_fit (grow_all keys aggs t own) later) (sym fits) ∙ sym split_fit ∙ this.fits;
         })
 
-    pub gather_over : probed_fit e right os (a ∷ []) ≡ false → both_fit start all ≡ false
-    gather_over over =
-        sym this.fits ∙ split_fit
-        ∙ ap (λ b. (b && grown_fit keys aggs t own) && both_fit (grow_all keys aggs t own) later) over
-
-    pub grown_over : (got : Rows) → got ≡ own → grown_fit keys aggs t got ≡ false → both_fit start all ≡ false
-    grown_over got same over =
-        sym this.fits ∙ split_fit
-        ∙ ap (λ b. b && both_fit (grow_all keys aggs t own) later) (and_false (probed_fit e right os (a ∷ [])) (grown_fit keys aggs t own) (sym (ap (grown_fit keys aggs t) same) ∙ over))
+    pub gather_over : both_fit t (a ∷ []) ≡ false → both_fit start all ≡ false
+    gather_over over = sym this.fits ∙ split_fit ∙ ap (λ b. b && both_fit (grow_all keys aggs t own) later) over
 
   pub gathered_end : (all rest : Rows) (t : Table) → rest ≡ [] → Gathering all rest t → (t ≡ grow_all keys aggs start (probed_rows e right os all)) × (both_fit start all ≡ true)
   gathered_end all rest t none g =

@@ -17,6 +17,7 @@ pub mod RangeOrder
 pub mod RangeIndex
 pub mod Matches
 pub mod Probing
+pub mod PairedSteps
 pub mod JoinPulls
 pub mod TypedPhysical
 pub mod Collected

@@ -24,6 +24,7 @@ pub mod RunViews
 pub mod Advances
 pub mod Folds
 pub mod Tables
+pub mod Paired
 pub mod Merging
 pub mod Gathering
 pub mod GatherLaws

@@ -11,7 +11,7 @@ ghost use Rattle.au_exec.specs.Fitting.{CanAggregate, CanAggregateAll};
 ghost use Rattle.au_exec.specs.Folds.{CanStep, CanStepAll, fold_of, step, stepped_numbers};
 
 use crate::extreme::{Extreme, is_first};
-use crate::keep::cell;
+use crate::lent_row::LentRow;
 use au_expr::EvalFault;
 use au_plain::PAgg;
 use au_value::{Adder, NoMemory, Value, copy};
@@ -29,7 +29,7 @@ pub(crate) enum Fold {
 pub(crate) fn first_folds(
     alloc: Global,
     aggs: &[PAgg],
-    row: &[Value],
+    row: &LentRow<'_>,
 ) -> Result<Vec<Fold>, EvalFault>
     requires { CanAggregateAll aggs.now (row.now ∷ []) }
     ensures { MatchResult result (λ v. (v.items ≡ map (fold_of (row.now ∷ [])) aggs.now) × Fit (flat_map (magnitudes (row.now ∷ [])) aggs.now)) (λ f. f ≡ fault.Overflow → ¬ (Fit (flat_map (magnitudes (row.now ∷ [])) aggs.now))) }
@@ -42,7 +42,7 @@ pub(crate) fn first_folds(
 }
 
 /// The aggregates over one row more.
-pub(crate) fn add_all(folds: &mut [Fold], row: &[Value]) -> Result<(), EvalFault>
+pub(crate) fn add_all(folds: &mut [Fold], row: &LentRow<'_>) -> Result<(), EvalFault>
     requires { CanStepAll row.now folds.old }
     ensures { MatchResult result (λ _. (folds.new ≡ map (step row.now) folds.old) × Fit (flat_map (stepped_numbers row.now) folds.old)) (λ f. f ≡ fault.Overflow → ¬ (Fit (flat_map (stepped_numbers row.now) folds.old))) }
 {
@@ -62,32 +62,30 @@ fn push_fold(folds: &mut Vec<Fold>, fold: Fold) -> Result<(), NoMemory>
 }
 
 // An aggregate over one row.
-fn first_fold(agg: PAgg, row: &[Value]) -> Result<Fold, EvalFault>
+fn first_fold(agg: PAgg, row: &LentRow<'_>) -> Result<Fold, EvalFault>
     requires { CanAggregate agg (row.now ∷ []) }
     ensures { MatchResult result (λ v. (v ≡ fold_of (row.now ∷ []) agg) × Fit (magnitudes (row.now ∷ []) agg)) (λ f. f ≡ fault.Overflow → ¬ (Fit (magnitudes (row.now ∷ []) agg))) }
 {
     match agg {
         PAgg::Sum(column) => {
             let mut adder = Adder::new();
-            adder.add(number(cell(row, column)))?;
+            adder.add(number(row.cell(column)))?;
             Ok(Fold::Sum(column, adder))
         }
-        PAgg::Min(column) => Ok(Fold::Least(column, copy(cell(row, column))?)),
-        PAgg::Max(column) => Ok(Fold::Greatest(column, copy(cell(row, column))?)),
+        PAgg::Min(column) => Ok(Fold::Least(column, copy(row.cell(column))?)),
+        PAgg::Max(column) => Ok(Fold::Greatest(column, copy(row.cell(column))?)),
     }
 }
 
 // An aggregate over one row more.
-fn add(fold: &mut Fold, row: &[Value]) -> Result<(), EvalFault>
+fn add(fold: &mut Fold, row: &LentRow<'_>) -> Result<(), EvalFault>
     requires { CanStep row.now fold.old }
     ensures { MatchResult result (λ _. (fold.new ≡ step row.now fold.old) × Fit (stepped_numbers row.now fold.old)) (λ f. f ≡ fault.Overflow → ¬ (Fit (stepped_numbers row.now fold.old))) }
 {
     match fold {
-        Fold::Sum(column, adder) => Ok(adder.add(number(cell(row, *column)))?),
-        Fold::Least(column, best) => Ok(improve(Extreme::Least, best, cell(row, *column))?),
-        Fold::Greatest(column, best) => {
-            Ok(improve(Extreme::Greatest, best, cell(row, *column))?)
-        }
+        Fold::Sum(column, adder) => Ok(adder.add(number(row.cell(*column)))?),
+        Fold::Least(column, best) => Ok(improve(Extreme::Least, best, row.cell(*column))?),
+        Fold::Greatest(column, best) => { Ok(improve(Extreme::Greatest, best, row.cell(*column))?) }
     }
 }
 

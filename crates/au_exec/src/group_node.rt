@@ -46,7 +46,8 @@ pub(crate) fn grouped_node<R: Threads + Sync, G: Gate + Sync>(
     Ok(boxed(alloc, Node::Source(rows.into_iter()))?)
 }
 
-// The groups of all rows of a node, which the workers share where they are those of a join that is probed.
+// The groups of all rows of a node. Where they are those of a join that is probed, its left rows are there at once, and
+// the workers share them.
 fn node_groups<R: Threads + Sync, G: Gate + Sync>(
     rt: &R,
     alloc: Global,
@@ -62,7 +63,7 @@ fn node_groups<R: Threads + Sync, G: Gate + Sync>(
     requires aggs { AllByRecursion (HasArgument (rows_left of.old)) aggs.now }
     ensures { MatchResult result (λ g. (table_of g ≡ grow_all keys.now aggs.now (table_with [] []) (rows_left of.old)) × (fits_left of.old ≡ true) × (grown_fit keys.now aggs.now (table_with [] []) (rows_left of.old) ≡ true)) (λ f. f ≡ fault.Overflow → fits_left of.old && grown_fit keys.now aggs.now (table_with [] []) (rows_left of.old) ≡ false) }
 {
-    if workers == 1 || !is_probed(of) {
+    if !is_probed(of) {
         return folded_rows(alloc, keys, aggs, of);
     }
     match of {

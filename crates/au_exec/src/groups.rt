@@ -15,6 +15,7 @@ ghost use Rattle.au_exec.specs.Tables.{CanGrow, CanGrowAll, CanPut, finished_row
 use crate::fold::{Fold, add_all, first_folds};
 use crate::keep::columns;
 use crate::key::{Part, has_parts, push_parts};
+use crate::lent_row::LentRow;
 use crate::rows::{push_row, push_value};
 use au_expr::EvalFault;
 use au_plain::{PAgg, PRow};
@@ -45,7 +46,7 @@ pub(crate) fn add_rows(
 {
     let mut key = Vec::new(alloc);
     for row in rows {
-        add_row(alloc, keys, aggs, groups, &row, &mut key)?;
+        add_row(alloc, keys, aggs, groups, &LentRow::whole(&row), &mut key)?;
     }
     Ok(())
 }
@@ -72,13 +73,13 @@ fn group_row(key: PRow, folds: Vec<Fold>) -> Result<PRow, NoMemory>
     Ok(row)
 }
 
-// One row more.
-fn add_row(
+/// One row more. The key is room that is used again for each row.
+pub(crate) fn add_row(
     alloc: Global,
     keys: &[usize],
     aggs: &[PAgg],
     groups: &mut Groups,
-    row: &[Value],
+    row: &LentRow<'_>,
     key: &mut Vec<Part>,
 ) -> Result<(), EvalFault>
     requires { CanGrow keys.now aggs.now (table_of groups.old) row.now }
@@ -96,7 +97,7 @@ fn place_near(
     alloc: Global,
     seen: &mut IndexSet<Vec<Part>>,
     keys: &[usize],
-    row: &[Value],
+    row: &LentRow<'_>,
     key: &mut Vec<Part>,
     recent: usize,
 ) -> Result<usize, NoMemory>
@@ -111,7 +112,7 @@ fn place_near(
 }
 
 // Whether a row's key values are those at a place.
-fn stands_at(seen: &IndexSet<Vec<Part>>, keys: &[usize], row: &[Value], place: usize) -> bool
+fn stands_at(seen: &IndexSet<Vec<Part>>, keys: &[usize], row: &LentRow<'_>, place: usize) -> bool
     requires { HavePlaces keys.now row.now }
     ensures { IsTrue result → (list_any (same_row (kept keys.now row.now)) (key_values seen.now.keys) ≡ true) × (place ≡ position_or_len (same_row (kept keys.now row.now)) (key_values seen.now.keys)) }
 {
@@ -129,7 +130,7 @@ pub(crate) fn place_of(
     alloc: Global,
     seen: &mut IndexSet<Vec<Part>>,
     keys: &[usize],
-    row: &[Value],
+    row: &LentRow<'_>,
     key: &mut Vec<Part>,
 ) -> Result<usize, NoMemory>
     requires { HavePlaces keys.now row.now }
@@ -182,7 +183,7 @@ fn put(
     aggs: &[PAgg],
     held: &mut Vec<(PRow, Vec<Fold>)>,
     place: usize,
-    row: &[Value],
+    row: &LentRow<'_>,
 ) -> Result<(), EvalFault>
     requires within { place ≤ vec_len held.old }
     requires keys { HavePlaces keys.now row.now }

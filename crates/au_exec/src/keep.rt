@@ -6,18 +6,19 @@ ghost use Rattle.au_plain.specs.Meaning.{kept};
 ghost use Rattle.au_plain.specs.PTerms.{value_at};
 ghost use Rattle.au_exec.specs.Fitting.{HasColumn, HasPlace, HavePlaces};
 
+use crate::lent_row::LentRow;
 use au_plain::PRow;
 use au_value::{NoMemory, Value, copy};
 use std::alloc::Global;
 
 /// The columns of these places of a row, in this order, copied.
-pub(crate) fn columns(alloc: Global, places: &[usize], row: &[Value]) -> Result<PRow, NoMemory>
+pub(crate) fn columns(alloc: Global, places: &[usize], row: &LentRow<'_>) -> Result<PRow, NoMemory>
     requires { HavePlaces places.now row.now }
     ensures { IfOk result (λ v. v.items ≡ kept places.now row.now) }
 {
     let mut values = Vec::with_capacity(alloc, places.len())?;
     for place in places {
-        values.push(copy(cell(row, *place))?)?;
+        values.push(copy(row.cell(*place))?)?;
     }
     Ok(values)
 }

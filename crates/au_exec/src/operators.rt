@@ -13,6 +13,7 @@ ghost use Rattle.au_exec.specs.Outcomes.{rows_of};
 
 use crate::evaluation::{passes, value_of};
 use crate::keep::columns;
+use crate::lent_row::LentRow;
 use crate::narrow::{Ascending, is_ascending, narrow};
 use crate::rows::{push_row, push_value, with_room};
 use au_expr::EvalFault;
@@ -112,7 +113,7 @@ fn work(alloc: Global, operator: &Operator, row: &mut PRow) -> Result<bool, Eval
             narrow(ascending, row);
             Ok(true)
         }
-        Operator::Filter(e) => passes(e, row),
+        Operator::Filter(e) => passes(e, &LentRow::whole(row)),
     }
 }
 
@@ -121,7 +122,7 @@ fn extend(tree: &PExpr, row: &mut PRow) -> Result<(), EvalFault>
     requires { (k : Kind) × HasKind row.old.items (pterm tree.now) k }
     ensures { MatchResult result (λ _. (row.new.items ≡ extended (pterm tree.now) row.old.items) × Fit (term_numbers (pterm tree.now) row.old.items)) (λ f. f ≡ fault.Overflow → ¬ (Fit (term_numbers (pterm tree.now) row.old.items))) }
 {
-    let value = value_of(tree, row)?;
+    let value = value_of(tree, &LentRow::whole(row))?;
     push_value(row, value)?;
     Ok(())
 }
@@ -131,7 +132,7 @@ fn keep(alloc: Global, places: &[usize], row: &mut PRow) -> Result<(), NoMemory>
     requires { HavePlaces places.now row.old.items }
     ensures { OnOk result (row.new.items ≡ kept places.now row.old.items) }
 {
-    let values = columns(alloc, places, row)?;
+    let values = columns(alloc, places, &LentRow::whole(row))?;
     *row = values;
     Ok(())
 }
