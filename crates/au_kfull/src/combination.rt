@@ -5,9 +5,11 @@ ghost use Rattle.au_annot.specs.Triples.{total, in_range};
 ghost use Rattle.au_value.specs.declared.kinds.Kind.{Kind};
 ghost use Rattle.au_value.specs.Ranges.{guesses};
 ghost use Rattle.au_algebra.specs.Bounded.{combine as combine_of, guessing, merged as merged_of};
+ghost use Rattle.au_algebra.specs.Distribution.{Bounds};
 ghost use Rattle.au_algebra.specs.Entries.{entry};
 ghost use Rattle.au_algebra.specs.Fits.{triples_fit};
-ghost use Rattle.au_algebra.specs.Laws.{IsRelation};
+ghost use Rattle.au_algebra.specs.Laws.{Guesses, IsRelation};
+ghost use Rattle.au_algebra.specs.Ordinary.{Rows};
 ghost use Rattle.au_kfull.specs.Gives.{Gives};
 ghost use Rattle.au_kfull.specs.Keys.{kinds, HasKinds};
 
@@ -65,13 +67,15 @@ pub(crate) fn combined(
 }
 
 /// One row for each distinct list of guesses, where it is first seen: the hulls of the rows with these guesses, and
-/// the sum of their triples.
+/// the sum of their triples. They bound each list that the relation bounds, and guess what it guesses.
 ///
 /// `Overflow` comes exactly where a sum leaves the range, unless memory is wanting before.
 pub fn combine(alloc: Global, rel: &Rel<Range, Triple>) -> Result<Rel<Range, Triple>, EvalFault>
     requires { (ks : List Kind) × IsRelation ks rel.now }
     ensures rows { IfOk result (λ r. r ≡ combine_of rel.now) }
     ensures relation { IfOk result (λ r. (ks : List Kind) → IsRelation ks rel.now → IsRelation ks r) }
+    ensures bounds { IfOk result (λ r. (w : Rows) → Bounds rel.now w → Bounds r w) }
+    ensures guesses { IfOk result (λ r. (w : Rows) → Guesses rel.now w → Guesses r w) }
     ensures fits { OnOk result (IsTrue (triples_fit (combine_of rel.now))) }
     ensures overflow { IfErr result (λ f. f ≡ fault.Overflow → triples_fit (combine_of rel.now) ≡ false) }
 {
