@@ -1,3 +1,4 @@
+pub mod Added
 pub mod AggregatesOn
 pub mod Defaults
 pub mod FirstGroup

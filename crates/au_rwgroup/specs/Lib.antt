@@ -3,5 +3,6 @@ pub mod Groups
 pub mod Totals
 pub mod GroupPlan
 pub mod Gives
+pub mod Adds
 -- What the contracts of inner calls and the proofs speak of.
 pub mod JoinedPlaces

@@ -2,6 +2,7 @@
 ghost use Rattle.std.specs.Prelude.{◌≡◌, ◌≤◌, IfOk};
 ghost use Rattle.au_plain.specs.Plans.{plan_tree};
 ghost use Rattle.au_plain.specs.PlanNumbers.{scans};
+ghost use Rattle.au_rwgroup.specs.Adds.{AddsByDistinct};
 ghost use Rattle.au_rwgroup.specs.Gives.{Distincts};
 ghost use Rattle.au_rwgroup.specs.Groups.{distinct as one_of_each};
 
@@ -17,6 +18,7 @@ use std::alloc::Global;
 #[tactic(auto, using(crate::proofs::Laws::distinct_scans))]
 pub fn distinct(alloc: Global, of: Plan, layout: &Layout) -> Result<Plan, NoMemory>
     ensures gives { IfOk result (λ p. Distincts layout.now.columns (plan_tree of) (plan_tree p)) }
+    ensures adds { IfOk result (λ p. AddsByDistinct layout.now.columns (plan_tree of) (plan_tree p)) }
     ensures scans { IfOk result (λ p. scans (plan_tree p) ≤ scans (plan_tree of)) }
 {
     let plan = distinct_plan(alloc, of, layout)?;

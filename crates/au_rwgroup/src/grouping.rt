@@ -1,5 +1,5 @@
 //! Group as a plan.
-ghost use Rattle.std.specs.Prelude.{◌≡◌, ◌≤◌, ◌*◌, ◌+◌, ◌<◌, ◌^◌, IfOk, flat_map, length, map};
+ghost use Rattle.std.specs.Prelude.{◌≡◌, ◌≤◌, ◌*◌, ◌+◌, ◌<◌, ◌^◌, IfOk, OnOk, flat_map, length, map};
 ghost use Rattle.au_plain.specs.PTerms.{pterm};
 ghost use Rattle.au_plain.specs.Plans.{plan_tree};
 ghost use Rattle.au_plain.specs.Plans as tree;
@@ -7,6 +7,7 @@ ghost use Rattle.au_plain.specs.PlanNumbers.{scans};
 ghost use Rattle.au_rwexpr.specs.Cells.{run};
 ghost use Rattle.au_plain.specs.Plans.{extend_all as extended};
 ghost use Rattle.au_rwexpr.specs.Meets as meeting;
+ghost use Rattle.au_rwgroup.specs.Adds.{AddsByGroup};
 ghost use Rattle.au_rwgroup.specs.Gives.{Groups};
 ghost use Rattle.au_rwgroup.specs.Groups as first;
 ghost use Rattle.au_rwgroup.specs.GroupPlan as plan;
@@ -39,6 +40,8 @@ pub fn group(
     layout: &Layout,
 ) -> Result<Plan, NoMemory>
     ensures gives { IfOk result (λ p. Groups layout.now.columns keys aggs.now (plan_tree of) (plan_tree p)) }
+    ensures adds { IfOk result (λ p. AddsByGroup layout.now.columns keys aggs.now (plan_tree of) (plan_tree p)) }
+    ensures columns { OnOk result (keys + length aggs.now < 2 ^ 64) }
     ensures scans { IfOk result (λ p. scans (plan_tree p) ≤ 2 * scans (plan_tree of)) }
 {
     let plan = group_plan(alloc, of, keys, aggs, layout)?;
@@ -52,7 +55,8 @@ fn group_plan(
     aggs: &[Agg],
     layout: &Layout,
 ) -> Result<Plan, NoMemory>
-    ensures { IfOk result (λ p. plan_tree p ≡ plan.group layout.now.columns keys aggs.now (plan_tree of)) }
+    ensures plan { IfOk result (λ p. plan_tree p ≡ plan.group layout.now.columns keys aggs.now (plan_tree of)) }
+    ensures columns { OnOk result (keys + length aggs.now < 2 ^ 64) }
 {
     let kept = kept_aggregates(alloc, aggs)?;
     let places = GroupPlaces::of(keys, kept.len(), layout.columns, aggs.len())?;

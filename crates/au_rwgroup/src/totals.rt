@@ -9,6 +9,7 @@ ghost use Rattle.au_rwexpr.specs.Cells.{run};
 ghost use Rattle.au_rwexpr.specs.Counts.{one_term};
 ghost use Rattle.au_rwexpr.specs.Flatten.{three};
 ghost use Rattle.au_value.specs.declared.value.Value.TheVariants as value;
+ghost use Rattle.au_rwgroup.specs.Adds.{AddsByTotal};
 ghost use Rattle.au_rwgroup.specs.Gives.{Totals};
 ghost use Rattle.au_rwgroup.specs.Totals.{agg_place, sum_terms, sums, total as totalled, total_columns as terms_of, total_sums as sums_of};
 
@@ -28,6 +29,7 @@ use std::alloc::Global;
 #[tactic(auto, using(crate::proofs::Laws::total_scans))]
 pub fn total(alloc: Global, of: Plan, aggs: &[Agg], layout: &Layout) -> Result<Plan, NoMemory>
     ensures gives { IfOk result (λ p. Totals layout.now.columns aggs.now (plan_tree of) (plan_tree p)) }
+    ensures adds { IfOk result (λ p. AddsByTotal layout.now.columns aggs.now (plan_tree of) (plan_tree p)) }
     ensures scans { IfOk result (λ p. scans (plan_tree p) ≤ scans (plan_tree of)) }
 {
     let plan = total_plan(alloc, of, aggs, layout.columns)?;

@@ -8,8 +8,8 @@ use Rattle.au_rwgroup.specs.GroupPlan.{all_result_columns}
 use Rattle.au_rwgroup.proofs.PlanParts.{PlacesAre, plan_is}
 use Rattle.au_rwgroup.proofs.grouping.group_plan.Goals as goal
 
-pub returns : goal.returns
-returns c =
+pub returns-clause-plan : goal.returns-clause-plan
+returns-clause-plan c =
     let places = c.in_ok-places.places in
     let joined = places.joined in
     let columns = c.args.layout.now.columns in
