@@ -2,13 +2,12 @@
 use Rattle.std.specs.Prelude.{◌≡◌, ℕ, zero, suc, ◌+◌, ◌*◌, Bool, true, false, ◌&&◌, List, [], ◌∷◌, ◌++◌, length, pos, nat_le, Option, if◌then◌else◌}
 use Rattle.std.specs.Prelude.{Some as present}
 use Rattle.std.proofs.Common.{arith, refl, ◌∙◌, ap}
-use Rattle.au_value.specs.declared.kinds.Kind.{Kind}
 use Rattle.au_value.specs.declared.value.Value.{Value}
 use Rattle.au_value.specs.declared.value.Value.TheVariants as value
 use Rattle.au_value.specs.Order.{equal, below}
 use Rattle.au_value.specs.Ranges.{Span, IsRangeOf, all_certain}
 use Rattle.au_expr.specs.Ordinary as on_values
-use Rattle.au_expr.specs.Ordinary.{is_true, number}
+use Rattle.au_expr.specs.Ordinary.{is_true}
 use Rattle.au_algebra.specs.Bounded.{RangeRow}
 use Rattle.au_algebra.specs.Laws.{IsRangeRow}
 use Rattle.au_encode.specs.Encode.{encode_row}
@@ -22,6 +21,7 @@ use Rattle.au_rwexpr.specs.Adding.{grow}
 use Rattle.au_rwexpr.proofs.Gives.{grow_is}
 use Rattle.au_rwexpr.proofs.Flags.{counted, flag_counted, below_zero}
 use Rattle.au_rwexpr.proofs.Coded.{rl, rs, rh, cl, cg, cm}
+use Rattle.au_rwgroup.proofs.KeyReading.{KeyReading}
 
 -- the test of certain ranges has its value
 pub sure_has : (row : List Value) (i k : ℕ) (xs : List Span) → length xs ≡ k → EndsOfAll rl rs rh row i xs → Has row (all_sure i k) (value.Flag (all_certain xs))
@@ -32,18 +32,18 @@ sure_has row i (suc k) (x ∷ xs) e z =
     let rest = sure_has row (i + 3) k xs (omega (arith, e)) z.1 in
     λ more. λ j. value.Flag (equal (lo_has row i x z.0 more j) (hi_has row i x z.0 more j) && is_true (rest more j))
 
-module _ (ks : List Kind) (k : ℕ) (keys : List Span → List Span) (long : (r : RangeRow) → IsRangeRow ks r → length (keys r.cells) ≡ k) (there : (r : RangeRow) → IsRangeRow ks r → (row : List Value) → EndsOfAll rl rs rh row 0 r.cells → EndsOfAll rl rs rh row 0 (keys r.cells)) where
+module _ (by : KeyReading) where
   abbrev c : ℕ
-  c = length ks
+  c = length by.ks
 
   abbrev n : ℕ
   n = 3 * c + 3
 
   abbrev pub surely : RangeRow → Bool
-  surely r = all_certain (keys r.cells)
+  surely r = all_certain (by.keys r.cells)
 
   abbrev pub surely_least : RangeRow → Bool
-  surely_least r = all_certain (keys r.cells) && nat_le 1 r.annot.least
+  surely_least r = all_certain (by.keys r.cells) && nat_le 1 r.annot.least
 
   abbrev pub guessed : RangeRow → Bool
   guessed r = nat_le 1 r.annot.guess
@@ -56,18 +56,18 @@ module _ (ks : List Kind) (k : ℕ) (keys : List Span → List Span) (long : (r 
   abbrev pub wide : RangeRow → List Value
   wide r = encode_row r ++ new r
 
-  pub cells_there : (r : RangeRow) → IsRangeRow ks r → EndsOfAll rl rs rh (encode_row r) 0 r.cells
-  cells_there r v = coded_cells rl rs rh cl cg cm c r.cells r.annot (cells_length IsRangeOf ks r.cells v.cells)
+  pub cells_there : (r : RangeRow) → IsRangeRow by.ks r → EndsOfAll rl rs rh (encode_row r) 0 r.cells
+  cells_there r v = coded_cells rl rs rh cl cg cm c r.cells r.annot (cells_length IsRangeOf by.ks r.cells v.cells)
 
-  row_long : (r : RangeRow) → IsRangeRow ks r → length (encode_row r) ≡ n
-  row_long r v = coded_long rl rs rh cl cg cm c r.cells r.annot (cells_length IsRangeOf ks r.cells v.cells)
+  row_long : (r : RangeRow) → IsRangeRow by.ks r → length (encode_row r) ≡ n
+  row_long r v = coded_long rl rs rh cl cg cm c r.cells r.annot (cells_length IsRangeOf by.ks r.cells v.cells)
 
   -- its cells by their places
-  pub wide_cells : (r : RangeRow) → IsRangeRow ks r → EndsOfAll rl rs rh (wide r) 0 r.cells
+  pub wide_cells : (r : RangeRow) → IsRangeRow by.ks r → EndsOfAll rl rs rh (wide r) 0 r.cells
   wide_cells r v = all_ends_more rl rs rh (encode_row r) (new r) 0 r.cells (cells_there r v)
 
-  pub wide_there : (r : RangeRow) → IsRangeRow ks r → EndsOfAll rl rs rh (wide r) 0 (keys r.cells)
-  wide_there r v = there r v (wide r) (all_ends_more rl rs rh (encode_row r) (new r) 0 r.cells (cells_there r v))
+  pub wide_there : (r : RangeRow) → IsRangeRow by.ks r → EndsOfAll rl rs rh (wide r) 0 (by.keys r.cells)
+  wide_there r v = by.shifted r v (wide r) 0 (all_ends_more rl rs rh (encode_row r) (new r) 0 r.cells (cells_there r v))
 
   most_unless : (b : Bool) (m : ℕ) → (if b then value.Int (pos 0) else value.Int (pos m)) ≡ value.Int (pos (if b then 0 else m))
   most_unless true m = refl
@@ -77,11 +77,11 @@ module _ (ks : List Kind) (k : ℕ) (keys : List Span → List Span) (long : (r 
   reading_of b = present (if b then value.Int (pos 1) else value.Int (pos 0))
 
   -- what the columns hold
-  pub new_mean : (r : RangeRow) → IsRangeRow ks r → AllMean reading (encode_row r) (group_columns c k) (new r)
+  pub new_mean : (r : RangeRow) → IsRangeRow by.ks r → AllMean reading (encode_row r) (group_columns c by.k) (new r)
   new_mean r v =
       let row = encode_row r in
-      let t = coded_triple rl rs rh cl cg cm c r.cells r.annot (cells_length IsRangeOf ks r.cells v.cells) in
-      let sure = sure_has row 0 k (keys r.cells) (long r v) (there r v row (cells_there r v)) in
+      let t = coded_triple rl rs rh cl cg cm c r.cells r.annot (cells_length IsRangeOf by.ks r.cells v.cells) in
+      let sure = sure_has row 0 by.k (by.keys r.cells) (by.long r v) (by.shifted r v row 0 (cells_there r v)) in
       let l = column_has row (3 * c) (cl r.annot) t.lo in
       let g = column_has row (3 * c + 1) (cg r.annot) t.sg in
       let m = column_has row (3 * c + 2) (cm r.annot) t.hi in (
@@ -99,6 +99,6 @@ module _ (ks : List Kind) (k : ℕ) (keys : List Span → List Span) (long : (r 
       )
 
   -- an encoded row grows by them
-  pub grown : (r : RangeRow) → IsRangeRow ks r → grow (group_columns c k) (encode_row r) ≡ wide r
+  pub grown : (r : RangeRow) → IsRangeRow by.ks r → grow (group_columns c by.k) (encode_row r) ≡ wide r
   grown r v =
-      let row = encode_row r in grow_is (group_columns c k) row (wide r) (adds reading row (group_columns c k) (new r) (new_mean r v))
+      let row = encode_row r in grow_is (group_columns c by.k) row (wide r) (adds reading row (group_columns c by.k) (new r) (new_mean r v))

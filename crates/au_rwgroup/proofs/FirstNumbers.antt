@@ -47,6 +47,7 @@ use Rattle.au_rwexpr.proofs.Flags.{counted, sum_failing}
 use Rattle.au_rwgroup.specs.Groups.{all_sure, group_columns, first_aggs, first_grouping, distinct}
 use Rattle.au_rwgroup.proofs.FirstGroup as group
 use Rattle.au_rwgroup.proofs.FirstRows as rows_of
+use Rattle.au_rwgroup.proofs.KeyReading.{KeyReading, all_cells}
 
 -- the test of certain ranges fits
 pub sure_fits : (row : List Value) (i k : ℕ) (xs : List Span) → length xs ≡ k → EndsOfAll rl rs rh row i xs → AllFit xs → Fits row (all_sure i k)
@@ -85,93 +86,93 @@ left_le a b = omega arith
 right_le : (a b : ℕ) → b ≤ a + b
 right_le a b = omega arith
 
-module _ (ks : List Kind) (k : ℕ) (keys : List Span → List Span) (long : (r : RangeRow) → IsRangeRow ks r → length (keys r.cells) ≡ k) (there : (r : RangeRow) → IsRangeRow ks r → (row : List Value) → EndsOfAll rl rs rh row 0 r.cells → EndsOfAll rl rs rh row 0 (keys r.cells)) where
+module _ (by : KeyReading) where
   abbrev c : ℕ
-  c = length ks
+  c = length by.ks
 
   abbrev n : ℕ
   n = 3 * c + 3
 
   abbrev wide : RangeRow → List Value
-  wide r = group.wide ks k keys long there r
+  wide r = group.wide by r
 
   abbrev surely : RangeRow → Bool
-  surely r = all_certain (keys r.cells)
+  surely r = all_certain (by.keys r.cells)
 
   abbrev key_of : RangeRow → List Value
-  key_of r = guesses (keys r.cells)
+  key_of r = guesses (by.keys r.cells)
 
   abbrev members : List Value → Bounded → Bounded
-  members key rows = filter (λ r. same_row key (guesses (keys r.cells))) rows
+  members key rows = filter (λ r. same_row key (guesses (by.keys r.cells))) rows
 
   abbrev sum : PTerm
-  sum = Add (Column (3 * k + 2)) (Column (3 * k + 3))
+  sum = Add (Column (3 * by.k + 2)) (Column (3 * by.k + 3))
 
   -- the numbers of a row's keys and of its triple fit
   abbrev pub Held : RangeRow → Type 0
-  Held r = AllFit (keys r.cells) × Fit (triple_of r)
+  Held r = AllFit (by.keys r.cells) × Fit (triple_of r)
 
   -- the numbers of a group's triple
   abbrev pub counts_of : Bounded → List ℤ
-  counts_of rows = pos (group_counts keys rows).least ∷ pos (group_counts keys rows).guess ∷ pos (group_counts keys rows).most ∷ []
+  counts_of rows = pos (group_counts by.keys rows).least ∷ pos (group_counts by.keys rows).guess ∷ pos (group_counts by.keys rows).most ∷ []
 
   -- the magnitudes of the further aggregates over a group
   abbrev pub kept_numbers : List PAgg → Bounded → List ℤ
   kept_numbers more rows = flat_map (magnitudes (map wide rows)) more
 
   -- what a row adds fits
-  added_fit : (r : RangeRow) → IsRangeRow ks r → Held r → Fit (grow_numbers (group_columns c k) (encode_row r))
+  added_fit : (r : RangeRow) → IsRangeRow by.ks r → Held r → Fit (grow_numbers (group_columns c by.k) (encode_row r))
   added_fit r v h =
       let row = encode_row r in
       let w = 3 * c in
-      let x = coded_triple rl rs rh cl cg cm c r.cells r.annot (cells_length IsRangeOf ks r.cells v.cells) in
+      let x = coded_triple rl rs rh cl cg cm c r.cells r.annot (cells_length IsRangeOf by.ks r.cells v.cells) in
       let p = fit_parts (pos r.annot.least ∷ []) (pos r.annot.guess ∷ pos r.annot.most ∷ []) h.1 in
       let q = fit_parts (pos r.annot.guess ∷ []) (pos r.annot.most ∷ []) p.1 in
       let least = column_fits row w (cl r.annot) (column_has row w (cl r.annot) x.lo) p.0 in
       let guess = column_fits row (w + 1) (cg r.annot) (column_has row (w + 1) (cg r.annot) x.sg) q.0 in
       let most = column_fits row (w + 2) (cm r.annot) (column_has row (w + 2) (cm r.annot) x.hi) q.1 in
-      let sure = sure_fits row 0 k (keys r.cells) (long r v) (there r v row (group.cells_there ks k keys long there r v)) h.0 in
+      let sure = sure_fits row 0 by.k (by.keys r.cells) (by.long r v) (by.shifted r v row 0 (group.cells_there by r v)) h.0 in
       let z : Fits row zero_term = (λ more. refl) in
       let o : Fits row one_term = (λ more. refl) in
-      let new = group.new ks k keys long there r in
-      let columns = group_columns c k in
+      let new = group.new by r in
+      let columns = group_columns c by.k in
       let fits : AllByRecursion (Fits row) columns = (
-        case_fits row one_term zero_term o z (And (all_sure 0 k) (positive (lo w))) (and_fits row (all_sure 0 k) (positive (lo w)) sure (positive_fits row (lo w) least)),
+        case_fits row one_term zero_term o z (And (all_sure 0 by.k) (positive (lo w))) (and_fits row (all_sure 0 by.k) (positive (lo w)) sure (positive_fits row (lo w) least)),
         (
           case_fits row one_term zero_term o z (positive (sg w)) (positive_fits row (sg w) guess),
-          (case_fits row zero_term (hi w) z most (all_sure 0 k) sure, (case_fits row one_term zero_term o z (all_sure 0 k) sure, tt)),
+          (case_fits row zero_term (hi w) z most (all_sure 0 by.k) sure, (case_fits row one_term zero_term o z (all_sure 0 by.k) sure, tt)),
         ),
       ) in
-      (careful_grow columns row (row ++ new) (adds careful row columns new (all_careful row columns new (group.new_mean ks k keys long there r v) fits))).1
+      (careful_grow columns row (row ++ new) (adds careful row columns new (all_careful row columns new (group.new_mean by r v) fits))).1
 
   -- the magnitudes of a group: the most copies of rows with unsure keys, and those of the further aggregates
-  group_magnitudes : (more : List PAgg) (rows : Bounded) → IsRelation ks rows → flat_map (magnitudes (map wide rows)) (box_aggs 0 k ++ first_aggs n more) ≡ pos (rows_of.unsure_most ks k keys long there rows) ∷ kept_numbers more rows
+  group_magnitudes : (more : List PAgg) (rows : Bounded) → IsRelation by.ks rows → flat_map (magnitudes (map wide rows)) (box_aggs 0 by.k ++ first_aggs n more) ≡ pos (rows_of.unsure_most by rows) ∷ kept_numbers more rows
   group_magnitudes more rows v =
-      box_magnitudes (map wide rows) 0 k (first_aggs n more)
-      ∙ (λ i. pos (sum_magnitudes (IsRangeRow ks) wide (n + 2) (λ r. if surely r then 0 else r.annot.most) (λ r p. (rows_of.new_at ks k keys long there r p).2) (λ rs. sum_by (λ r. r.annot.most) (filter (λ r. not (surely r)) rs)) refl (sum_failing surely (λ r. r.annot.most)) rows v i) ∷ kept_numbers more rows)
+      box_magnitudes (map wide rows) 0 by.k (first_aggs n more)
+      ∙ (λ i. pos (sum_magnitudes (IsRangeRow by.ks) wide (n + 2) (λ r. if surely r then 0 else r.annot.most) (λ r p. (rows_of.new_at by r p).2) (λ rs. sum_by (λ r. r.annot.most) (filter (λ r. not (surely r)) rs)) refl (sum_failing surely (λ r. r.annot.most)) rows v i) ∷ kept_numbers more rows)
 
-  one_fits : (more : List PAgg) (rows : Bounded) → IsRelation ks rows → Fit (counts_of rows) → Fit (kept_numbers more rows) → Fit (flat_map (magnitudes (map wide rows)) (box_aggs 0 k ++ first_aggs n more))
+  one_fits : (more : List PAgg) (rows : Bounded) → IsRelation by.ks rows → Fit (counts_of rows) → Fit (kept_numbers more rows) → Fit (flat_map (magnitudes (map wide rows)) (box_aggs 0 by.k ++ first_aggs n more))
   one_fits more rows v t f =
-      let counts = group_counts keys rows in
-      let u = rows_of.unsure_most ks k keys long there rows in
+      let counts = group_counts by.keys rows in
+      let u = rows_of.unsure_most by rows in
       let o = some_of surely rows in
       let p = fit_parts (pos counts.least ∷ pos counts.guess ∷ []) (pos counts.most ∷ []) t in
       subst (λ ns. Fit ns) (sym (group_magnitudes more rows v))
       (fit_both (pos u ∷ []) (kept_numbers more rows) (lower_fits u (u + o) (left_le u o) p.1) f)
 
   -- the sum of the last two parts of a group's triple
-  parts_fit : (more : List PAgg) (rows : Bounded) → length (hull_of (map (λ r. keys r.cells) rows)) ≡ k → Fit (counts_of rows) → Fit (term_numbers sum (rows_of.parts_row ks k keys long there more rows))
+  parts_fit : (more : List PAgg) (rows : Bounded) → length (hull_of (map (λ r. by.keys r.cells) rows)) ≡ by.k → Fit (counts_of rows) → Fit (term_numbers sum (rows_of.parts_row by more rows))
   parts_fit more rows e t =
-      let w = 3 * k in
-      let counts = group_counts keys rows in
-      let u = rows_of.unsure_most ks k keys long there rows in
+      let w = 3 * by.k in
+      let counts = group_counts by.keys rows in
+      let u = rows_of.unsure_most by rows in
       let o = some_of surely rows in
       let uv = value.Int (pos u) in
       let ov = value.Int (pos o) in
-      let box = hull_of (map (λ r. keys r.cells) rows) in
+      let box = hull_of (map (λ r. by.keys r.cells) rows) in
       let cells = encode_cells box in
-      let row = rows_of.parts_row ks k keys long there more rows in
-      let tail = counted (list_any (rows_of.surely_least ks k keys long there) rows) ∷ counted (list_any (rows_of.guessed ks k keys long there) rows) ∷ uv ∷ ov ∷ map (plain_aggregate (map wide rows)) more in
+      let row = rows_of.parts_row by more rows in
+      let tail = counted (list_any (rows_of.surely_least by) rows) ∷ counted (list_any (rows_of.guessed by) rows) ∷ uv ∷ ov ∷ map (plain_aggregate (map wide rows)) more in
       let cells_long : length cells ≡ w = all_ends_long rl rs rh box ∙ ap (λ m. 3 * m) e in
       let p = fit_parts (pos counts.least ∷ pos counts.guess ∷ []) (pos counts.most ∷ []) t in
       let has_u = column_has row (w + 2) uv (at_past cells tail 2 (w + 2) uv (omega (arith, cells_long)) refl) in
@@ -180,68 +181,64 @@ module _ (ks : List Kind) (k : ℕ) (keys : List Span → List Span) (long : (r 
       (add_fits row (Column (w + 2)) (Column (w + 3)) uv ov has_u has_o (column_fits row (w + 2) uv has_u (lower_fits u (u + o) (left_le u o) p.1))
       (column_fits row (w + 3) ov has_o (lower_fits o (u + o) (right_le u o) p.1)) p.1)
 
-  last_fits : (more : List PAgg) (rows : Bounded) → IsRelation ks rows → AllByRecursion (λ key. Fit (counts_of (members key rows))) (guessed_keys keys rows) → AllByRecursion (λ row. Fit (term_numbers sum row)) (map (rows_of.box_row ks k keys long there more rows) (guessed_keys keys rows))
+  last_fits : (more : List PAgg) (rows : Bounded) → IsRelation by.ks rows → AllByRecursion (λ key. Fit (counts_of (members key rows))) (guessed_keys by.keys rows) → AllByRecursion (λ row. Fit (term_numbers sum row)) (map (rows_of.box_row by more rows) (guessed_keys by.keys rows))
   last_fits more rows ok counts =
       let occurs = λ (key : List Value). 0 < copies key (map key_of rows) in
-      all_made (λ key. occurs key × Fit (counts_of (members key rows))) (λ row. Fit (term_numbers sum row)) (rows_of.box_row ks k keys long there more rows) (guessed_keys keys rows)
-      (all_both occurs (λ key. Fit (counts_of (members key rows))) (guessed_keys keys rows) (all_occur key_of rows) counts)
+      all_made (λ key. occurs key × Fit (counts_of (members key rows))) (λ row. Fit (term_numbers sum row)) (rows_of.box_row by more rows) (guessed_keys by.keys rows)
+      (all_both occurs (λ key. Fit (counts_of (members key rows))) (guessed_keys by.keys rows) (all_occur key_of rows) counts)
       (λ key q.
       (let some = some_with key_of key rows q.0 in
-      let all = subst (λ ss. AllByRecursion (IsRangeRow ks) ss) some.is (all_filter (IsRangeRow ks) (λ r. same_row key (guesses (keys r.cells))) rows ok) in
+      let all = subst (λ ss. AllByRecursion (IsRangeRow by.ks) ss) some.is (all_filter (IsRangeRow by.ks) (λ r. same_row key (guesses (by.keys r.cells))) rows ok) in
       let g = some.first in
       let gs = some.others in
-      subst (λ ss. Fit (counts_of ss) → Fit (term_numbers sum (encode_cells (hull_of (map (λ r. keys r.cells) ss)) ++ map (plain_aggregate (map wide ss)) (first_aggs n more)))) (sym some.is)
-      (λ t. subst (λ row. Fit (term_numbers sum row)) (sym (rows_of.parts_are ks k keys long there more g gs all))
-      (parts_fit more (g ∷ gs) (hull_long (λ r. keys r.cells) k g gs (all_from (IsRangeRow ks) (λ r. length (keys r.cells) ≡ k) (g ∷ gs) long all)) t)) q.1))
+      subst (λ ss. Fit (counts_of ss) → Fit (term_numbers sum (encode_cells (hull_of (map (λ r. by.keys r.cells) ss)) ++ map (plain_aggregate (map wide ss)) (first_aggs n more)))) (sym some.is)
+      (λ t. subst (λ row. Fit (term_numbers sum row)) (sym (rows_of.parts_are by more g gs all))
+      (parts_fit more (g ∷ gs) (hull_long (λ r. by.keys r.cells) by.k g gs (all_from (IsRangeRow by.ks) (λ r. length (by.keys r.cells) ≡ by.k) (g ∷ gs) by.long all)) t)) q.1))
 
   -- The first grouping adds no number that does not fit.
-  pub first_fits : (ts : List Rows) (p : PlanTree) (more : List PAgg) (rows : Bounded) → IsRelation ks rows → Gives ts p rows → AllByRecursion Held rows → AllByRecursion (λ key. Fit (counts_of (members key rows))) (guessed_keys keys rows) → AllByRecursion (λ key. Fit (kept_numbers more (members key rows))) (guessed_keys keys rows) → Fit (plan_numbers p ts) → Fit (plan_numbers (first_grouping c k more p) ts)
+  pub first_fits : (ts : List Rows) (p : PlanTree) (more : List PAgg) (rows : Bounded) → IsRelation by.ks rows → Gives ts p rows → AllByRecursion Held rows → AllByRecursion (λ key. Fit (counts_of (members key rows))) (guessed_keys by.keys rows) → AllByRecursion (λ key. Fit (kept_numbers more (members key rows))) (guessed_keys by.keys rows) → Fit (plan_numbers p ts) → Fit (plan_numbers (first_grouping c by.k more p) ts)
   first_fits ts p more rows ok g held counts kept np =
-      let columns = group_columns c k in
+      let columns = group_columns c by.k in
       let inner = extend_all columns p in
-      let aggs = box_aggs 0 k ++ first_aggs n more in
-      let groups = boxes k (first_aggs n more) inner in
-      let all = guessed_keys keys rows in
+      let aggs = box_aggs 0 by.k ++ first_aggs n more in
+      let groups = boxes by.k (first_aggs n more) inner in
+      let all = guessed_keys by.keys rows in
       let wider : Fit (plan_numbers inner ts) =
       numbers-extend_all ts columns p np
       (subst (λ rs. AllByRecursion (λ row. Fit (grow_numbers columns row)) rs) (sym g)
-      (all_made (λ r. IsRangeRow ks r × Held r) (λ row. Fit (grow_numbers columns row)) encode_row rows (all_both (IsRangeRow ks) Held rows ok held) (λ r q. added_fit r q.0 q.1))) in
+      (all_made (λ r. IsRangeRow by.ks r × Held r) (λ row. Fit (grow_numbers columns row)) encode_row rows (all_both (IsRangeRow by.ks) Held rows ok held) (λ r q. added_fit r q.0 q.1))) in
       let each : AllByRecursion (λ key. Fit (flat_map (magnitudes (map wide (members key rows))) aggs)) all =
       all_from (λ key. Fit (counts_of (members key rows)) × Fit (kept_numbers more (members key rows))) (λ key. Fit (flat_map (magnitudes (map wide (members key rows))) aggs)) all
-      (λ key q. one_fits more (members key rows) (all_filter (IsRangeRow ks) (λ r. same_row key (guesses (keys r.cells))) rows ok) q.0 q.1)
+      (λ key q. one_fits more (members key rows) (all_filter (IsRangeRow by.ks) (λ r. same_row key (guesses (by.keys r.cells))) rows ok) q.0 q.1)
       (all_both (λ key. Fit (counts_of (members key rows))) (λ key. Fit (kept_numbers more (members key rows))) all counts kept) in
-      let same = keys_are (IsRangeRow ks) wide (λ r. keys r.cells) k (group.wide_there ks k keys long there) long in
-      let made = numbers_made (IsRangeRow ks) wide key_of (sg_places 0 k) same aggs rows ok in
-      let numbers : Fit (group_numbers (sg_places 0 k) aggs (plain_rows inner ts)) =
-      subst (λ rs. Fit (group_numbers (sg_places 0 k) aggs rs)) (sym (rows_of.wide_rows ks k keys long there ts p rows ok g))
+      let same = keys_are (IsRangeRow by.ks) wide (λ r. by.keys r.cells) by.k (group.wide_there by) by.long in
+      let made = numbers_made (IsRangeRow by.ks) wide key_of (sg_places 0 by.k) same aggs rows ok in
+      let numbers : Fit (group_numbers (sg_places 0 by.k) aggs (plain_rows inner ts)) =
+      subst (λ rs. Fit (group_numbers (sg_places 0 by.k) aggs rs)) (sym (rows_of.wide_rows by ts p rows ok g))
       (subst (λ ns. Fit ns) (sym made) (fit_all (λ key. flat_map (magnitudes (map wide (members key rows))) aggs) all each)) in
-      fit_both (plan_numbers groups ts) (flat_map (term_numbers sum) (plain_rows groups ts)) (fit_both (plan_numbers inner ts) (group_numbers (sg_places 0 k) aggs (plain_rows inner ts)) wider numbers)
-      (subst (λ rs. Fit (flat_map (term_numbers sum) rs)) (sym (rows_of.boxed_rows ks k keys long there ts p more rows ok g))
-      (fit_all (term_numbers sum) (map (rows_of.box_row ks k keys long there more rows) all) (last_fits more rows ok counts)))
+      fit_both (plan_numbers groups ts) (flat_map (term_numbers sum) (plain_rows groups ts)) (fit_both (plan_numbers inner ts) (group_numbers (sg_places 0 by.k) aggs (plain_rows inner ts)) wider numbers)
+      (subst (λ rs. Fit (flat_map (term_numbers sum) rs)) (sym (rows_of.boxed_rows by ts p more rows ok g))
+      (fit_all (term_numbers sum) (map (rows_of.box_row by more rows) all) (last_fits more rows ok counts)))
 
   -- The same where the further aggregates are ends.
-  pub first_fits_ends : (ts : List Rows) (p : PlanTree) (more : List PAgg) (rows : Bounded) → AllByRecursion IsEnd more → IsRelation ks rows → Gives ts p rows → AllByRecursion Held rows → AllByRecursion (λ key. Fit (counts_of (members key rows))) (guessed_keys keys rows) → Fit (plan_numbers p ts) → Fit (plan_numbers (first_grouping c k more p) ts)
+  pub first_fits_ends : (ts : List Rows) (p : PlanTree) (more : List PAgg) (rows : Bounded) → AllByRecursion IsEnd more → IsRelation by.ks rows → Gives ts p rows → AllByRecursion Held rows → AllByRecursion (λ key. Fit (counts_of (members key rows))) (guessed_keys by.keys rows) → Fit (plan_numbers p ts) → Fit (plan_numbers (first_grouping c by.k more p) ts)
   first_fits_ends ts p more rows ends ok g held counts np =
       let none : (key : List Value) → Fit (kept_numbers more (members key rows)) =
       (λ key. subst (λ ns. Fit ns) (sym (ends_numbers (map wide (members key rows)) more ends)) refl) in
-      first_fits ts p more rows ok g held counts (all_of (λ key. Fit (kept_numbers more (members key rows))) none (guessed_keys keys rows)) np
+      first_fits ts p more rows ok g held counts (all_of (λ key. Fit (kept_numbers more (members key rows))) none (guessed_keys by.keys rows)) np
 
   -- The triples of the groups fit where those of the result do.
-  pub group_triples : (aggs : List Agg) (rows : Bounded) → IsRelation ks rows → Fit (triple_numbers (group_by keys aggs rows)) → AllByRecursion (λ key. Fit (counts_of (members key rows))) (guessed_keys keys rows)
+  pub group_triples : (aggs : List Agg) (rows : Bounded) → IsRelation by.ks rows → Fit (triple_numbers (group_by by.keys aggs rows)) → AllByRecursion (λ key. Fit (counts_of (members key rows))) (guessed_keys by.keys rows)
   group_triples aggs rows ok f =
-      of_made (λ r. Fit (triple_of r)) (output keys aggs rows) (guessed_keys keys rows)
-      (all_fit triple_of (map (output keys aggs rows) (guessed_keys keys rows)) (subst (λ rs. Fit (triple_numbers rs)) (rows_of.all_present ks k keys long there aggs rows ok) f))
+      of_made (λ r. Fit (triple_of r)) (output by.keys aggs rows) (guessed_keys by.keys rows)
+      (all_fit triple_of (map (output by.keys aggs rows) (guessed_keys by.keys rows)) (subst (λ rs. Fit (triple_numbers rs)) (rows_of.all_present by aggs rows ok) f))
 
   -- the keys of rows whose numbers fit
-  pub held_keys : ((xs : List Span) → AllFit xs → AllFit (keys xs)) → (rows : Bounded) → AllFitRows rows → AllByRecursion Held rows
+  pub held_keys : ((xs : List Span) → AllFit xs → AllFit (by.keys xs)) → (rows : Bounded) → AllFitRows rows → AllByRecursion Held rows
   held_keys part rows h = all_from FitRow Held rows (λ r f. (part r.cells f.cells, f.triple)) h
 
 -- Distinct's plan adds no number that does not fit.
 pub distinct_fits : (ks : List Kind) (ts : List Rows) (p : PlanTree) (rows : Bounded) → IsRelation ks rows → Gives ts p rows → AllFitRows rows → Fit (triple_numbers (distinct_rows rows)) → Fit (plan_numbers p ts) → Fit (plan_numbers (distinct (length ks) p) ts)
 distinct_fits ks ts p rows ok g held f np =
-    let cells = λ (xs : List Span). xs in
-    let long = λ (r : RangeRow) (v : IsRangeRow ks r). cells_length IsRangeOf ks r.cells v.cells in
-    let there : (r : RangeRow) → IsRangeRow ks r → (row : List Value) → EndsOfAll rl rs rh row 0 r.cells → EndsOfAll rl rs rh row 0 r.cells = (λ r v row e. e) in
-    let k = length ks in
-    first_fits_ends ks k cells long there ts p [] rows tt ok g (held_keys ks k cells long there (λ xs h. h) rows held)
-    (group_triples ks k cells long there [] rows ok f) np
+    let by = all_cells ks in
+    first_fits_ends by ts p [] rows tt ok g (held_keys by (λ xs h. h) rows held) (group_triples by [] rows ok f) np

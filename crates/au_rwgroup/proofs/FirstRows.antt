@@ -12,7 +12,7 @@ use Rattle.au_algebra.specs.declared.query.Agg.{Agg}
 use Rattle.au_algebra.specs.Lists.{same_row, copies, greatest}
 use Rattle.au_algebra.specs.Ordinary.{Rows}
 use Rattle.au_algebra.specs.Bounded as bounded
-use Rattle.au_algebra.specs.Bounded.{RangeRow, Bounded, hull_of, group_counts, some_of, most_of, output, guessed_keys, present}
+use Rattle.au_algebra.specs.Bounded.{RangeRow, Bounded, hull_of, group_counts, some_of, most_of, output, guessed_keys}
 use Rattle.au_algebra.specs.Laws.{IsRangeRow, IsRelation}
 use Rattle.au_algebra.proofs.Choices.{sum_if}
 use Rattle.au_algebra.proofs.Each.{all_filter, all_from}
@@ -26,7 +26,7 @@ use Rattle.au_encode.proofs.Decoded.{cells_length}
 use Rattle.au_rwexpr.specs.Cells.{cell_places, run}
 use Rattle.au_rwgroup.specs.Groups as plans
 use Rattle.au_rwgroup.specs.Groups.{group_columns, first_aggs, first_grouping}
-use Rattle.au_rwexpr.proofs.Places.{At, at_more, at_past, EndsOfAll, all_ends_at}
+use Rattle.au_rwexpr.proofs.Places.{At, at_more, at_past, all_ends_at}
 use Rattle.au_rwexpr.proofs.Picks.{Picks, kept_are, picks_more, picks_wider, pick_cells, coded_long, all_ends_long}
 use Rattle.au_combine.specs.Boxes.{boxes}
 use Rattle.au_combine.proofs.BoxPlaces.{run_picks}
@@ -39,6 +39,7 @@ use Rattle.au_rwexpr.proofs.Present.{present_map}
 use Rattle.au_rwexpr.proofs.Flags.{counted, greatest_counted, sum_failing}
 use Rattle.au_rwgroup.proofs.FirstGroup as group
 use Rattle.au_rwexpr.proofs.Coded.{rl, rs, rh, cl, cg, cm}
+use Rattle.au_rwgroup.proofs.KeyReading.{KeyReading, all_cells}
 
 -- the last steps on a row: the most is the sum of two columns
 finish : {B : Type 0} (k : ℕ) (box : List Span) (a b : Value) (u o : ℕ) (g : B → Value) (xs : List B) → length box ≡ k → kept (cell_places 0 k ++ (3 * k ∷ (3 * k + 1) ∷ (3 * k + 4 + length xs) ∷ run (3 * k + 4) (length xs))) (extended (Add (Column (3 * k + 2)) (Column (3 * k + 3))) (encode_cells box ++ (a ∷ b ∷ value.Int (pos u) ∷ value.Int (pos o) ∷ map g xs))) ≡ encode_cells box ++ (a ∷ b ∷ value.Int (pos (u + o)) ∷ map g xs)
@@ -69,29 +70,29 @@ finish k box a b u o g xs e =
     ∙ kept_are whole (cell_places 0 k ++ (w ∷ (w + 1) ∷ (w + 4 + length xs) ∷ run (w + 4) (length xs))) (cells ++ (a ∷ b ∷ sum ∷ map g xs))
     (picks_more whole (cell_places 0 k) (w ∷ (w + 1) ∷ (w + 4 + length xs) ∷ run (w + 4) (length xs)) cells (a ∷ b ∷ sum ∷ map g xs) first (at_a, (at_b, (at_sum, last))))
 
-module _ (ks : List Kind) (k : ℕ) (keys : List Span → List Span) (long : (r : RangeRow) → IsRangeRow ks r → length (keys r.cells) ≡ k) (there : (r : RangeRow) → IsRangeRow ks r → (row : List Value) → EndsOfAll rl rs rh row 0 r.cells → EndsOfAll rl rs rh row 0 (keys r.cells)) where
+module _ (by : KeyReading) where
   abbrev c : ℕ
-  c = length ks
+  c = length by.ks
 
   abbrev n : ℕ
   n = 3 * c + 3
 
   abbrev wide : RangeRow → List Value
-  wide r = group.wide ks k keys long there r
+  wide r = group.wide by r
 
   abbrev surely : RangeRow → Bool
-  surely r = all_certain (keys r.cells)
+  surely r = all_certain (by.keys r.cells)
 
   abbrev pub surely_least : RangeRow → Bool
-  surely_least r = all_certain (keys r.cells) && nat_le 1 r.annot.least
+  surely_least r = all_certain (by.keys r.cells) && nat_le 1 r.annot.least
 
   abbrev pub guessed : RangeRow → Bool
   guessed r = nat_le 1 r.annot.guess
 
   -- the added columns by their places
-  pub new_at : (r : RangeRow) → IsRangeRow ks r → (At (wide r) n (counted (surely_least r)) × At (wide r) (n + 1) (counted (guessed r)) × At (wide r) (n + 2) (value.Int (pos (if surely r then 0 else r.annot.most))) × At (wide r) (n + 3) (counted (surely r)))
+  pub new_at : (r : RangeRow) → IsRangeRow by.ks r → (At (wide r) n (counted (surely_least r)) × At (wide r) (n + 1) (counted (guessed r)) × At (wide r) (n + 2) (value.Int (pos (if surely r then 0 else r.annot.most))) × At (wide r) (n + 3) (counted (surely r)))
   new_at r v =
-      let row_long = coded_long rl rs rh cl cg cm c r.cells r.annot (cells_length IsRangeOf ks r.cells v.cells) in
+      let row_long = coded_long rl rs rh cl cg cm c r.cells r.annot (cells_length IsRangeOf by.ks r.cells v.cells) in
       let new = counted (surely_least r) ∷ counted (guessed r) ∷ value.Int (pos (if surely r then 0 else r.annot.most)) ∷ counted (surely r) ∷ [] in (
         at_past (encode_row r) new 0 n _ (omega (arith, row_long)) refl,
         at_past (encode_row r) new 1 (n + 1) _ (omega (arith, row_long)) refl,
@@ -100,17 +101,17 @@ module _ (ks : List Kind) (k : ℕ) (keys : List Span → List Span) (long : (r 
       )
 
   -- the greatest of a column of flags
-  max_flag : (m : ℕ) (t : RangeRow → Bool) → ((r : RangeRow) → IsRangeRow ks r → At (wide r) m (counted (t r))) → (g : RangeRow) (gs : Bounded) → IsRelation ks (g ∷ gs) → plain_aggregate (map wide (g ∷ gs)) (Max m) ≡ counted (list_any t (g ∷ gs))
+  max_flag : (m : ℕ) (t : RangeRow → Bool) → ((r : RangeRow) → IsRangeRow by.ks r → At (wide r) m (counted (t r))) → (g : RangeRow) (gs : Bounded) → IsRelation by.ks (g ∷ gs) → plain_aggregate (map wide (g ∷ gs)) (Max m) ≡ counted (list_any t (g ∷ gs))
   max_flag m t at g gs v =
-      ap greatest (map-map wide (λ row. value_at row m) (g ∷ gs) ∙ map_valid (IsRangeRow ks) (λ r. value_at (wide r) m) (λ r. counted (t r)) (g ∷ gs) v (λ r p. ap (λ o. unwrap_or o (value.Int (pos 0))) (at r p)))
+      ap greatest (map-map wide (λ row. value_at row m) (g ∷ gs) ∙ map_valid (IsRangeRow by.ks) (λ r. value_at (wide r) m) (λ r. counted (t r)) (g ∷ gs) v (λ r p. ap (λ o. unwrap_or o (value.Int (pos 0))) (at r p)))
       ∙ greatest_counted t g gs
 
   -- a group's row: its box, its triple, and the further aggregates over the rows with what they add
   abbrev pub first_row : List PAgg → Bounded → List Value
-  first_row more rows = encode_cells (hull_of (map (λ r. keys r.cells) rows)) ++ (encode_counts (group_counts keys rows) ++ map (plain_aggregate (map wide rows)) more)
+  first_row more rows = encode_cells (hull_of (map (λ r. by.keys r.cells) rows)) ++ (encode_counts (group_counts by.keys rows) ++ map (plain_aggregate (map wide rows)) more)
 
   abbrev pub grouped : List Value → Bounded → Bounded
-  grouped key rows = filter (λ r. same_row key (guesses (keys r.cells))) rows
+  grouped key rows = filter (λ r. same_row key (guesses (by.keys r.cells))) rows
 
   -- the most copies of rows with unsure keys
   abbrev pub unsure_most : Bounded → ℕ
@@ -119,63 +120,63 @@ module _ (ks : List Kind) (k : ℕ) (keys : List Span → List Span) (long : (r 
   -- a group's box, the parts of its triple, and the further aggregates
   abbrev pub parts_row : List PAgg → Bounded → List Value
   parts_row more rows =
-      encode_cells (hull_of (map (λ r. keys r.cells) rows)) ++ (counted (list_any surely_least rows) ∷ counted (list_any guessed rows) ∷ value.Int (pos (unsure_most rows)) ∷ counted (list_any surely rows) ∷ map (plain_aggregate (map wide rows)) more)
+      encode_cells (hull_of (map (λ r. by.keys r.cells) rows)) ++ (counted (list_any surely_least rows) ∷ counted (list_any guessed rows) ∷ value.Int (pos (unsure_most rows)) ∷ counted (list_any surely rows) ∷ map (plain_aggregate (map wide rows)) more)
 
   -- the aggregates over a group's rows are these
-  pub parts_are : (more : List PAgg) (g : RangeRow) (gs : Bounded) → IsRelation ks (g ∷ gs) → encode_cells (hull_of (map (λ r. keys r.cells) (g ∷ gs))) ++ map (plain_aggregate (map wide (g ∷ gs))) (first_aggs n more) ≡ parts_row more (g ∷ gs)
+  pub parts_are : (more : List PAgg) (g : RangeRow) (gs : Bounded) → IsRelation by.ks (g ∷ gs) → encode_cells (hull_of (map (λ r. by.keys r.cells) (g ∷ gs))) ++ map (plain_aggregate (map wide (g ∷ gs))) (first_aggs n more) ≡ parts_row more (g ∷ gs)
   parts_are more g gs v =
       let all = g ∷ gs in
-      let box = hull_of (map (λ r. keys r.cells) all) in
+      let box = hull_of (map (λ r. by.keys r.cells) all) in
       let agg = plain_aggregate (map wide all) in
       let l = max_flag n surely_least (λ r p. (new_at r p).0) g gs v in
       let s = max_flag (n + 1) guessed (λ r p. (new_at r p).1) g gs v in
-      let u = sum_column (IsRangeRow ks) wide (n + 2) (λ r. if surely r then 0 else r.annot.most) (λ r p. (new_at r p).2) (λ rs. sum_by (λ r. r.annot.most) (filter (λ r. not (surely r)) rs)) refl (sum_failing surely (λ r. r.annot.most)) all v in
+      let u = sum_column (IsRangeRow by.ks) wide (n + 2) (λ r. if surely r then 0 else r.annot.most) (λ r p. (new_at r p).2) (λ rs. sum_by (λ r. r.annot.most) (filter (λ r. not (surely r)) rs)) refl (sum_failing surely (λ r. r.annot.most)) all v in
       let o = max_flag (n + 3) surely (λ r p. (new_at r p).3) g gs v in
       λ i. encode_cells box ++ (l i ∷ s i ∷ value.Int (u i) ∷ o i ∷ map agg more)
 
-  each_first : (more : List PAgg) (g : RangeRow) (gs : Bounded) → IsRelation ks (g ∷ gs) → kept (cell_places 0 k ++ (3 * k ∷ (3 * k + 1) ∷ (3 * k + 4 + length more) ∷ run (3 * k + 4) (length more))) (extended (Add (Column (3 * k + 2)) (Column (3 * k + 3))) (encode_cells (hull_of (map (λ r. keys r.cells) (g ∷ gs))) ++ map (plain_aggregate (map wide (g ∷ gs))) (first_aggs n more))) ≡ first_row more (g ∷ gs)
+  each_first : (more : List PAgg) (g : RangeRow) (gs : Bounded) → IsRelation by.ks (g ∷ gs) → kept (cell_places 0 by.k ++ (3 * by.k ∷ (3 * by.k + 1) ∷ (3 * by.k + 4 + length more) ∷ run (3 * by.k + 4) (length more))) (extended (Add (Column (3 * by.k + 2)) (Column (3 * by.k + 3))) (encode_cells (hull_of (map (λ r. by.keys r.cells) (g ∷ gs))) ++ map (plain_aggregate (map wide (g ∷ gs))) (first_aggs n more))) ≡ first_row more (g ∷ gs)
   each_first more g gs v =
       let all = g ∷ gs in
-      let box = hull_of (map (λ r. keys r.cells) all) in
-      let last = λ (row : List Value). kept (cell_places 0 k ++ (3 * k ∷ (3 * k + 1) ∷ (3 * k + 4 + length more) ∷ run (3 * k + 4) (length more))) (extended (Add (Column (3 * k + 2)) (Column (3 * k + 3))) row) in
+      let box = hull_of (map (λ r. by.keys r.cells) all) in
+      let last = λ (row : List Value). kept (cell_places 0 by.k ++ (3 * by.k ∷ (3 * by.k + 1) ∷ (3 * by.k + 4 + length more) ∷ run (3 * by.k + 4) (length more))) (extended (Add (Column (3 * by.k + 2)) (Column (3 * by.k + 3))) row) in
       ap last (parts_are more g gs v)
-      ∙ finish k box (counted (list_any surely_least all)) (counted (list_any guessed all)) (unsure_most all) (some_of surely all) (plain_aggregate (map wide all)) more
-      (hull_long (λ r. keys r.cells) k g gs (all_from (IsRangeRow ks) (λ r. length (keys r.cells) ≡ k) all long v))
+      ∙ finish by.k box (counted (list_any surely_least all)) (counted (list_any guessed all)) (unsure_most all) (some_of surely all) (plain_aggregate (map wide all)) more
+      (hull_long (λ r. by.keys r.cells) by.k g gs (all_from (IsRangeRow by.ks) (λ r. length (by.keys r.cells) ≡ by.k) all by.long v))
 
   -- the rows with what they add to the triples
-  pub wide_rows : (ts : List Rows) (p : PlanTree) (rows : Bounded) → IsRelation ks rows → Gives ts p rows → plain_rows (extend_all (group_columns c k) p) ts ≡ map wide rows
+  pub wide_rows : (ts : List Rows) (p : PlanTree) (rows : Bounded) → IsRelation by.ks rows → Gives ts p rows → plain_rows (extend_all (group_columns c by.k) p) ts ≡ map wide rows
   wide_rows ts p rows ok g =
-      rows-extend_all (group_columns c k) p ts
-      ∙ ap (map (grow (group_columns c k))) g
-      ∙ map-map encode_row (grow (group_columns c k)) rows
-      ∙ map_valid (IsRangeRow ks) (λ r. grow (group_columns c k) (encode_row r)) wide rows ok (group.grown ks k keys long there)
+      rows-extend_all (group_columns c by.k) p ts
+      ∙ ap (map (grow (group_columns c by.k))) g
+      ∙ map-map encode_row (grow (group_columns c by.k)) rows
+      ∙ map_valid (IsRangeRow by.ks) (λ r. grow (group_columns c by.k) (encode_row r)) wide rows ok (group.grown by)
 
   -- a group's row before the last steps
   abbrev pub box_row : List PAgg → Bounded → List Value → List Value
   box_row more rows key =
-      encode_cells (hull_of (map (λ r. keys r.cells) (grouped key rows))) ++ map (plain_aggregate (map wide (grouped key rows))) (first_aggs n more)
+      encode_cells (hull_of (map (λ r. by.keys r.cells) (grouped key rows))) ++ map (plain_aggregate (map wide (grouped key rows))) (first_aggs n more)
 
   -- the rows of the boxes
-  pub boxed_rows : (ts : List Rows) (p : PlanTree) (more : List PAgg) (rows : Bounded) → IsRelation ks rows → Gives ts p rows → plain_rows (boxes k (first_aggs n more) (extend_all (group_columns c k) p)) ts ≡ map (box_row more rows) (guessed_keys keys rows)
+  pub boxed_rows : (ts : List Rows) (p : PlanTree) (more : List PAgg) (rows : Bounded) → IsRelation by.ks rows → Gives ts p rows → plain_rows (boxes by.k (first_aggs n more) (extend_all (group_columns c by.k) p)) ts ≡ map (box_row more rows) (guessed_keys by.keys rows)
   boxed_rows ts p more rows ok g =
-      boxes_rows (IsRangeRow ks) wide (λ r. keys r.cells) k (group.wide_there ks k keys long there) long (first_aggs n more) ts (extend_all (group_columns c k) p) rows ok (wide_rows ts p rows ok g)
+      boxes_rows (IsRangeRow by.ks) wide (λ r. by.keys r.cells) by.k (group.wide_there by) by.long (first_aggs n more) ts (extend_all (group_columns c by.k) p) rows ok (wide_rows ts p rows ok g)
 
   -- The rows of the first grouping.
-  pub first_rows : (ts : List Rows) (p : PlanTree) (more : List PAgg) (rows : Bounded) → IsRelation ks rows → Gives ts p rows → plain_rows (first_grouping c k more p) ts ≡ map (λ key. first_row more (grouped key rows)) (guessed_keys keys rows)
+  pub first_rows : (ts : List Rows) (p : PlanTree) (more : List PAgg) (rows : Bounded) → IsRelation by.ks rows → Gives ts p rows → plain_rows (first_grouping c by.k more p) ts ≡ map (λ key. first_row more (grouped key rows)) (guessed_keys by.keys rows)
   first_rows ts p more rows ok g =
-      let places = cell_places 0 k ++ (3 * k ∷ (3 * k + 1) ∷ (3 * k + 4 + length more) ∷ run (3 * k + 4) (length more)) in
-      let sum = Add (Column (3 * k + 2)) (Column (3 * k + 3)) in
+      let places = cell_places 0 by.k ++ (3 * by.k ∷ (3 * by.k + 1) ∷ (3 * by.k + 4 + length more) ∷ run (3 * by.k + 4) (length more)) in
+      let sum = Add (Column (3 * by.k + 2)) (Column (3 * by.k + 3)) in
       ap (λ rs. map (kept places) (map (extended sum) rs)) (boxed_rows ts p more rows ok g)
-      ∙ ap (map (kept places)) (map-map (box_row more rows) (extended sum) (guessed_keys keys rows))
-      ∙ map-map (λ key. extended sum (box_row more rows key)) (kept places) (guessed_keys keys rows)
-      ∙ map_groups (λ r. guesses (keys r.cells)) rows (λ key. kept places (extended sum (box_row more rows key))) (λ key. first_row more (grouped key rows))
+      ∙ ap (map (kept places)) (map-map (box_row more rows) (extended sum) (guessed_keys by.keys rows))
+      ∙ map-map (λ key. extended sum (box_row more rows key)) (kept places) (guessed_keys by.keys rows)
+      ∙ map_groups (λ r. guesses (by.keys r.cells)) rows (λ key. kept places (extended sum (box_row more rows key))) (λ key. first_row more (grouped key rows))
       (λ key some.
-      (let all = subst (λ ss. AllByRecursion (IsRangeRow ks) ss) some.is (all_filter (IsRangeRow ks) (λ r. same_row key (guesses (keys r.cells))) rows ok) in
-      subst (λ ss. kept places (extended sum (encode_cells (hull_of (map (λ r. keys r.cells) ss)) ++ map (plain_aggregate (map wide ss)) (first_aggs n more))) ≡ first_row more ss) (sym some.is)
+      (let all = subst (λ ss. AllByRecursion (IsRangeRow by.ks) ss) some.is (all_filter (IsRangeRow by.ks) (λ r. same_row key (guesses (by.keys r.cells))) rows ok) in
+      subst (λ ss. kept places (extended sum (encode_cells (hull_of (map (λ r. by.keys r.cells) ss)) ++ map (plain_aggregate (map wide ss)) (first_aggs n more))) ≡ first_row more ss) (sym some.is)
       (each_first more some.first some.others all)))
 
   -- each group may have a row
-  pub most_there : (g : RangeRow) (gs : Bounded) → IsRelation ks (g ∷ gs) → 1 ≤ (group_counts keys (g ∷ gs)).most
+  pub most_there : (g : RangeRow) (gs : Bounded) → IsRelation by.ks (g ∷ gs) → 1 ≤ (group_counts by.keys (g ∷ gs)).most
   most_there g gs v = subst (λ m. 1 ≤ m + some_of surely (g ∷ gs)) (sym (sum_if (λ r. r.annot.most) (not (surely g)) g (filter (λ r. not (surely r)) gs))) (by_test (surely g))
     where
       by_test : (b : Bool) → 1 ≤ cond (not b) g.annot.most 0 + sum_by (λ r. r.annot.most) (filter (λ r. not (surely r)) gs) + (if b || list_any surely gs then 1 else 0)
@@ -183,23 +184,21 @@ module _ (ks : List Kind) (k : ℕ) (keys : List Span → List Span) (long : (r 
       by_test false = omega (arith, v.0.present)
 
   -- each list of guessed keys gives a row
-  pub all_present : (aggs : List Agg) (rows : Bounded) → IsRelation ks rows → bounded.group_by keys aggs rows ≡ map (output keys aggs rows) (guessed_keys keys rows)
+  pub all_present : (aggs : List Agg) (rows : Bounded) → IsRelation by.ks rows → bounded.group_by by.keys aggs rows ≡ map (output by.keys aggs rows) (guessed_keys by.keys rows)
   all_present aggs rows ok =
-      let keys_of = λ (r : RangeRow). guesses (keys r.cells) in
-      present_map (λ key. 0 < copies key (map keys_of rows)) (output keys aggs rows) (guessed_keys keys rows) (all_occur keys_of rows)
+      let keys_of = λ (r : RangeRow). guesses (by.keys r.cells) in
+      present_map (λ key. 0 < copies key (map keys_of rows)) (output by.keys aggs rows) (guessed_keys by.keys rows) (all_occur keys_of rows)
       (λ key o.
       (let some = some_with keys_of key rows o in
-      let all = subst (λ ss. AllByRecursion (IsRangeRow ks) ss) some.is (all_filter (IsRangeRow ks) (λ r. same_row key (guesses (keys r.cells))) rows ok) in
-      subst (λ ss. 1 ≤ (group_counts keys ss).most) (sym some.is) (most_there some.first some.others all)))
+      let all = subst (λ ss. AllByRecursion (IsRangeRow by.ks) ss) some.is (all_filter (IsRangeRow by.ks) (λ r. same_row key (guesses (by.keys r.cells))) rows ok) in
+      subst (λ ss. 1 ≤ (group_counts by.keys ss).most) (sym some.is) (most_there some.first some.others all)))
 
 -- Distinct's plan gives the rows of the bounded operator.
 pub distinct_gives : (ks : List Kind) (ts : List Rows) (p : PlanTree) (rows : Bounded) → IsRelation ks rows → Gives ts p rows → Gives ts (plans.distinct (length ks) p) (bounded.distinct_rows rows)
 distinct_gives ks ts p rows ok g =
     let cells = λ (r : List Span). r in
-    let long = λ (r : RangeRow) (v : IsRangeRow ks r). cells_length IsRangeOf ks r.cells v.cells in
-    let there : (r : RangeRow) → IsRangeRow ks r → (row : List Value) → EndsOfAll rl rs rh row 0 r.cells → EndsOfAll rl rs rh row 0 r.cells = (λ r v row e. e) in
     let out = output cells [] rows in
-    first_rows ks (length ks) cells long there ts p [] rows ok g
+    first_rows (all_cells ks) ts p [] rows ok g
     ∙ (λ i. map (λ key. encode_cells (sym (append-nil (hull_of (map (λ r. r.cells) (filter (λ r. same_row key (guesses r.cells)) rows)))) i) ++ encode_counts (group_counts cells (filter (λ r. same_row key (guesses r.cells)) rows))) (guessed_keys cells rows))
     ∙ sym (map-map out encode_row (guessed_keys cells rows))
-    ∙ ap encode (sym (all_present ks (length ks) cells long there [] rows ok))
+    ∙ ap encode (sym (all_present (all_cells ks) [] rows ok))

@@ -1,4 +1,4 @@
--- Group by the first columns; and how many Scans its plan has.
+-- Group by the first columns.
 use Rattle.std.specs.Prelude.{ℕ, zero, suc, ◌+◌, ◌≤◌, List, [], ◌∷◌, length, take}
 use Rattle.std.specs.List.{AllByRecursion, AllZip}
 use Rattle.std.proofs.Common.{arith}
@@ -8,7 +8,7 @@ use Rattle.au_value.specs.Ranges.{IsRangeOf}
 use Rattle.au_algebra.specs.declared.query.Agg.{Agg}
 use Rattle.au_algebra.specs.Ordinary.{Rows}
 use Rattle.au_algebra.specs.Bounded as bounded
-use Rattle.au_algebra.specs.Bounded.{RangeRow, Bounded}
+use Rattle.au_algebra.specs.Bounded.{Bounded}
 use Rattle.au_algebra.specs.Laws.{IsRelation}
 use Rattle.au_plain.specs.Plans.{PlanTree}
 use Rattle.au_encode.proofs.Decoded.{cells_length}
@@ -16,6 +16,7 @@ use Rattle.au_rwgroup.specs.GroupPlan.{group}
 use Rattle.au_rwexpr.proofs.Places.{EndsOfAll}
 use Rattle.au_rwexpr.proofs.Gives.{Gives}
 use Rattle.au_rwgroup.proofs.GroupRows.{group_by_gives}
+use Rattle.au_rwgroup.proofs.KeyReading.{KeyReading}
 use Rattle.au_rwgroup.proofs.MemberColumns.{IsOn}
 use Rattle.au_rwexpr.proofs.Coded.{rl, rs, rh}
 
@@ -33,9 +34,18 @@ take_zip Q (suc m) [] (x ∷ xs) z = elim z [ ]
 take_zip Q (suc m) (k ∷ ks) [] z = elim z [ ]
 take_zip Q (suc m) (k ∷ ks) (x ∷ xs) z = (z.0, take_zip Q m ks xs z.1)
 
+-- the first cells are keys
+abbrev pub first_cells : (kinds : List Kind) (m : ℕ) → m ≤ length kinds → KeyReading
+first_cells kinds m fits = record {
+  ks = kinds;
+  k = m;
+  keys = take m;
+  long = λ r v. length-take-le m r.cells (omega (arith, fits, cells_length IsRangeOf kinds r.cells v.cells));
+  shifted = λ r v row i e. take_there rl rs rh row i m r.cells e;
+  kks = take m kinds;
+  kinded = λ r v. take_zip IsRangeOf m kinds r.cells v.cells;
+}
+
 -- Group's plan gives the rows of the bounded operator, if each aggregate is over a column that is there.
 pub group_gives : (ks : List Kind) (m : ℕ) → m ≤ length ks → (aggs : List Agg) → AllByRecursion (IsOn (length ks)) aggs → (ts : List Rows) (p : PlanTree) (rows : Bounded) → IsRelation ks rows → Gives ts p rows → Gives ts (group (length ks) m aggs p) (bounded.group m aggs rows)
-group_gives ks m fits aggs there ts p rows ok g =
-    group_by_gives ks m (take m)
-    (λ r v. length-take-le m r.cells (omega (arith, fits, cells_length IsRangeOf ks r.cells v.cells)))
-    (λ r v row i e. take_there rl rs rh row i m r.cells e) (take m ks) (λ r v. take_zip IsRangeOf m ks r.cells v.cells) aggs there rows ok ts p g
+group_gives ks m fits aggs there ts p rows ok g = group_by_gives (first_cells ks m fits) aggs there rows ok ts p g

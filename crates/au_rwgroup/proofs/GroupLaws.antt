@@ -5,15 +5,13 @@ use Rattle.std.proofs.Math.Nat.{le_of_eq}
 use Rattle.std.proofs.lemmas.Bool.{leb-true}
 use Rattle.std.proofs.lemmas.List.{length-take-le}
 use Rattle.au_value.specs.declared.kinds.Kind.{Kind}
-use Rattle.au_value.specs.declared.value.Value.{Value}
-use Rattle.au_value.specs.Ranges.{Span, IsRangeOf}
+use Rattle.au_value.specs.Ranges.{Span}
 use Rattle.au_expr.specs.Figures.{Fit}
 use Rattle.au_expr.proofs.Fits.{fit_parts}
 use Rattle.au_algebra.specs.declared.query.Agg.{Agg}
 use Rattle.au_algebra.specs.Bounded as bounded
-use Rattle.au_algebra.specs.Bounded.{RangeRow, Bounded, guessed_keys, grouped}
+use Rattle.au_algebra.specs.Bounded.{Bounded, guessed_keys, grouped}
 use Rattle.au_algebra.specs.Fits.{agg_numbers, group_numbers, triple_numbers}
-use Rattle.au_algebra.specs.Laws.{IsRangeRow}
 use Rattle.au_algebra.specs.Ordinary.{Rows}
 use Rattle.au_algebra.specs.Typing.{all_kinds, agg_kind, group_kinds}
 use Rattle.au_algebra.proofs.GroupRelation.{group_relation}
@@ -24,12 +22,11 @@ use Rattle.au_plain.specs.PlanKinds.{FitTables}
 use Rattle.au_plain.specs.PlanNumbers.{scans, plan_numbers}
 use Rattle.au_encode.specs.Encode.{encoded_kinds}
 use Rattle.au_encode.specs.Gives.{Gives}
-use Rattle.au_encode.proofs.Decoded.{cells_length}
 use Rattle.au_encode.proofs.HeldCells.{AllFit, gives_held}
 use Rattle.au_rwexpr.specs.Counts.{positive}
 use Rattle.au_rwexpr.specs.Flatten.{sg}
 use Rattle.au_rwexpr.specs.Meets.{meets}
-use Rattle.au_rwexpr.proofs.Coded.{rl, rs, rh, own}
+use Rattle.au_rwexpr.proofs.Coded.{own}
 use Rattle.au_rwexpr.proofs.Counting.{scans-extend_all}
 use Rattle.au_rwexpr.proofs.Places.{EndsOfAll}
 use Rattle.au_rwexpr.proofs.PlanNumbersOf.{all_fit}
@@ -37,7 +34,7 @@ use Rattle.au_rwgroup.specs.Gives.{Groups}
 use Rattle.au_rwgroup.specs.Groups.{group_columns, first_grouping}
 use Rattle.au_rwgroup.specs.GroupPlan.{kept_for, places, all_member_columns, all_member_aggs, all_result_columns, second_grouping, group}
 use Rattle.au_rwgroup.proofs.AggregatesOn.{Typed, typed_on, are_on}
-use Rattle.au_rwgroup.proofs.GroupGives.{group_gives, take_there, take_zip}
+use Rattle.au_rwgroup.proofs.GroupGives.{first_cells, group_gives, take_there}
 use Rattle.au_rwgroup.proofs.GroupKinds.{group_typed}
 use Rattle.au_rwgroup.proofs.GroupNumbers.{group_fits}
 
@@ -70,12 +67,6 @@ module _ (kinds : List (List Kind)) (tables : List Rows) (ks : List Kind) (m : �
   abbrev kinds_there : (row : List Kind) (i : ℕ) → EndsOfAll own own own row i ks → EndsOfAll own own own row i (take m ks)
   kinds_there row i e = take_there own own own row i m ks e
 
-  cells_long : (r : RangeRow) → IsRangeRow ks r → length (take m r.cells) ≡ m
-  cells_long r v = length-take-le m r.cells (omega (arith, enough, cells_length IsRangeOf ks r.cells v.cells))
-
-  abbrev cells_there : (r : RangeRow) → IsRangeRow ks r → (row : List Value) (i : ℕ) → EndsOfAll rl rs rh row i r.cells → EndsOfAll rl rs rh row i (take m r.cells)
-  cells_there r v row i e = take_there rl rs rh row i m r.cells e
-
   abbrev own_numbers : List ℤ
   own_numbers = group_numbers (take m) aggs rows ++ triple_numbers (bounded.group m aggs rows)
 
@@ -83,7 +74,7 @@ module _ (kinds : List (List Kind)) (tables : List Rows) (ks : List Kind) (m : �
   numbers_fit f =
       let p = fit_parts ns own_numbers f in
       let q = fit_parts (group_numbers (take m) aggs rows) (triple_numbers (bounded.group m aggs rows)) p.1 in
-      group_fits ks m (take m) cells_long cells_there (take m ks) (λ r v. take_zip IsRangeOf m ks r.cells v.cells) aggs t.on rows g.relation kinds tables of g.typed tables_fit g.encoded
+      group_fits (first_cells ks m enough) aggs t.on rows g.relation kinds tables of g.typed tables_fit g.encoded
       (gives_held kinds tables of ks rows ns g tables_fit p.0) (g.fit p.0) (λ xs h. first_fit m xs h) keys_long kinds_there
       (all_fit (λ key. flat_map (agg_numbers (grouped (take m) rows key)) aggs) (guessed_keys (take m) rows) q.0) q.1
 

@@ -1,17 +1,17 @@
 -- The numbers of Group's plan fit where those of the rows, of the aggregates and of the triples do.
 use Rattle.std.specs.Prelude.{◌≡◌, ℕ, ◌+◌, ◌*◌, List, [], ◌∷◌, ◌++◌, length, map, flat_map, Some, ℤ}
-use Rattle.std.specs.List.{AllByRecursion, AllZip}
+use Rattle.std.specs.List.{AllByRecursion}
 use Rattle.std.proofs.Common.{refl, sym, subst}
 use Rattle.au_value.specs.declared.kinds.Kind.{Kind}
 use Rattle.au_value.specs.declared.value.Value.{Value}
-use Rattle.au_value.specs.Ranges.{Span, IsRangeOf}
+use Rattle.au_value.specs.Ranges.{Span}
 use Rattle.au_expr.specs.Figures.{Fit}
 use Rattle.au_expr.proofs.Fits.{fit_both}
 use Rattle.au_algebra.specs.declared.query.Agg.{Agg}
 use Rattle.au_algebra.specs.declared.query.Agg.TheVariants as agg
 use Rattle.au_algebra.specs.Bounded.{RangeRow, Bounded, group_by, grouped}
 use Rattle.au_algebra.specs.Fits.{agg_numbers, triple_numbers}
-use Rattle.au_algebra.specs.Laws.{IsRangeRow, IsRelation}
+use Rattle.au_algebra.specs.Laws.{IsRelation}
 use Rattle.au_algebra.specs.Ordinary.{Rows}
 use Rattle.au_algebra.proofs.Each.{all_append, all_filter, all_from}
 use Rattle.au_plain.specs.declared.plan.PAgg.{PAgg}
@@ -30,7 +30,7 @@ use Rattle.au_rwexpr.specs.Counts.{positive}
 use Rattle.au_rwexpr.specs.Flatten.{sg}
 use Rattle.au_rwexpr.specs.Meets.{meets}
 use Rattle.au_rwexpr.proofs.Allowed.{all_both}
-use Rattle.au_rwexpr.proofs.Coded.{rl, rs, rh, own}
+use Rattle.au_rwexpr.proofs.Coded.{own}
 use Rattle.au_rwexpr.proofs.Columns.{add_columns}
 use Rattle.au_rwexpr.proofs.Gives.{Gives, HasKinds}
 use Rattle.au_rwexpr.proofs.OnValues.{reading}
@@ -51,6 +51,7 @@ use Rattle.au_rwgroup.proofs.MemberColumns as member
 use Rattle.au_rwgroup.proofs.MemberColumns.{IsOn}
 use Rattle.au_rwgroup.proofs.MemberNumbers as numbers
 use Rattle.au_rwgroup.proofs.SecondRows as second
+use Rattle.au_rwgroup.proofs.KeyReading.{KeyReading}
 
 -- what the first grouping keeps are ends
 kept_ends : (aggs : List Agg) → AllByRecursion IsEnd (flat_map kept_for aggs)
@@ -80,18 +81,18 @@ of_made : {A B : Type 0} (Q : B → Type 0) (g : A → B) (xs : List A) → AllB
 of_made Q g [] h = tt
 of_made Q g (x ∷ xs) h = (h.0, of_made Q g xs h.1)
 
-module _ (ks : List Kind) (k : ℕ) (keys : List Span → List Span) (long : (r : RangeRow) → IsRangeRow ks r → length (keys r.cells) ≡ k) (shifted : (r : RangeRow) → IsRangeRow ks r → (row : List Value) (i : ℕ) → EndsOfAll rl rs rh row i r.cells → EndsOfAll rl rs rh row i (keys r.cells)) (kks : List Kind) (kinded : (r : RangeRow) → IsRangeRow ks r → AllZip IsRangeOf kks (keys r.cells)) (aggs : List Agg) (on : AllByRecursion (OnColumn ks) aggs) (rows : Bounded) (ok : IsRelation ks rows) where
+module _ (by : KeyReading) (aggs : List Agg) (on : AllByRecursion (OnColumn by.ks) aggs) (rows : Bounded) (ok : IsRelation by.ks rows) where
   abbrev more : List PAgg
   more = flat_map kept_for aggs
 
   abbrev c : ℕ
-  c = length ks
+  c = length by.ks
 
   abbrev b : ℕ
-  b = 3 * k + 3 + length more
+  b = 3 * by.k + 3 + length more
 
   abbrev places : Places
-  places = plans.places k b (b + 3 * c)
+  places = plans.places by.k b (b + 3 * c)
 
   abbrev n : ℕ
   n = b + 3 * c + 8
@@ -100,95 +101,92 @@ module _ (ks : List Kind) (k : ℕ) (keys : List Span → List Span) (long : (r 
   Pair = List Value × RangeRow
 
   abbrev IsPair : Pair → Type 0
-  IsPair s = second.IsPair ks k keys long shifted kks kinded more rows ok s
+  IsPair s = second.IsPair by more rows ok s
 
   abbrev IsKey : List Value → Type 0
-  IsKey key = second.IsKey ks k keys long shifted kks kinded more rows ok key
+  IsKey key = second.IsKey by more rows ok key
 
   abbrev joined : Pair → List Value
-  joined s = second.joined ks k keys long shifted kks kinded more rows ok s
+  joined s = second.joined by more rows ok s
 
   abbrev box_row : List Value → List Value
-  box_row key = second.box_row ks k keys long shifted kks kinded more rows ok key
+  box_row key = second.box_row by more rows ok key
 
   abbrev members : List Value → Bounded
-  members key = second.members ks k keys long shifted kks kinded more rows ok key
+  members key = second.members by more rows ok key
 
   abbrev keys_list : Rows
-  keys_list = second.keys_list ks k keys long shifted kks kinded more rows ok
+  keys_list = second.keys_list by more rows ok
 
   abbrev all_keys : AllByRecursion IsKey keys_list
-  all_keys = second.all_keys ks k keys long shifted kks kinded more rows ok
+  all_keys = second.all_keys by more rows ok
 
   abbrev all_pairs : List Pair
-  all_pairs = second.all_pairs ks k keys long shifted kks kinded more rows ok
+  all_pairs = second.all_pairs by more rows ok
 
   abbrev are_there : AllByRecursion (IsOn c) aggs
-  are_there = are_on ks aggs on
+  are_there = are_on by.ks aggs on
 
   abbrev TermsFit : Pair → Type 0
-  TermsFit s = numbers.TermsFit ks k keys long shifted kks kinded aggs are_there rows ok aggs s
+  TermsFit s = numbers.TermsFit by aggs are_there rows ok aggs s
 
   abbrev columns : List PTerm
-  columns = all_member_columns places (3 * k + 3) aggs
+  columns = all_member_columns places (3 * by.k + 3) aggs
 
   abbrev over : List PAgg
   over = all_member_aggs n aggs
 
   abbrev numbers_at : List Value → List ℤ
-  numbers_at key = flat_map (agg_numbers (grouped keys rows key)) aggs
+  numbers_at key = flat_map (agg_numbers (grouped by.keys rows key)) aggs
 
   pair_terms : (js : Rows) → AllByRecursion (λ key. Fit (numbers_at key)) js → AllByRecursion TermsFit (pairs box_row members js)
   pair_terms [] f = tt
   pair_terms (j ∷ js) f =
       all_append TermsFit (with_left box_row members j (members j)) (pairs box_row members js)
-      (all_made (λ r. TermsFit (j, r)) TermsFit (λ r. (j, r)) (members j) (numbers.key_terms ks k keys long shifted kks kinded aggs are_there rows ok j aggs f.0) (λ r h. h))
+      (all_made (λ r. TermsFit (j, r)) TermsFit (λ r. (j, r)) (members j) (numbers.key_terms by aggs are_there rows ok j aggs f.0) (λ r h. h))
       (pair_terms js f.1)
 
-  module _ (tk : List (List Kind)) (ts : List Rows) (p : PlanTree) (typed : HasKinds tk p ks) (tables : FitTables ts) (g : Gives ts p rows) (held : AllFitRows rows) (np : Fit (plan_numbers p ts)) (part : (xs : List Span) → AllFit xs → AllFit (keys xs)) (kks_long : length kks ≡ k) (kind_part : (row : List Kind) (i : ℕ) → EndsOfAll own own own row i ks → EndsOfAll own own own row i kks) (sums : AllByRecursion (λ key. Fit (numbers_at key)) keys_list) (triples : Fit (triple_numbers (group_by keys aggs rows))) where
-    abbrev there : (r : RangeRow) → IsRangeRow ks r → (row : List Value) → EndsOfAll rl rs rh row 0 r.cells → EndsOfAll rl rs rh row 0 (keys r.cells)
-    there r v row e = shifted r v row 0 e
-
+  module _ (tk : List (List Kind)) (ts : List Rows) (p : PlanTree) (typed : HasKinds tk p by.ks) (tables : FitTables ts) (g : Gives ts p rows) (held : AllFitRows rows) (np : Fit (plan_numbers p ts)) (part : (xs : List Span) → AllFit xs → AllFit (by.keys xs)) (kks_long : length by.kks ≡ by.k) (kind_part : (row : List Kind) (i : ℕ) → EndsOfAll own own own row i by.ks → EndsOfAll own own own row i by.kks) (sums : AllByRecursion (λ key. Fit (numbers_at key)) keys_list) (triples : Fit (triple_numbers (group_by by.keys aggs rows))) where
     abbrev boxes : PlanTree
-    boxes = first_grouping c k more p
+    boxes = first_grouping c by.k more p
 
     boxes_fit : Fit (plan_numbers boxes ts)
     boxes_fit =
-        first.first_fits_ends ks k keys long there ts p more rows (kept_ends aggs) ok g (first.held_keys ks k keys long there part rows held)
-        (first.group_triples ks k keys long there aggs rows ok triples) np
+        first.first_fits_ends by ts p more rows (kept_ends aggs) ok g (first.held_keys by part rows held)
+        (first.group_triples by aggs rows ok triples) np
 
     boxes_are : plain_rows boxes ts ≡ map box_row keys_list
-    boxes_are = first_rows ks k keys long there ts p more rows ok g
+    boxes_are = first_rows by ts p more rows ok g
 
     box_rows_fit : FitRows (plain_rows boxes ts)
-    box_rows_fit = rows_fit tk (kinds_of.box_kinds ks kks k kks_long kind_part aggs on) boxes ts (kinds_of.boxes_typed ks kks k kks_long kind_part aggs on tk p typed) tables boxes_fit
+    box_rows_fit = rows_fit tk (kinds_of.box_kinds by.ks by.kks by.k kks_long kind_part aggs on) boxes ts (kinds_of.boxes_typed by.ks by.kks by.k kks_long kind_part aggs on tk p typed) tables boxes_fit
 
     abbrev pair_rows : Rows
     pair_rows = flat_map (λ x. map (λ y. x ++ y) (plain_rows p ts)) (plain_rows boxes ts)
 
     pair_rows_fit : FitRows pair_rows
-    pair_rows_fit = pairs_fit (plain_rows boxes ts) (plain_rows p ts) box_rows_fit (rows_fit tk (encoded_kinds ks) p ts typed tables np)
+    pair_rows_fit = pairs_fit (plain_rows boxes ts) (plain_rows p ts) box_rows_fit (rows_fit tk (encoded_kinds by.ks) p ts typed tables np)
 
     abbrev join : PlanTree
-    join = Join (meets b 0 k) boxes p
+    join = Join (meets b 0 by.k) boxes p
 
     join_fits : Fit (plan_numbers join ts)
     join_fits =
-        fit_both (plan_numbers boxes ts ++ plan_numbers p ts) (flat_map (term_numbers (meets b 0 k)) pair_rows) (fit_both (plan_numbers boxes ts) (plan_numbers p ts) boxes_fit np)
-        (fit_all (term_numbers (meets b 0 k)) pair_rows (all_from RowFits (λ row. Fit (term_numbers (meets b 0 k) row)) pair_rows (λ row f. reads_fit (meets b 0 k) row f (meets_reads b 0 k)) pair_rows_fit))
+        fit_both (plan_numbers boxes ts ++ plan_numbers p ts) (flat_map (term_numbers (meets b 0 by.k)) pair_rows) (fit_both (plan_numbers boxes ts) (plan_numbers p ts) boxes_fit np)
+        (fit_all (term_numbers (meets b 0 by.k)) pair_rows (all_from RowFits (λ row. Fit (term_numbers (meets b 0 by.k) row)) pair_rows (λ row f. reads_fit (meets b 0 by.k) row f (meets_reads b 0 by.k)) pair_rows_fit))
 
     joined_are : plain_rows join ts ≡ map joined all_pairs
-    joined_are = second.joined_rows ks k keys long shifted kks kinded more rows ok ts boxes p boxes_are g
+    joined_are = second.joined_rows by more rows ok ts boxes p boxes_are g
 
     joined_fit : AllByRecursion (λ s. RowFits (joined s)) all_pairs
-    joined_fit = of_made RowFits joined all_pairs (subst FitRows joined_are (all_filter RowFits (passes (meets b 0 k)) pair_rows pair_rows_fit))
+    joined_fit = of_made RowFits joined all_pairs (subst FitRows joined_are (all_filter RowFits (passes (meets b 0 by.k)) pair_rows pair_rows_fit))
 
     abbrev Sound : Pair → Type 0
     Sound s = IsPair s × (RowFits (joined s) × TermsFit s)
 
     all_sound : AllByRecursion Sound all_pairs
     all_sound =
-        all_both IsPair (λ s. RowFits (joined s) × TermsFit s) all_pairs (second.pairs_ok ks k keys long shifted kks kinded more rows ok keys_list all_keys)
+        all_both IsPair (λ s. RowFits (joined s) × TermsFit s) all_pairs (second.pairs_ok by more rows ok keys_list all_keys)
         (all_both (λ s. RowFits (joined s)) TermsFit all_pairs joined_fit (pair_terms keys_list sums))
 
     wider_fit : Fit (plan_numbers (extend_all columns join) ts)
@@ -196,19 +194,19 @@ module _ (ks : List Kind) (k : ℕ) (keys : List Span → List Span) (long : (r 
         numbers-extend_all ts columns join join_fits
         (subst (λ rs. AllByRecursion (λ row. Fit (grow_numbers columns row)) rs) (sym joined_are)
         (all_made Sound (λ row. Fit (grow_numbers columns row)) joined all_pairs all_sound
-        (λ s q. numbers.columns_fit ks k keys long shifted kks kinded aggs are_there rows ok s q.0 (rows_of.kept_there ks k keys long shifted kks kinded aggs are_there rows ok s q.0) q.1.0 q.1.1)))
+        (λ s q. numbers.columns_fit by aggs are_there rows ok s q.0 (rows_of.kept_there by aggs are_there rows ok s q.0) q.1.0 q.1.1)))
 
     abbrev wide : Pair → List Value
-    wide s = rows_of.wide ks k keys long shifted kks kinded aggs are_there rows ok s
+    wide s = rows_of.wide by aggs are_there rows ok s
 
     abbrev added : Pair → List Value
-    added s = member.all_values ks k keys long shifted kks kinded more rows ok aggs s
+    added s = member.all_values by more rows ok aggs s
 
     each_added : (s : Pair) → IsPair s → add_columns reading columns (joined s) ≡ Some (joined s ++ added s)
-    each_added s v = member.members_added ks k keys long shifted kks kinded more rows ok s v (3 * k + 3) aggs are_there (rows_of.kept_there ks k keys long shifted kks kinded aggs are_there rows ok s v)
+    each_added s v = member.members_added by more rows ok s v (3 * by.k + 3) aggs are_there (rows_of.kept_there by aggs are_there rows ok s v)
 
     abbrev grouped_plan : PlanTree
-    grouped_plan = second_grouping k b columns over boxes p
+    grouped_plan = second_grouping by.k b columns over boxes p
 
     abbrev sizes : List Value → List ℤ
     sizes key = flat_map (magnitudes (map wide (with_left box_row members key (members key)))) over
@@ -217,24 +215,24 @@ module _ (ks : List Kind) (k : ℕ) (keys : List Span → List Span) (long : (r 
     sizes_fit =
         fit_all sizes keys_list
         (all_from (λ key. IsKey key × Fit (numbers_at key)) (λ key. Fit (sizes key)) keys_list
-        (λ key q. numbers.over_fits ks k keys long shifted kks kinded aggs are_there rows ok key q.0 n aggs (λ r v. rows_of.wide_at ks k keys long shifted kks kinded aggs are_there rows ok (key, r) q.0 v) q.1)
+        (λ key q. numbers.over_fits by aggs are_there rows ok key q.0 n aggs (λ r v. rows_of.wide_at by aggs are_there rows ok (key, r) q.0 v) q.1)
         (all_both IsKey (λ key. Fit (numbers_at key)) keys_list all_keys sums))
 
     grouped_fit : Fit (plan_numbers grouped_plan ts)
     grouped_fit =
         fit_both (plan_numbers (extend_all columns join) ts) (plain.group_numbers (run 0 b) over (plain_rows (extend_all columns join) ts)) wider_fit
-        (subst (λ rs. Fit (plain.group_numbers (run 0 b) over rs)) (sym (second.wide_rows ks k keys long shifted kks kinded more rows ok columns added each_added over ts boxes p boxes_are g))
-        (subst (λ ns. Fit ns) (sym (second.second_numbers ks k keys long shifted kks kinded more rows ok columns added each_added over)) sizes_fit))
+        (subst (λ rs. Fit (plain.group_numbers (run 0 b) over rs)) (sym (second.wide_rows by more rows ok columns added each_added over ts boxes p boxes_are g))
+        (subst (λ ns. Fit ns) (sym (second.second_numbers by more rows ok columns added each_added over)) sizes_fit))
 
     grouped_rows_fit : FitRows (plain_rows grouped_plan ts)
     grouped_rows_fit =
-        rows_fit tk (kinds_of.grouped_kinds ks kks k kks_long kind_part aggs on) grouped_plan ts
-        (kinds_of.second_kinds ks kks k kks_long kind_part aggs on tk boxes p (kinds_of.boxes_typed ks kks k kks_long kind_part aggs on tk p typed) typed) tables grouped_fit
+        rows_fit tk (kinds_of.grouped_kinds by.ks by.kks by.k kks_long kind_part aggs on) grouped_plan ts
+        (kinds_of.second_kinds by.ks by.kks by.k kks_long kind_part aggs on tk boxes p (kinds_of.boxes_typed by.ks by.kks by.k kks_long kind_part aggs on tk p typed) typed) tables grouped_fit
 
     -- Group's plan adds no number that does not fit.
-    pub group_fits : Fit (plan_numbers (group c k aggs p) ts)
+    pub group_fits : Fit (plan_numbers (group c by.k aggs p) ts)
     group_fits =
-        let finish = all_result_columns (positive (Column (b + 4 * length aggs))) (positive (sg (3 * k))) b aggs in
-        let reads = results_read (positive (Column (b + 4 * length aggs))) (positive (sg (3 * k))) b aggs (refl, tt) (refl, tt) in
+        let finish = all_result_columns (positive (Column (b + 4 * length aggs))) (positive (sg (3 * by.k))) b aggs in
+        let reads = results_read (positive (Column (b + 4 * length aggs))) (positive (sg (3 * by.k))) b aggs (refl, tt) (refl, tt) in
         numbers-extend_all ts finish grouped_plan grouped_fit
         (all_from RowFits (λ row. Fit (grow_numbers finish row)) (plain_rows grouped_plan ts) (λ row f. reading_columns finish row f reads) grouped_rows_fit)

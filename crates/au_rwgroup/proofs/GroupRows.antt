@@ -1,10 +1,9 @@
 -- Group's plan gives the rows of the bounded operator.
 use Rattle.std.specs.Prelude.{◌≡◌, ℕ, ◌+◌, ◌*◌, ◌≤◌, ◌<◌, Bool, true, false, List, [], ◌∷◌, ◌++◌, length, map, filter, flat_map, ◌&&◌, ℤ, pos, nat_le, Some, unwrap_or, if◌then◌else◌}
-use Rattle.std.specs.List.{AllByRecursion, AllZip, list_any}
+use Rattle.std.specs.List.{AllByRecursion, list_any}
 use Rattle.std.proofs.Common.{arith, refl, sym, ◌∙◌, ap, subst, append_assoc}
 use Rattle.std.proofs.lemmas.Bool.{and_parts}
 use Rattle.std.proofs.lemmas.List.{length-append, length-map, append-nil}
-use Rattle.au_value.specs.declared.kinds.Kind.{Kind}
 use Rattle.au_value.specs.declared.value.Value.{Value}
 use Rattle.au_value.specs.declared.value.Value.TheVariants as value
 use Rattle.au_value.specs.Order.{below, at_most}
@@ -54,17 +53,21 @@ use Rattle.au_rwgroup.proofs.Defaults.{nonempty, any_filter, or_else_is, least_i
 use Rattle.au_rwgroup.proofs.Narrowed.{from_filter, narrowed}
 use Rattle.au_rwexpr.proofs.Allowed.{all_both}
 use Rattle.au_rwexpr.proofs.Coded.{rl, rs, rh, cl, cg, cm}
+use Rattle.au_rwgroup.proofs.KeyReading.{KeyReading}
 
+-- four columns for each aggregate, and one for the sure members
 member_aggs_long : (m : ℕ) (bs : List Agg) → length (all_member_aggs m bs) ≡ 4 * length bs + 1
 member_aggs_long m [] = refl
 member_aggs_long m (agg.Sum d ∷ bs) = omega (arith, member_aggs_long (m + 4) bs)
 member_aggs_long m (agg.Min d ∷ bs) = omega (arith, member_aggs_long (m + 4) bs)
 member_aggs_long m (agg.Max d ∷ bs) = omega (arith, member_aggs_long (m + 4) bs)
 
+-- 1 or 0 is at least 1 where it is 1
 one_if : (b : Bool) → nat_le 1 (if b then 1 else 0) ≡ b
 one_if true = refl
 one_if false = refl
 
+-- the three ends of a range whose guess counts only where the group is guessed
 low_of : (t : Bool) (r : Span) → r.lo ≡ (guess_if t r).lo
 low_of true r = refl
 low_of false r = refl
@@ -77,43 +80,51 @@ guess_of : (t : Bool) (r : Span) → (if t then r.sg else r.lo) ≡ (guess_if t 
 guess_of true r = refl
 guess_of false r = refl
 
-module _ (ks : List Kind) (k : ℕ) (keys : List Span → List Span) (long : (r : RangeRow) → IsRangeRow ks r → length (keys r.cells) ≡ k) (shifted : (r : RangeRow) → IsRangeRow ks r → (row : List Value) (i : ℕ) → EndsOfAll rl rs rh row i r.cells → EndsOfAll rl rs rh row i (keys r.cells)) (kks : List Kind) (kinded : (r : RangeRow) → IsRangeRow ks r → AllZip IsRangeOf kks (keys r.cells)) (aggs : List Agg) (ok_aggs : AllByRecursion (IsOn (length ks)) aggs) (rows : Bounded) (ok : IsRelation ks rows) where
+module _ (by : KeyReading) (aggs : List Agg) (ok_aggs : AllByRecursion (IsOn (length by.ks)) aggs) (rows : Bounded) (ok : IsRelation by.ks rows) where
   abbrev c : ℕ
-  c = length ks
+  c = length by.ks
 
   abbrev more : List PAgg
   more = flat_map kept_for aggs
 
   abbrev b : ℕ
-  b = 3 * k + 3 + length more
+  b = 3 * by.k + 3 + length more
 
   abbrev n : ℕ
   n = b + 3 * c + 8
 
   abbrev places : Places
-  places = record { keys = k; row = b; triple = b + 3 * c }
+  places = record { keys = by.k; row = b; triple = b + 3 * c }
 
   abbrev box_row : List Value → List Value
-  box_row key = second.box_row ks k keys long shifted kks kinded more rows ok key
+  box_row key = second.box_row by more rows ok key
 
   abbrev members : List Value → Bounded
-  members key = second.members ks k keys long shifted kks kinded more rows ok key
+  members key = second.members by more rows ok key
 
+  abbrev overlaps : List Value → RangeRow → Bool
+  overlaps key r = second.overlaps by more rows ok key r
+
+  -- a key that occurs
   abbrev IsKey : List Value → Type 0
-  IsKey key = second.IsKey ks k keys long shifted kks kinded more rows ok key
+  IsKey key = second.IsKey by more rows ok key
+
+  -- what is kept of the rows that belong to a box
+  abbrev keep : List Value → PAgg → Value
+  keep key a = member.keep by more rows ok key a
 
   abbrev values : List Agg → List Value × RangeRow → List Value
-  values bs s = member.values ks k keys long shifted kks kinded more rows ok bs s
+  values bs s = member.values by more rows ok bs s
 
   abbrev joined : List Value × RangeRow → List Value
   joined s = box_row s.0 ++ encode_row s.1
 
   -- what the tests and the weights say of a pair
   abbrev tests : List Value × RangeRow → List Value
-  tests s = member.test_values ks k keys long shifted kks kinded more rows ok s
+  tests s = member.test_values by more rows ok s
 
   abbrev weights : List Value × RangeRow → List Value
-  weights s = member.weight_values ks k keys long shifted kks kinded more rows ok s
+  weights s = member.weight_values by more rows ok s
 
   abbrev added : List Value × RangeRow → List Value
   added s = tests s ++ (weights s ++ values aggs s)
@@ -122,22 +133,22 @@ module _ (ks : List Kind) (k : ℕ) (keys : List Span → List Span) (long : (r 
   wide s = joined s ++ added s
 
   abbrev g : List Value → Grouped
-  g key = bounded.grouped keys rows key
+  g key = bounded.grouped by.keys rows key
 
   abbrev belongs : List Value → RangeRow → Bool
-  belongs key r = same_row key (guesses (keys r.cells))
+  belongs key r = same_row key (guesses (by.keys r.cells))
 
   abbrev v1 : Agg → List Value → RangeRow → Value
-  v1 a key r = member.value_1 ks k keys long shifted kks kinded more rows ok a (key, r)
+  v1 a key r = member.value_1 by more rows ok a (key, r)
 
   abbrev v2 : Agg → List Value → RangeRow → Value
-  v2 a key r = member.value_2 ks k keys long shifted kks kinded more rows ok a (key, r)
+  v2 a key r = member.value_2 by more rows ok a (key, r)
 
   abbrev v3 : Agg → List Value → RangeRow → Value
-  v3 a key r = member.value_3 ks k keys long shifted kks kinded more rows ok a (key, r)
+  v3 a key r = member.value_3 by more rows ok a (key, r)
 
   abbrev v4 : Agg → List Value → RangeRow → Value
-  v4 a key r = member.value_4 ks k keys long shifted kks kinded more rows ok a (key, r)
+  v4 a key r = member.value_4 by more rows ok a (key, r)
 
   -- a certain member with a copy in every world
   abbrev is_there : List Value → RangeRow → Bool
@@ -148,6 +159,7 @@ module _ (ks : List Kind) (k : ℕ) (keys : List Span → List Span) (long : (r 
   ValuesAt row m s [] = At row m (counted (is_there s.0 s.1))
   ValuesAt row m s (a ∷ bs) = (At row m (v1 a s.0 s.1) × At row (m + 1) (v2 a s.0 s.1) × At row (m + 2) (v3 a s.0 s.1) × At row (m + 3) (v4 a s.0 s.1)) × ValuesAt row (m + 4) s bs
 
+  -- the columns of a member stand behind any front
   values_at : (pre : List Value) (m : ℕ) (s : List Value × RangeRow) (bs : List Agg) → length pre ≡ m → ValuesAt (pre ++ values bs s) m s bs
   values_at pre m s [] e = at_past pre (values [] s) 0 m _ (omega (arith, e)) refl
   values_at pre m s (a ∷ bs) e =
@@ -161,13 +173,14 @@ module _ (ks : List Kind) (k : ℕ) (keys : List Span → List Span) (long : (r 
         subst (λ row. ValuesAt row (m + 4) s bs) (append_assoc pre four (values bs s)) (values_at (pre ++ four) (m + 4) s bs (omega (arith, e, length-append pre four))),
       )
 
-  joined_long : (s : List Value × RangeRow) → IsKey s.0 → IsRangeRow ks s.1 → length (joined s) ≡ b + (3 * c + 3)
+  -- how long a box with a member is
+  joined_long : (s : List Value × RangeRow) → IsKey s.0 → IsRangeRow by.ks s.1 → length (joined s) ≡ b + (3 * c + 3)
   joined_long s some v =
-      let front = second.box_row_long ks k keys long shifted kks kinded more rows ok s.0 some in
-      omega (arith, length-append (box_row s.0) (encode_row s.1), front, coded_long rl rs rh cl cg cm c s.1.cells s.1.annot (cells_length IsRangeOf ks s.1.cells v.cells))
+      let front = second.box_row_long by more rows ok s.0 some in
+      omega (arith, length-append (box_row s.0) (encode_row s.1), front, coded_long rl rs rh cl cg cm c s.1.cells s.1.annot (cells_length IsRangeOf by.ks s.1.cells v.cells))
 
   -- the values behind the tests and the weights
-  pub wide_at : (s : List Value × RangeRow) → IsKey s.0 → IsRangeRow ks s.1 → ValuesAt (wide s) n s aggs
+  pub wide_at : (s : List Value × RangeRow) → IsKey s.0 → IsRangeRow by.ks s.1 → ValuesAt (wide s) n s aggs
   wide_at s some v =
       let tested = joined s ++ tests s in
       let front = tested ++ weights s in
@@ -191,6 +204,7 @@ module _ (ks : List Kind) (k : ℕ) (keys : List Span → List Span) (long : (r 
   r3 (agg.Min d) key = least (map (v3 (agg.Min d) key) (members key))
   r3 (agg.Max d) key = greatest (map (v3 (agg.Max d) key) (members key))
 
+  -- a sum has no fourth
   abbrev FourthAt : List Value → ℕ → List Value → Agg → Type 0
   FourthAt row i key (agg.Sum d) = Unit {0}
   FourthAt row i key (agg.Min d) = At row i (greatest (map (v4 (agg.Min d) key) (members key)))
@@ -201,66 +215,76 @@ module _ (ks : List Kind) (k : ℕ) (keys : List Span → List Span) (long : (r 
   ResultsAt row z key [] = At row z (counted (list_any (is_there key) (members key)))
   ResultsAt row z key (a ∷ bs) = (At row z (r1 a key) × At row (z + 1) (r2 a key) × At row (z + 2) (r3 a key) × FourthAt row (z + 3) key a) × ResultsAt row (z + 4) key bs
 
+  -- the last result
   last_at : (row : List Value) (z : ℕ) (key : List Value) (bs : List Agg) → ResultsAt row z key bs → At row (z + 4 * length bs) (counted (list_any (is_there key) (members key)))
   last_at row z key [] at = subst (λ i. At row i (counted (list_any (is_there key) (members key)))) (let e : z ≡ z + 0 = omega arith in e) at
   last_at row z key (a ∷ bs) at =
       subst (λ i. At row i (counted (list_any (is_there key) (members key)))) (let e : z + 4 + 4 * length bs ≡ z + 4 * length (a ∷ bs) = omega arith in e) (last_at row (z + 4) key bs at.1)
 
+  -- an aggregate over the rows of a box with its members
   abbrev over : List Value → PAgg → Value
   over key = plain_aggregate (map wide (with_left box_row members key (members key)))
 
-  members_ok : (key : List Value) → IsRelation ks (members key)
-  members_ok key = all_filter (IsRangeRow ks) (second.overlaps ks k keys long shifted kks kinded more rows ok key) rows ok
+  -- the members are rows of the kinds
+  members_ok : (key : List Value) → IsRelation by.ks (members key)
+  members_ok key = all_filter (IsRangeRow by.ks) (overlaps key) rows ok
 
   -- a column of the members
-  column_over : (key : List Value) (i : ℕ) (f : RangeRow → Value) → ((r : RangeRow) → IsRangeRow ks r → At (wide (key, r)) i (f r)) → map (λ row. value_at row i) (map wide (with_left box_row members key (members key))) ≡ map f (members key)
+  column_over : (key : List Value) (i : ℕ) (f : RangeRow → Value) → ((r : RangeRow) → IsRangeRow by.ks r → At (wide (key, r)) i (f r)) → map (λ row. value_at row i) (map wide (with_left box_row members key (members key))) ≡ map f (members key)
   column_over key i f at =
       ap (map (λ row. value_at row i)) (map-map (λ r. (key, r)) wide (members key))
       ∙ map-map (λ r. wide (key, r)) (λ row. value_at row i) (members key)
-      ∙ map_valid (IsRangeRow ks) (λ r. value_at (wide (key, r)) i) f (members key) (members_ok key) (λ r v. ap (λ o. unwrap_or o (value.Int (pos 0))) (at r v))
+      ∙ map_valid (IsRangeRow by.ks) (λ r. value_at (wide (key, r)) i) f (members key) (members_ok key) (λ r v. ap (λ o. unwrap_or o (value.Int (pos 0))) (at r v))
 
-  one_int : (key : List Value) (i : ℕ) (f : RangeRow → ℤ) → ((r : RangeRow) → IsRangeRow ks r → At (wide (key, r)) i (value.Int (f r))) → over key (Sum i) ≡ value.Int (int_sum (map f (members key)))
+  -- a sum, a least and a greatest over the members
+  one_int : (key : List Value) (i : ℕ) (f : RangeRow → ℤ) → ((r : RangeRow) → IsRangeRow by.ks r → At (wide (key, r)) i (value.Int (f r))) → over key (Sum i) ≡ value.Int (int_sum (map f (members key)))
   one_int key i f at =
       ap value.Int (ap int_sum (ap (map (λ row. number (value_at row i))) (map-map (λ r. (key, r)) wide (members key))
       ∙ map-map (λ r. wide (key, r)) (λ row. number (value_at row i)) (members key)
-      ∙ map_valid (IsRangeRow ks) (λ r. number (value_at (wide (key, r)) i)) f (members key) (members_ok key)
+      ∙ map_valid (IsRangeRow by.ks) (λ r. number (value_at (wide (key, r)) i)) f (members key) (members_ok key)
       (λ r v. ap (λ o. number (unwrap_or o (value.Int (pos 0)))) (at r v))))
 
-  one_least : (key : List Value) (i : ℕ) (f : RangeRow → Value) → ((r : RangeRow) → IsRangeRow ks r → At (wide (key, r)) i (f r)) → over key (Min i) ≡ least (map f (members key))
+  one_least : (key : List Value) (i : ℕ) (f : RangeRow → Value) → ((r : RangeRow) → IsRangeRow by.ks r → At (wide (key, r)) i (f r)) → over key (Min i) ≡ least (map f (members key))
   one_least key i f at = ap least (column_over key i f at)
 
-  one_greatest : (key : List Value) (i : ℕ) (f : RangeRow → Value) → ((r : RangeRow) → IsRangeRow ks r → At (wide (key, r)) i (f r)) → over key (Max i) ≡ greatest (map f (members key))
+  one_greatest : (key : List Value) (i : ℕ) (f : RangeRow → Value) → ((r : RangeRow) → IsRangeRow by.ks r → At (wide (key, r)) i (f r)) → over key (Max i) ≡ greatest (map f (members key))
   one_greatest key i f at = ap greatest (column_over key i f at)
 
-  -- four results behind a front, and those that follow
-  four_at : (pre more : List Value) (z : ℕ) (a b c d : Value) → length pre ≡ z → At (pre ++ (a ∷ b ∷ c ∷ d ∷ more)) z a × At (pre ++ (a ∷ b ∷ c ∷ d ∷ more)) (z + 1) b × At (pre ++ (a ∷ b ∷ c ∷ d ∷ more)) (z + 2) c × At (pre ++ (a ∷ b ∷ c ∷ d ∷ more)) (z + 3) d
-  four_at pre more z a b c d e =
-      let tail = a ∷ b ∷ c ∷ d ∷ more in (
-        at_past pre tail 0 z _ (omega (arith, e)) refl,
-        at_past pre tail 1 (z + 1) _ (omega (arith, e)) refl,
-        at_past pre tail 2 (z + 2) _ (omega (arith, e)) refl,
-        at_past pre tail 3 (z + 3) _ (omega (arith, e)) refl,
+  -- four results behind a front, each with what it is
+  four_at : (pre rest : List Value) (z : ℕ) (a b c d p q r s : Value) → length pre ≡ z → a ≡ p → b ≡ q → c ≡ r → d ≡ s → At (pre ++ (a ∷ b ∷ c ∷ d ∷ rest)) z p × At (pre ++ (a ∷ b ∷ c ∷ d ∷ rest)) (z + 1) q × At (pre ++ (a ∷ b ∷ c ∷ d ∷ rest)) (z + 2) r × At (pre ++ (a ∷ b ∷ c ∷ d ∷ rest)) (z + 3) s
+  four_at pre rest z a b c d p q r s e one two three four =
+      let tail = a ∷ b ∷ c ∷ d ∷ rest in
+      let row = pre ++ tail in (
+        subst (λ y. At row z y) one (at_past pre tail 0 z _ (omega (arith, e)) refl),
+        subst (λ y. At row (z + 1) y) two (at_past pre tail 1 (z + 1) _ (omega (arith, e)) refl),
+        subst (λ y. At row (z + 2) y) three (at_past pre tail 2 (z + 2) _ (omega (arith, e)) refl),
+        subst (λ y. At row (z + 3) y) four (at_past pre tail 3 (z + 3) _ (omega (arith, e)) refl),
       )
 
-  results_at : (key : List Value) → IsKey key → (some_member : RangeRow) (other_members : Bounded) → members key ≡ some_member ∷ other_members → (pre : List Value) (z m : ℕ) (bs : List Agg) → length pre ≡ z → ((r : RangeRow) → IsRangeRow ks r → ValuesAt (wide (key, r)) m (key, r) bs) → ResultsAt (pre ++ map (over key) (all_member_aggs m bs)) z key bs
-  results_at key some x xs is pre z m [] e at =
+  -- whether a sure member is there, behind all results
+  sure_at : (key : List Value) (some_member : RangeRow) (other_members : Bounded) → members key ≡ some_member ∷ other_members → (pre : List Value) (z m : ℕ) → length pre ≡ z → ((r : RangeRow) → IsRangeRow by.ks r → ValuesAt (wide (key, r)) m (key, r) []) → ResultsAt (pre ++ map (over key) (all_member_aggs m [])) z key []
+  sure_at key x xs is pre z m e at =
+      let sure = λ (r : RangeRow). counted (is_there key r) in
       subst (λ y. At (pre ++ map (over key) (all_member_aggs m [])) z y)
-      (one_greatest key m (λ r. counted (is_there key r)) at ∙ subst (λ ms. greatest (map (λ r. counted (is_there key r)) ms) ≡ counted (list_any (is_there key) ms)) (sym is) (greatest_counted (is_there key) x xs))
+      (one_greatest key m sure at ∙ subst (λ ms. greatest (map sure ms) ≡ counted (list_any (is_there key) ms)) (sym is) (greatest_counted (is_there key) x xs))
       (at_past pre (map (over key) (all_member_aggs m [])) 0 z _ (omega (arith, e)) refl)
+
+  -- the guessed sum of the members is that of the rows that belong
+  guessed_sum : (key : List Value) → IsKey key → (d : ℕ) → int_sum (map (λ r. if belongs key r then guess_term d r else pos 0) (members key)) ≡ int_sum (map (guess_term d) (filter (belongs key) rows))
+  guessed_sum key some d =
+      sum_same (IsRangeRow by.ks) (overlaps key) (belongs key) (guess_term d) (λ r v h. second.belongs_overlaps by more rows ok key some r v h) rows ok
+
+  -- the results of a box, four of each aggregate
+  results_at : (key : List Value) → IsKey key → (some_member : RangeRow) (other_members : Bounded) → members key ≡ some_member ∷ other_members → (pre : List Value) (z m : ℕ) (bs : List Agg) → length pre ≡ z → ((r : RangeRow) → IsRangeRow by.ks r → ValuesAt (wide (key, r)) m (key, r) bs) → ResultsAt (pre ++ map (over key) (all_member_aggs m bs)) z key bs
+  results_at key some x xs is pre z m [] e at = sure_at key x xs is pre z m e at
   results_at key some x xs is pre z m (agg.Sum d ∷ bs) e at =
       let l = one_int key m (lower_term (g key) d) (λ r v. (at r v).0.0) in
-      let s = one_int key (m + 1) (λ r. if belongs key r then guess_term d r else pos 0) (λ r v. (at r v).0.1)
-      ∙ ap value.Int (sum_same (IsRangeRow ks) (second.overlaps ks k keys long shifted kks kinded more rows ok key) (belongs key) (guess_term d) (λ r v h. second.belongs_overlaps ks k keys long shifted kks kinded more rows ok key some r v h) rows ok) in
+      let s = one_int key (m + 1) (λ r. if belongs key r then guess_term d r else pos 0) (λ r v. (at r v).0.1) ∙ ap value.Int (guessed_sum key some d) in
       let u = one_int key (m + 2) (upper_term (g key) d) (λ r v. (at r v).0.2) in
-      let row = pre ++ map (over key) (all_member_aggs m (agg.Sum d ∷ bs)) in
       let rest = map (over key) (all_member_aggs (m + 4) bs) in
-      let a1 = over key (Sum m) in
-      let a2 = over key (Sum (m + 1)) in
-      let a3 = over key (Sum (m + 2)) in
-      let a4 = over key (Sum (m + 3)) in
-      let t = four_at pre rest z a1 a2 a3 a4 e in
-      let four = a1 ∷ a2 ∷ a3 ∷ a4 ∷ [] in (
-        (subst (λ y. At row z y) l t.0, subst (λ y. At row (z + 1) y) s t.1, subst (λ y. At row (z + 2) y) u t.2, tt),
+      let four = over key (Sum m) ∷ over key (Sum (m + 1)) ∷ over key (Sum (m + 2)) ∷ over key (Sum (m + 3)) ∷ [] in
+      let t = four_at pre rest z (over key (Sum m)) (over key (Sum (m + 1))) (over key (Sum (m + 2))) (over key (Sum (m + 3))) _ _ _ _ e l s u refl in (
+        (t.0, t.1, t.2, tt),
         subst (λ r. ResultsAt r (z + 4) key bs) (append_assoc pre four rest)
             (results_at key some x xs is (pre ++ four) (z + 4) (m + 4) bs (omega (arith, e, length-append pre four)) (λ r v. (at r v).1)),
       )
@@ -269,15 +293,9 @@ module _ (ks : List Kind) (k : ℕ) (keys : List Span → List Span) (long : (r 
       let s = one_least key (m + 1) (v2 (agg.Min d) key) (λ r v. (at r v).0.1) in
       let u = one_least key (m + 2) (v3 (agg.Min d) key) (λ r v. (at r v).0.2) in
       let w = one_greatest key (m + 3) (v4 (agg.Min d) key) (λ r v. (at r v).0.3) in
-      let row = pre ++ map (over key) (all_member_aggs m (agg.Min d ∷ bs)) in
       let rest = map (over key) (all_member_aggs (m + 4) bs) in
-      let a1 = over key (Min m) in
-      let a2 = over key (Min (m + 1)) in
-      let a3 = over key (Min (m + 2)) in
-      let a4 = over key (Max (m + 3)) in
-      let t = four_at pre rest z a1 a2 a3 a4 e in
-      let four = a1 ∷ a2 ∷ a3 ∷ a4 ∷ [] in (
-        (subst (λ y. At row z y) l t.0, subst (λ y. At row (z + 1) y) s t.1, subst (λ y. At row (z + 2) y) u t.2, subst (λ y. At row (z + 3) y) w t.3),
+      let four = over key (Min m) ∷ over key (Min (m + 1)) ∷ over key (Min (m + 2)) ∷ over key (Max (m + 3)) ∷ [] in (
+        four_at pre rest z (over key (Min m)) (over key (Min (m + 1))) (over key (Min (m + 2))) (over key (Max (m + 3))) _ _ _ _ e l s u w,
         subst (λ r. ResultsAt r (z + 4) key bs) (append_assoc pre four rest)
             (results_at key some x xs is (pre ++ four) (z + 4) (m + 4) bs (omega (arith, e, length-append pre four)) (λ r v. (at r v).1)),
       )
@@ -286,15 +304,9 @@ module _ (ks : List Kind) (k : ℕ) (keys : List Span → List Span) (long : (r 
       let s = one_greatest key (m + 1) (v2 (agg.Max d) key) (λ r v. (at r v).0.1) in
       let u = one_greatest key (m + 2) (v3 (agg.Max d) key) (λ r v. (at r v).0.2) in
       let w = one_least key (m + 3) (v4 (agg.Max d) key) (λ r v. (at r v).0.3) in
-      let row = pre ++ map (over key) (all_member_aggs m (agg.Max d ∷ bs)) in
       let rest = map (over key) (all_member_aggs (m + 4) bs) in
-      let a1 = over key (Max m) in
-      let a2 = over key (Max (m + 1)) in
-      let a3 = over key (Max (m + 2)) in
-      let a4 = over key (Min (m + 3)) in
-      let t = four_at pre rest z a1 a2 a3 a4 e in
-      let four = a1 ∷ a2 ∷ a3 ∷ a4 ∷ [] in (
-        (subst (λ y. At row z y) l t.0, subst (λ y. At row (z + 1) y) s t.1, subst (λ y. At row (z + 2) y) u t.2, subst (λ y. At row (z + 3) y) w t.3),
+      let four = over key (Max m) ∷ over key (Max (m + 1)) ∷ over key (Max (m + 2)) ∷ over key (Min (m + 3)) ∷ [] in (
+        four_at pre rest z (over key (Max m)) (over key (Max (m + 1))) (over key (Max (m + 2))) (over key (Min (m + 3))) _ _ _ _ e l s u w,
         subst (λ r. ResultsAt r (z + 4) key bs) (append_assoc pre four rest)
             (results_at key some x xs is (pre ++ four) (z + 4) (m + 4) bs (omega (arith, e, length-append pre four)) (λ r v. (at r v).1)),
       )
@@ -303,75 +315,85 @@ module _ (ks : List Kind) (k : ℕ) (keys : List Span → List Span) (long : (r 
     abbrev is_guess : RangeRow → Bool
     is_guess r = belongs key r && nat_le 1 r.annot.guess
 
+    -- the guessed rows of the group are the guessed members
     guessed_are : guessed_there (g key) ≡ filter is_guess (members key)
-    guessed_are = sym (narrowed (IsRangeRow ks) (second.overlaps ks k keys long shifted kks kinded more rows ok key) (belongs key) (λ r. nat_le 1 r.annot.guess) rows ok (λ r v h. second.belongs_overlaps ks k keys long shifted kks kinded more rows ok key some r v h))
+    guessed_are = sym (narrowed (IsRangeRow by.ks) (overlaps key) (belongs key) (λ r. nat_le 1 r.annot.guess) rows ok (λ r v h. second.belongs_overlaps by more rows ok key some r v h))
 
+    -- the group is guessed where one of them is
     guessed_is : (g key).is_guessed ≡ nonempty (filter is_guess (members key))
     guessed_is = any_filter (λ r. nat_le 1 r.annot.guess) (filter (belongs key) rows) ∙ ap nonempty guessed_are
 
     -- a row of ranges that overlaps the box
     abbrev Sound : RangeRow → Type 0
-    Sound r = IsRangeRow ks r × (second.overlaps ks k keys long shifted kks kinded more rows ok key r ≡ true)
+    Sound r = IsRangeRow by.ks r × (overlaps key r ≡ true)
 
+    -- each member is one
     all_sound : AllByRecursion Sound (members key)
-    all_sound = all_both (IsRangeRow ks) (λ r. second.overlaps ks k keys long shifted kks kinded more rows ok key r ≡ true) (members key) (members_ok key) (passing (second.overlaps ks k keys long shifted kks kinded more rows ok key) rows)
+    all_sound = all_both (IsRangeRow by.ks) (λ r. overlaps key r ≡ true) (members key) (members_ok key) (passing (overlaps key) rows)
 
+    -- a sure member belongs to the box
     sure_is_belonging : (r : RangeRow) → Sound r → is_there key r ≡ true → belongs key r ≡ true
     sure_is_belonging r v t =
-        let box = second.box ks k keys long shifted kks kinded more rows ok key in
+        let box = second.box by more rows ok key in
         let p = and_parts _ _ t in
-        let q = and_parts (all_certain (keys r.cells)) (all_certain box) p.0 in
-        ap (same_row key) (sure_belongs kks (keys r.cells) box (kinded r v.0) (second.box_ranges ks k keys long shifted kks kinded more rows ok key some) q.0 q.1 v.1 ∙ second.box_guess ks k keys long shifted kks kinded more rows ok key some) ∙ same_row_refl key
+        let q = and_parts (all_certain (by.keys r.cells)) (all_certain box) p.0 in
+        ap (same_row key) (sure_belongs by.kks (by.keys r.cells) box (by.kinded r v.0) (second.box_ranges by more rows ok key some) q.0 q.1 v.1 ∙ second.box_guess by more rows ok key some) ∙ same_row_refl key
 
-    -- what is kept bounds each row that belongs
-    min_bound : (f : RangeRow → Value) (dv : Value) → dv ≡ greatest (map f (filter (belongs key) rows)) → AllByRecursion (λ r. belongs key r ≡ true → at_most (f r) (dv) ≡ true) rows
-    min_bound f dv e =
-        subst (λ y. AllByRecursion (λ r. belongs key r ≡ true → at_most (f r) (y) ≡ true) rows) (sym e)
+    -- what holds of each row that belongs holds of the guessed members, and of the sure ones
+    of_guessed : (P : RangeRow → Type 0) → AllByRecursion (λ r. belongs key r ≡ true → P r) rows → AllByRecursion (λ r. is_guess r ≡ true → P r) (members key)
+    of_guessed P all =
+        all_from (λ r. belongs key r ≡ true → P r) (λ r. is_guess r ≡ true → P r) (members key) (λ r h t. h (and_parts (belongs key r) (nat_le 1 r.annot.guess) t).0)
+        (all_filter (λ r. belongs key r ≡ true → P r) (overlaps key) rows all)
+
+    of_sure : (P : RangeRow → Type 0) → AllByRecursion (λ r. belongs key r ≡ true → P r) rows → AllByRecursion (λ r. is_there key r ≡ true → P r) (members key)
+    of_sure P all =
+        all_from (λ r. Sound r × (belongs key r ≡ true → P r)) (λ r. is_there key r ≡ true → P r) (members key) (λ r h t. h.1 (sure_is_belonging r h.0 t))
+        (all_both Sound (λ r. belongs key r ≡ true → P r) (members key) all_sound (all_filter (λ r. belongs key r ≡ true → P r) (overlaps key) rows all))
+
+    -- the greatest that is kept bounds each row that belongs, and so does the least
+    below_kept : (f : RangeRow → Value) (dv : Value) → dv ≡ greatest (map f (filter (belongs key) rows)) → AllByRecursion (λ r. belongs key r ≡ true → at_most (f r) dv ≡ true) rows
+    below_kept f dv e =
+        subst (λ y. AllByRecursion (λ r. belongs key r ≡ true → at_most (f r) y ≡ true) rows) (sym e)
         (from_filter (λ r. at_most (f r) (greatest (map f (filter (belongs key) rows))) ≡ true) (belongs key) rows (greatest_above f (filter (belongs key) rows)))
+
+    above_kept : (f : RangeRow → Value) (dv : Value) → dv ≡ least (map f (filter (belongs key) rows)) → AllByRecursion (λ r. belongs key r ≡ true → at_most dv (f r) ≡ true) rows
+    above_kept f dv e =
+        subst (λ y. AllByRecursion (λ r. belongs key r ≡ true → at_most y (f r) ≡ true) rows) (sym e)
+        (from_filter (λ r. at_most (least (map f (filter (belongs key) rows))) (f r) ≡ true) (belongs key) rows (least_below f (filter (belongs key) rows)))
 
     -- the guess of MIN, where the group is guessed
     min_guess : (d : ℕ) → d < c → (o : Value) → (if (g key).is_guessed then r2 (agg.Min d) key else o) ≡ (if (g key).is_guessed then least (map (λ r. (column d r).sg) (guessed_there (g key))) else o)
     min_guess d here o =
-        let dv = member.keep ks k keys long shifted kks kinded more rows ok key (Max (3 * d + 1)) in
+        let dv = keep key (Max (3 * d + 1)) in
         let sg = λ (r : RangeRow). (column d r).sg in
-        let bound = all_from (λ r. belongs key r ≡ true → at_most ((column d r).sg) (dv) ≡ true) (λ r. is_guess r ≡ true → at_most ((column d r).sg) (dv) ≡ true) (members key) (λ r h t. h (and_parts (belongs key r) (nat_le 1 r.annot.guess) t).0)
-        (all_filter (λ r. belongs key r ≡ true → at_most ((column d r).sg) (dv) ≡ true) (second.overlaps ks k keys long shifted kks kinded more rows ok key) rows (min_bound sg dv (member.greatest_sg ks k keys long shifted kks kinded more rows ok key d here))) in
+        let bound = of_guessed (λ r. at_most ((column d r).sg) dv ≡ true) (below_kept sg dv (member.greatest_sg by more rows ok key d here)) in
         (λ i. if guessed_is i then r2 (agg.Min d) key else o) ∙ least_if is_guess sg dv (members key) o bound
         ∙ sym (λ i. if guessed_is i then least (map sg (guessed_are i)) else o)
 
-    -- its inner end
+    -- the inner end of MIN
     min_inner : (d : ℕ) → d < c → (o : Value) → (if list_any (is_there key) (members key) then r3 (agg.Min d) key else o) ≡ or_else (surely_there (g key)) (least (map (λ r. (column d r).hi) (surely_there (g key)))) o
     min_inner d here o =
-        let dv = member.keep ks k keys long shifted kks kinded more rows ok key (Max (3 * d + 2)) in
+        let dv = keep key (Max (3 * d + 2)) in
         let end = λ (r : RangeRow). (column d r).hi in
-        let bound = all_from (λ r. Sound r × (belongs key r ≡ true → at_most ((column d r).hi) (dv) ≡ true)) (λ r. is_there key r ≡ true → at_most ((column d r).hi) (dv) ≡ true) (members key) (λ r h t. h.1 (sure_is_belonging r h.0 t))
-        (all_both Sound (λ r. belongs key r ≡ true → at_most ((column d r).hi) (dv) ≡ true) (members key) all_sound (all_filter (λ r. belongs key r ≡ true → at_most ((column d r).hi) (dv) ≡ true) (second.overlaps ks k keys long shifted kks kinded more rows ok key) rows (min_bound end dv (member.greatest_hi ks k keys long shifted kks kinded more rows ok key d here)))) in
+        let bound = of_sure (λ r. at_most ((column d r).hi) dv ≡ true) (below_kept end dv (member.greatest_hi by more rows ok key d here)) in
         (λ i. if any_filter (is_there key) (members key) i then r3 (agg.Min d) key else o) ∙ least_if (is_there key) end dv (members key) o bound
         ∙ sym (or_else_is (surely_there (g key)) (least (map end (surely_there (g key)))) o)
-
-    -- what is kept bounds each row that belongs
-    max_bound : (f : RangeRow → Value) (dv : Value) → dv ≡ least (map f (filter (belongs key) rows)) → AllByRecursion (λ r. belongs key r ≡ true → at_most (dv) (f r) ≡ true) rows
-    max_bound f dv e =
-        subst (λ y. AllByRecursion (λ r. belongs key r ≡ true → at_most (y) (f r) ≡ true) rows) (sym e)
-        (from_filter (λ r. at_most (least (map f (filter (belongs key) rows))) (f r) ≡ true) (belongs key) rows (least_below f (filter (belongs key) rows)))
 
     -- the guess of MAX, where the group is guessed
     max_guess : (d : ℕ) → d < c → (o : Value) → (if (g key).is_guessed then r2 (agg.Max d) key else o) ≡ (if (g key).is_guessed then greatest (map (λ r. (column d r).sg) (guessed_there (g key))) else o)
     max_guess d here o =
-        let dv = member.keep ks k keys long shifted kks kinded more rows ok key (Min (3 * d + 1)) in
+        let dv = keep key (Min (3 * d + 1)) in
         let sg = λ (r : RangeRow). (column d r).sg in
-        let bound = all_from (λ r. belongs key r ≡ true → at_most (dv) ((column d r).sg) ≡ true) (λ r. is_guess r ≡ true → at_most (dv) ((column d r).sg) ≡ true) (members key) (λ r h t. h (and_parts (belongs key r) (nat_le 1 r.annot.guess) t).0)
-        (all_filter (λ r. belongs key r ≡ true → at_most (dv) ((column d r).sg) ≡ true) (second.overlaps ks k keys long shifted kks kinded more rows ok key) rows (max_bound sg dv (member.least_sg ks k keys long shifted kks kinded more rows ok key d here))) in
+        let bound = of_guessed (λ r. at_most dv ((column d r).sg) ≡ true) (above_kept sg dv (member.least_sg by more rows ok key d here)) in
         (λ i. if guessed_is i then r2 (agg.Max d) key else o) ∙ greatest_if is_guess sg dv (members key) o bound
         ∙ sym (λ i. if guessed_is i then greatest (map sg (guessed_are i)) else o)
 
-    -- its inner end
+    -- the inner end of MAX
     max_inner : (d : ℕ) → d < c → (o : Value) → (if list_any (is_there key) (members key) then r3 (agg.Max d) key else o) ≡ or_else (surely_there (g key)) (greatest (map (λ r. (column d r).lo) (surely_there (g key)))) o
     max_inner d here o =
-        let dv = member.keep ks k keys long shifted kks kinded more rows ok key (Min (3 * d)) in
+        let dv = keep key (Min (3 * d)) in
         let end = λ (r : RangeRow). (column d r).lo in
-        let bound = all_from (λ r. Sound r × (belongs key r ≡ true → at_most (dv) ((column d r).lo) ≡ true)) (λ r. is_there key r ≡ true → at_most (dv) ((column d r).lo) ≡ true) (members key) (λ r h t. h.1 (sure_is_belonging r h.0 t))
-        (all_both Sound (λ r. belongs key r ≡ true → at_most (dv) ((column d r).lo) ≡ true) (members key) all_sound (all_filter (λ r. belongs key r ≡ true → at_most (dv) ((column d r).lo) ≡ true) (second.overlaps ks k keys long shifted kks kinded more rows ok key) rows (max_bound end dv (member.least_lo ks k keys long shifted kks kinded more rows ok key d here)))) in
+        let bound = of_sure (λ r. at_most dv ((column d r).lo) ≡ true) (above_kept end dv (member.least_lo by more rows ok key d here)) in
         (λ i. if any_filter (is_there key) (members key) i then r3 (agg.Max d) key else o) ∙ greatest_if (is_there key) end dv (members key) o bound
         ∙ sym (or_else_is (surely_there (g key)) (greatest (map end (surely_there (g key)))) o)
 
@@ -426,101 +448,134 @@ module _ (ks : List Kind) (k : ℕ) (keys : List Span → List Span) (long : (r 
           ),
         )
 
+  -- the rows that belong to a key, their box, their triple, and what is kept of them
   abbrev belonging : List Value → Bounded
   belonging key = filter (belongs key) rows
 
   abbrev box : List Value → List Span
-  box key = hull_of (map (λ r. keys r.cells) (belonging key))
+  box key = hull_of (map (λ r. by.keys r.cells) (belonging key))
 
   abbrev triple : List Value → Counts
-  triple key = group_counts keys (belonging key)
-
-  abbrev there : (r : RangeRow) → IsRangeRow ks r → (row : List Value) → EndsOfAll rl rs rh row 0 r.cells → EndsOfAll rl rs rh row 0 (keys r.cells)
-  there r v row e = shifted r v row 0 e
+  triple key = group_counts by.keys (belonging key)
 
   abbrev kept_values : List Value → List Value
-  kept_values key = map (plain_aggregate (map (group.wide ks k keys long there) (belonging key))) more
+  kept_values key = map (plain_aggregate (map (group.wide by) (belonging key))) more
 
   abbrev results : List Value → List Value
   results key = map (over key) (all_member_aggs n aggs)
 
+  -- a row of the second grouping, and the columns that finish it
   abbrev grouped_row : List Value → List Value
   grouped_row key = box_row key ++ results key
 
   abbrev has_guess : PTerm
-  has_guess = positive (sg (3 * k))
+  has_guess = positive (sg (3 * by.k))
+
+  abbrev has_member : PTerm
+  has_member = positive (Column (b + 4 * length aggs))
 
   abbrev final_columns : List PTerm
-  final_columns = all_result_columns (positive (Column (b + 4 * length aggs))) has_guess b aggs
+  final_columns = all_result_columns has_member has_guess b aggs
 
   abbrev z : ℕ
   z = b + 4 * length aggs + 1
 
   abbrev final_places : List ℕ
-  final_places = cell_places 0 k ++ (cell_places z (length aggs) ++ three_places (3 * k))
+  final_places = cell_places 0 by.k ++ (cell_places z (length aggs) ++ three_places (3 * by.k))
 
   abbrev out : List Value → RangeRow
-  out key = output keys aggs rows key
+  out key = output by.keys aggs rows key
 
-  each_output : (key : List Value) → IsKey key → kept final_places (grow final_columns (grouped_row key)) ≡ encode_row (out key)
-  each_output key some =
-      let row = grouped_row key in
-      let ranges = map (aggregate (g key)) aggs in
-      let new = all_ends rl rs rh ranges in
-      let whole = row ++ new in
-      let box_is_long = second.box_long ks k keys long shifted kks kinded more rows ok key some in
-      let cells_long : length (encode_cells (box key)) ≡ 3 * k = all_ends_long rl rs rh (box key) ∙ ap (λ m. 3 * m) box_is_long in
-      let front = second.box_row_long ks k keys long shifted kks kinded more rows ok key some in
-      let row_long : length row ≡ z = omega (arith, length-append (box_row key) (results key), front, length-map (all_member_aggs n aggs) (over key), member_aggs_long n aggs) in
-      let counts_at : Ends cl cg cm row (3 * k) (triple key) =
-      ends_more cl cg cm (box_row key) (results key) (3 * k) (triple key) (ends_past cl cg cm (encode_cells (box key)) (kept_values key) (3 * k) (triple key) cells_long) in
-      let guess_is = column_has row (3 * k + 1) (cg (triple key)) counts_at.sg in
-      let flag : Has row has_guess (value.Flag (g key).is_guessed) =
-      (λ extra. (λ i. value.Flag (below (value.Int (pos 0)) (guess_is extra i))) ∙ ap value.Flag (below_zero (triple key).guess ∙ one_if (g key).is_guessed)) in
-      let met = second.has_member ks k keys long shifted kks kinded more rows ok key some in
-      let found = results_at key some met.first met.others met.is (box_row key) b n aggs front (λ r v. wide_at (key, r) some v) in
-      let last_is = column_has row (b + 4 * length aggs) (counted (list_any (is_there key) (members key))) (last_at row b key aggs found) in
-      let there_flag : Has row (positive (Column (b + 4 * length aggs))) (value.Flag (list_any (is_there key) (members key))) =
-      (λ extra. (λ i. value.Flag (below (value.Int (pos 0)) (last_is extra i))) ∙ ap value.Flag (below_zero (if list_any (is_there key) (members key) then 1 else 0) ∙ one_if (list_any (is_there key) (members key)))) in
-      let grown = grow_is final_columns row whole (adds reading row final_columns new (finals key some row (positive (Column (b + 4 * length aggs))) has_guess b aggs ok_aggs there_flag flag found)) in
-      let first = pick_cells rl rs rh whole 0 k (box key) box_is_long
-      (all_ends_more rl rs rh row new 0 (box key) (all_ends_more rl rs rh (box_row key) (results key) 0 (box key) (all_ends_at rl rs rh [] (encode_counts (triple key) ++ kept_values key) 0 (box key) refl))) in
-      let second_cells = pick_cells rl rs rh whole z (length aggs) ranges (length-map aggs (aggregate (g key)))
-      (subst (λ q. EndsOfAll rl rs rh (row ++ q) z ranges) (append-nil new) (all_ends_at rl rs rh row [] z ranges row_long)) in
-      let last = pick_three cl cg cm whole (3 * k) (triple key) (ends_more cl cg cm row new (3 * k) (triple key) counts_at) in
-      ap (kept final_places) grown
-      ∙ kept_are whole final_places (encode_cells (box key) ++ (new ++ encode_counts (triple key)))
-      (picks_more whole (cell_places 0 k) (cell_places z (length aggs) ++ three_places (3 * k)) (encode_cells (box key)) (new ++ encode_counts (triple key)) first
-      (picks_more whole (cell_places z (length aggs)) (three_places (3 * k)) new (encode_counts (triple key)) second_cells last))
-      ∙ sym (append_assoc (encode_cells (box key)) new (encode_counts (triple key)))
-      ∙ ap (λ q. q ++ encode_counts (triple key)) (sym (all_ends-append rl rs rh (box key) ranges))
+  -- the row of one box: its parts by their places, and the row of its output
+  module _ (key : List Value) (some : IsKey key) where
+    abbrev row : List Value
+    row = grouped_row key
+
+    abbrev ranges : List Span
+    ranges = map (aggregate (g key)) aggs
+
+    abbrev ends : List Value
+    ends = all_ends rl rs rh ranges
+
+    cells_long : length (encode_cells (box key)) ≡ 3 * by.k
+    cells_long = all_ends_long rl rs rh (box key) ∙ ap (λ m. 3 * m) (second.box_long by more rows ok key some)
+
+    row_long : length row ≡ z
+    row_long =
+        let front = second.box_row_long by more rows ok key some in
+        omega (arith, length-append (box_row key) (results key), front, length-map (all_member_aggs n aggs) (over key), member_aggs_long n aggs)
+
+    -- the box and its triple stand first
+    box_at : EndsOfAll rl rs rh row 0 (box key)
+    box_at = all_ends_more rl rs rh (box_row key) (results key) 0 (box key) (all_ends_at rl rs rh [] (encode_counts (triple key) ++ kept_values key) 0 (box key) refl)
+
+    triple_at : Ends cl cg cm row (3 * by.k) (triple key)
+    triple_at =
+        ends_more cl cg cm (box_row key) (results key) (3 * by.k) (triple key) (ends_past cl cg cm (encode_cells (box key)) (kept_values key) (3 * by.k) (triple key) cells_long)
+
+    -- the results stand behind them
+    results_there : ResultsAt row b key aggs
+    results_there =
+        let met = second.has_member by more rows ok key some in
+        results_at key some met.first met.others met.is (box_row key) b n aggs (second.box_row_long by more rows ok key some) (λ r v. wide_at (key, r) some v)
+
+    -- whether the group is guessed, and whether a sure member is there
+    guess_flag : Has row has_guess (value.Flag (g key).is_guessed)
+    guess_flag =
+        let guess_is = column_has row (3 * by.k + 1) (cg (triple key)) triple_at.sg in
+        λ extra. (λ i. value.Flag (below (value.Int (pos 0)) (guess_is extra i))) ∙ ap value.Flag (below_zero (triple key).guess ∙ one_if (g key).is_guessed)
+
+    sure_flag : Has row has_member (value.Flag (list_any (is_there key) (members key)))
+    sure_flag =
+        let any = list_any (is_there key) (members key) in
+        let last_is = column_has row (b + 4 * length aggs) (counted any) (last_at row b key aggs results_there) in
+        λ extra. (λ i. value.Flag (below (value.Int (pos 0)) (last_is extra i))) ∙ ap value.Flag (below_zero (if any then 1 else 0) ∙ one_if any)
+
+    -- the last columns are the ranges of the results
+    grown : grow final_columns row ≡ row ++ ends
+    grown = grow_is final_columns row (row ++ ends) (adds reading row final_columns ends (finals key some row has_member has_guess b aggs ok_aggs sure_flag guess_flag results_there))
+
+    -- what is kept of the row is the encoded output
+    each_output : kept final_places (grow final_columns row) ≡ encode_row (out key)
+    each_output =
+        let whole = row ++ ends in
+        let first = pick_cells rl rs rh whole 0 by.k (box key) (second.box_long by more rows ok key some) (all_ends_more rl rs rh row ends 0 (box key) box_at) in
+        let second_cells = pick_cells rl rs rh whole z (length aggs) ranges (length-map aggs (aggregate (g key)))
+        (subst (λ q. EndsOfAll rl rs rh (row ++ q) z ranges) (append-nil ends) (all_ends_at rl rs rh row [] z ranges row_long)) in
+        let last = pick_three cl cg cm whole (3 * by.k) (triple key) (ends_more cl cg cm row ends (3 * by.k) (triple key) triple_at) in
+        ap (kept final_places) grown
+        ∙ kept_are whole final_places (encode_cells (box key) ++ (ends ++ encode_counts (triple key)))
+        (picks_more whole (cell_places 0 by.k) (cell_places z (length aggs) ++ three_places (3 * by.k)) (encode_cells (box key)) (ends ++ encode_counts (triple key)) first
+        (picks_more whole (cell_places z (length aggs)) (three_places (3 * by.k)) ends (encode_counts (triple key)) second_cells last))
+        ∙ sym (append_assoc (encode_cells (box key)) ends (encode_counts (triple key)))
+        ∙ ap (λ q. q ++ encode_counts (triple key)) (sym (all_ends-append rl rs rh (box key) ranges))
 
   -- the kept columns stand behind the box and its triple
-  pub kept_there : (s : List Value × RangeRow) → IsKey s.0 × IsRangeRow ks s.1 → member.KeptAt ks k keys long shifted kks kinded more rows ok (joined s) (3 * k + 3) s.0 aggs
+  pub kept_there : (s : List Value × RangeRow) → IsKey s.0 × IsRangeRow by.ks s.1 → member.KeptAt by more rows ok (joined s) (3 * by.k + 3) s.0 aggs
   kept_there s v =
       let cells = encode_cells (box s.0) in
       let three = encode_counts (triple s.0) in
-      let cells_long : length cells ≡ 3 * k = all_ends_long rl rs rh (box s.0) ∙ ap (λ m. 3 * m) (second.box_long ks k keys long shifted kks kinded more rows ok s.0 v.0) in
-      subst (λ r. member.KeptAt ks k keys long shifted kks kinded more rows ok (r ++ encode_row s.1) (3 * k + 3) s.0 aggs) (append_assoc cells three (kept_values s.0))
-      (member.kept_at ks k keys long shifted kks kinded more rows ok (cells ++ three) (encode_row s.1) (3 * k + 3) s.0 aggs (omega (arith, cells_long, length-append cells three)))
+      let cells_long : length cells ≡ 3 * by.k = all_ends_long rl rs rh (box s.0) ∙ ap (λ m. 3 * m) (second.box_long by more rows ok s.0 v.0) in
+      subst (λ r. member.KeptAt by more rows ok (r ++ encode_row s.1) (3 * by.k + 3) s.0 aggs) (append_assoc cells three (kept_values s.0))
+      (member.kept_at by more rows ok (cells ++ three) (encode_row s.1) (3 * by.k + 3) s.0 aggs (omega (arith, cells_long, length-append cells three)))
 
   -- Group's plan gives the rows of the bounded operator.
-  pub group_by_gives : (ts : List Rows) (p : PlanTree) → Gives ts p rows → Gives ts (plans.group c k aggs p) (bounded.group_by keys aggs rows)
+  pub group_by_gives : (ts : List Rows) (p : PlanTree) → Gives ts p rows → Gives ts (plans.group c by.k aggs p) (bounded.group_by by.keys aggs rows)
   group_by_gives ts p h =
-      let columns = all_member_columns places (3 * k + 3) aggs in
-      let boxes = first_grouping c k more p in
-      let grouped = second_grouping k b columns (all_member_aggs n aggs) boxes p in
-      let keys_list = second.keys_list ks k keys long shifted kks kinded more rows ok in
-      let all_keys = second.all_keys ks k keys long shifted kks kinded more rows ok in
+      let columns = all_member_columns places (3 * by.k + 3) aggs in
+      let boxes = first_grouping c by.k more p in
+      let grouped = second_grouping by.k b columns (all_member_aggs n aggs) boxes p in
+      let keys_list = second.keys_list by more rows ok in
+      let all_keys = second.all_keys by more rows ok in
       let rows_are : plain_rows grouped ts ≡ map grouped_row keys_list =
-      second.second_rows ks k keys long shifted kks kinded more rows ok columns added
-      (λ s v. member.members_added ks k keys long shifted kks kinded more rows ok s v (3 * k + 3) aggs ok_aggs (kept_there s v)) (all_member_aggs n aggs) ts boxes p
-      (first_rows ks k keys long there ts p more rows ok h) h in
+      second.second_rows by more rows ok columns added
+      (λ s v. member.members_added by more rows ok s v (3 * by.k + 3) aggs ok_aggs (kept_there s v)) (all_member_aggs n aggs) ts boxes p
+      (first_rows by ts p more rows ok h) h in
       ap (map (kept final_places)) (rows-extend_all final_columns grouped ts ∙ ap (map (grow final_columns)) rows_are ∙ map-map grouped_row (grow final_columns) keys_list)
       ∙ map-map (λ key. grow final_columns (grouped_row key)) (kept final_places) keys_list
       ∙ map_valid IsKey (λ key. kept final_places (grow final_columns (grouped_row key))) (λ key. encode_row (out key)) keys_list all_keys each_output
       ∙ sym (map-map out encode_row keys_list)
       ∙ ap encode (sym (present_map IsKey out keys_list all_keys
       (λ key some.
-      (let all = subst (λ ss. AllByRecursion (IsRangeRow ks) ss) some.is (all_filter (IsRangeRow ks) (belongs key) rows ok) in
-      subst (λ ss. 1 ≤ (group_counts keys ss).most) (sym some.is) (most_there ks k keys long there some.first some.others all)))))
+      (let all = subst (λ ss. AllByRecursion (IsRangeRow by.ks) ss) some.is (all_filter (IsRangeRow by.ks) (belongs key) rows ok) in
+      subst (λ ss. 1 ≤ (group_counts by.keys ss).most) (sym some.is) (most_there by some.first some.others all)))))

@@ -13,6 +13,7 @@ pub mod GroupLaws
 pub mod GroupNumbers
 pub mod GroupRows
 pub mod GroupSteps
+pub mod KeyReading
 pub mod Laws
 pub mod MemberColumns
 pub mod MemberNumbers

@@ -1,17 +1,16 @@
 -- The columns of a pair of a box and a member: what the member adds to sums, and what it offers to MIN and MAX.
 use Rattle.std.specs.Prelude.{◌≡◌, ◌<◌, ℕ, ◌+◌, ◌*◌, Bool, true, false, ◌&&◌, cond, List, [], ◌∷◌, ◌++◌, length, map, filter, flat_map, ℤ, pos, ◌+ℤ◌, nat_le, Some, unwrap_or, if◌then◌else◌}
-use Rattle.std.specs.List.{AllByRecursion, AllZip}
+use Rattle.std.specs.List.{AllByRecursion}
 use Rattle.std.proofs.Common.{arith, refl, sym, ◌∙◌, ap, subst, append_assoc}
 use Rattle.std.proofs.Math.IntN.{+ℤ_idl}
 use Rattle.std.proofs.lemmas.Bool.{true≢false}
 use Rattle.std.proofs.lemmas.List.{length-append}
-use Rattle.au_value.specs.declared.kinds.Kind.{Kind}
 use Rattle.au_value.specs.declared.value.Value.{Value}
 use Rattle.au_value.specs.declared.value.Value.TheVariants as value
 use Rattle.au_value.specs.Order.{below}
-use Rattle.au_value.specs.Ranges.{Span, IsRangeOf, guesses, certain}
+use Rattle.au_value.specs.Ranges.{IsRangeOf, guesses, certain}
 use Rattle.au_expr.specs.Ordinary as on_values
-use Rattle.au_expr.specs.Ordinary.{is_true, number}
+use Rattle.au_expr.specs.Ordinary.{is_true}
 use Rattle.au_algebra.specs.declared.query.Agg.{Agg}
 use Rattle.au_algebra.specs.declared.query.Agg.TheVariants as agg
 use Rattle.au_algebra.specs.Lists.{same_row, int_sum, least, greatest}
@@ -44,6 +43,7 @@ use Rattle.au_rwgroup.proofs.Signed.{signed_has}
 use Rattle.au_rwexpr.proofs.Gives.{map-map, map_valid}
 use Rattle.au_rwgroup.proofs.FirstGroup as group
 use Rattle.au_rwexpr.proofs.Coded.{rl, rs, rh, cl, cg, cm}
+use Rattle.au_rwgroup.proofs.KeyReading.{KeyReading}
 
 -- an aggregate over a column that is there
 abbrev pub IsOn : ℕ → Agg → Type 0
@@ -69,24 +69,24 @@ sum_same V meet same t implied [] v = refl
 sum_same V meet same t implied (r ∷ rows) v =
     int_by V meet same t (meet r) (same r) r (filter meet rows) (filter same rows) refl (implied r v.0) (sum_same V meet same t implied rows v.1)
 
-module _ (ks : List Kind) (k : ℕ) (keys : List Span → List Span) (long : (r : RangeRow) → IsRangeRow ks r → length (keys r.cells) ≡ k) (shifted : (r : RangeRow) → IsRangeRow ks r → (row : List Value) (i : ℕ) → EndsOfAll rl rs rh row i r.cells → EndsOfAll rl rs rh row i (keys r.cells)) (kks : List Kind) (kinded : (r : RangeRow) → IsRangeRow ks r → AllZip IsRangeOf kks (keys r.cells)) (more : List PAgg) (rows : Bounded) (ok : IsRelation ks rows) where
+module _ (by : KeyReading) (more : List PAgg) (rows : Bounded) (ok : IsRelation by.ks rows) where
   abbrev c : ℕ
-  c = length ks
+  c = length by.ks
 
   abbrev b : ℕ
-  b = 3 * k + 3 + length more
+  b = 3 * by.k + 3 + length more
 
   abbrev places : Places
-  places = record { keys = k; row = b; triple = b + 3 * c }
+  places = record { keys = by.k; row = b; triple = b + 3 * c }
 
   abbrev Joined : List Value × RangeRow → List Value
-  Joined s = second.joined ks k keys long shifted kks kinded more rows ok s
+  Joined s = second.joined by more rows ok s
 
   abbrev IsPair : List Value × RangeRow → Type 0
-  IsPair s = second.IsPair ks k keys long shifted kks kinded more rows ok s
+  IsPair s = second.IsPair by more rows ok s
 
   abbrev pub group_at : List Value → Grouped
-  group_at key = grouped keys rows key
+  group_at key = grouped by.keys rows key
 
   abbrev pub is_sure : List Value × RangeRow → Bool
   is_sure s = (group_at s.0).is_certain_member s.1
@@ -95,17 +95,14 @@ module _ (ks : List Kind) (k : ℕ) (keys : List Span → List Span) (long : (r 
   is_sure_copy s = is_sure s && nat_le 1 s.1.annot.least
 
   abbrev pub belongs_to : List Value → RangeRow → Bool
-  belongs_to key r = same_row key (guesses (keys r.cells))
+  belongs_to key r = same_row key (guesses (by.keys r.cells))
 
   abbrev is_guessed_copy : List Value × RangeRow → Bool
   is_guessed_copy s = belongs_to s.0 s.1 && nat_le 1 s.1.annot.guess
 
-  abbrev first_there : (r : RangeRow) → IsRangeRow ks r → (row : List Value) → EndsOfAll rl rs rh row 0 r.cells → EndsOfAll rl rs rh row 0 (keys r.cells)
-  first_there r v row e = shifted r v row 0 e
-
   -- what is kept of the rows that belong to a box
   abbrev pub keep : List Value → PAgg → Value
-  keep key a = plain_aggregate (map (group.wide ks k keys long first_there) (filter (belongs_to key) rows)) a
+  keep key a = plain_aggregate (map (group.wide by) (filter (belongs_to key) rows)) a
 
   -- the four values of a pair
   abbrev pub value_1 : Agg → List Value × RangeRow → Value
@@ -175,15 +172,15 @@ module _ (ks : List Kind) (k : ℕ) (keys : List Span → List Span) (long : (r 
     abbrev belonging : Bounded
     belonging = filter (belongs_to key) rows
 
-    column_ends : (r : RangeRow) → IsRangeRow ks r → Ends rl rs rh (group.wide ks k keys long first_there r) (3 * d) (column d r)
+    column_ends : (r : RangeRow) → IsRangeRow by.ks r → Ends rl rs rh (group.wide by r) (3 * d) (column d r)
     column_ends r v =
-        ends_at rl rs rh (group.wide ks k keys long first_there r) 0 d (3 * d) r.cells (cell r.cells d) (group.wide_cells ks k keys long first_there r v)
-        (at_own r.cells d (certain (value.Int (pos 0))) (omega (arith, here, cells_length IsRangeOf ks r.cells v.cells))) (let e : 3 * d ≡ 0 + 3 * d = omega arith in e)
+        ends_at rl rs rh (group.wide by r) 0 d (3 * d) r.cells (cell r.cells d) (group.wide_cells by r v)
+        (at_own r.cells d (certain (value.Int (pos 0))) (omega (arith, here, cells_length IsRangeOf by.ks r.cells v.cells))) (let e : 3 * d ≡ 0 + 3 * d = omega arith in e)
 
-    kept_column : (i : ℕ) (f : RangeRow → Value) → ((r : RangeRow) → IsRangeRow ks r → At (group.wide ks k keys long first_there r) i (f r)) → map (λ row. value_at row i) (map (group.wide ks k keys long first_there) belonging) ≡ map f belonging
+    kept_column : (i : ℕ) (f : RangeRow → Value) → ((r : RangeRow) → IsRangeRow by.ks r → At (group.wide by r) i (f r)) → map (λ row. value_at row i) (map (group.wide by) belonging) ≡ map f belonging
     kept_column i f at =
-        map-map (group.wide ks k keys long first_there) (λ row. value_at row i) belonging
-        ∙ map_valid (IsRangeRow ks) (λ r. value_at (group.wide ks k keys long first_there r) i) f belonging (all_filter (IsRangeRow ks) (belongs_to key) rows ok)
+        map-map (group.wide by) (λ row. value_at row i) belonging
+        ∙ map_valid (IsRangeRow by.ks) (λ r. value_at (group.wide by r) i) f belonging (all_filter (IsRangeRow by.ks) (belongs_to key) rows ok)
         (λ r v. ap (λ o. unwrap_or o (value.Int (pos 0))) (at r v))
 
     pub greatest_hi : keep key (Max (3 * d + 2)) ≡ greatest (map (λ r. (column d r).hi) belonging)
@@ -234,35 +231,35 @@ module _ (ks : List Kind) (k : ℕ) (keys : List Span → List Span) (long : (r 
 
     pub row_long : length row ≡ t + 3
     row_long =
-        let front_long = second.box_row_long ks k keys long shifted kks kinded more rows ok s.0 v.0 in
-        let cells_long = cells_length IsRangeOf ks s.1.cells v.1.cells in
-        omega (arith, length-append (second.box_row ks k keys long shifted kks kinded more rows ok s.0) (encode_row s.1), front_long, coded_long rl rs rh cl cg cm c s.1.cells s.1.annot cells_long)
+        let front_long = second.box_row_long by more rows ok s.0 v.0 in
+        let cells_long = cells_length IsRangeOf by.ks s.1.cells v.1.cells in
+        omega (arith, length-append (second.box_row by more rows ok s.0) (encode_row s.1), front_long, coded_long rl rs rh cl cg cm c s.1.cells s.1.annot cells_long)
 
     tested_long : length tested ≡ t + 5
     tested_long = omega (arith, length-append row (test_values s), row_long)
 
     pub cells : EndsOfAll rl rs rh row b s.1.cells
-    cells = second.cells_at ks k keys long shifted kks kinded more rows ok s v
+    cells = second.cells_at by more rows ok s v
 
     pub triple : Ends cl cg cm row t s.1.annot
     triple =
-        let front = second.box_row ks k keys long shifted kks kinded more rows ok s.0 in
-        let front_long = second.box_row_long ks k keys long shifted kks kinded more rows ok s.0 v.0 in
-        let cells_long : length (encode_cells s.1.cells) ≡ 3 * c = all_ends_long rl rs rh s.1.cells ∙ ap (λ m. 3 * m) (cells_length IsRangeOf ks s.1.cells v.1.cells) in
+        let front = second.box_row by more rows ok s.0 in
+        let front_long = second.box_row_long by more rows ok s.0 v.0 in
+        let cells_long : length (encode_cells s.1.cells) ≡ 3 * c = all_ends_long rl rs rh s.1.cells ∙ ap (λ m. 3 * m) (cells_length IsRangeOf by.ks s.1.cells v.1.cells) in
         subst (λ r. Ends cl cg cm r t s.1.annot) (append_assoc front (encode_cells s.1.cells) (encode_counts s.1.annot))
         (ends_past cl cg cm (front ++ encode_cells s.1.cells) [] t s.1.annot (length-append front (encode_cells s.1.cells) ∙ (λ i. front_long i + cells_long i)))
 
-    sure_is : Has row (And (all_sure b k) (all_sure 0 k)) (value.Flag (is_sure s))
+    sure_is : Has row (And (all_sure b by.k) (all_sure 0 by.k)) (value.Flag (is_sure s))
     sure_is =
-        let p = sure_has row b k (keys s.1.cells) (long s.1 v.1) (shifted s.1 v.1 row b cells) in
-        let q = sure_has row 0 k (second.box ks k keys long shifted kks kinded more rows ok s.0) (second.box_long ks k keys long shifted kks kinded more rows ok s.0 v.0) (second.box_at ks k keys long shifted kks kinded more rows ok s) in
+        let p = sure_has row b by.k (by.keys s.1.cells) (by.long s.1 v.1) (by.shifted s.1 v.1 row b cells) in
+        let q = sure_has row 0 by.k (second.box by more rows ok s.0) (second.box_long by more rows ok s.0 v.0) (second.box_at by more rows ok s) in
         λ more. λ i. on_values.and (p more i) (q more i)
 
-    belongs_is : Has row (same_guesses 0 b k) (value.Flag (belongs_to s.0 s.1))
+    belongs_is : Has row (same_guesses 0 b by.k) (value.Flag (belongs_to s.0 s.1))
     belongs_is =
-        let box = second.box ks k keys long shifted kks kinded more rows ok s.0 in
-        let p = same_has row 0 b k box (keys s.1.cells) (second.box_long ks k keys long shifted kks kinded more rows ok s.0 v.0) (long s.1 v.1) (second.box_at ks k keys long shifted kks kinded more rows ok s) (shifted s.1 v.1 row b cells) in
-        λ added. p added ∙ (λ i. value.Flag (same_row (second.box_guess ks k keys long shifted kks kinded more rows ok s.0 v.0 i) (guesses (keys s.1.cells))))
+        let box = second.box by more rows ok s.0 in
+        let p = same_has row 0 b by.k box (by.keys s.1.cells) (second.box_long by more rows ok s.0 v.0) (by.long s.1 v.1) (second.box_at by more rows ok s) (by.shifted s.1 v.1 row b cells) in
+        λ added. p added ∙ (λ i. value.Flag (same_row (second.box_guess by more rows ok s.0 v.0 i) (guesses (by.keys s.1.cells))))
 
     -- the tests have their values
     pub tests_mean : AllMean reading row (plans.tests places) (test_values s)
@@ -332,7 +329,7 @@ module _ (ks : List Kind) (k : ℕ) (keys : List Span → List Span) (long : (r 
     pub cell_there : (d : ℕ) → d < c → Ends rl rs rh weighed (b + 3 * d) (cell s.1.cells d)
     cell_there d inside =
         ends_at rl rs rh weighed b d (b + 3 * d) s.1.cells (cell s.1.cells d) weighed_cells
-        (at_own s.1.cells d (certain (value.Int (pos 0))) (omega (arith, cells_length IsRangeOf ks s.1.cells v.1.cells, inside))) refl
+        (at_own s.1.cells d (certain (value.Int (pos 0))) (omega (arith, cells_length IsRangeOf by.ks s.1.cells v.1.cells, inside))) refl
 
     -- The columns of the aggregates have their values.
     pub members_mean : (q : ℕ) (aggs : List Agg) → AllByRecursion (IsOn c) aggs → KeptAt weighed q s.0 aggs → AllMean reading weighed (each_member_columns places q aggs) (values aggs s)

@@ -4,10 +4,8 @@ use Rattle.std.specs.List.{AllByRecursion, AllZip}
 use Rattle.std.proofs.Common.{arith, refl, sym, ◌∙◌, ap, subst}
 use Rattle.std.proofs.lemmas.Bool.{true≢false}
 use Rattle.std.proofs.lemmas.List.Sums.{sum_by-cons}
-use Rattle.au_value.specs.declared.kinds.Kind.{Kind}
 use Rattle.au_value.specs.declared.value.Value.{Value}
 use Rattle.au_value.specs.declared.value.Value.TheVariants as value
-use Rattle.au_value.specs.Ranges.{Span, IsRangeOf}
 use Rattle.au_expr.specs.Figures.{Fit}
 use Rattle.au_expr.specs.Ordinary.{number}
 use Rattle.au_expr.proofs.Fits.{fit_both, fit_parts}
@@ -27,10 +25,9 @@ use Rattle.au_rwexpr.specs.Flatten.{lo, sg, hi}
 use Rattle.au_rwexpr.specs.Meets.{same_guesses}
 use Rattle.au_rwexpr.proofs.Allowed.{all_both, all_of}
 use Rattle.au_rwexpr.proofs.Careful.{careful, careful_grow}
-use Rattle.au_rwexpr.proofs.Coded.{rl, rs, rh}
 use Rattle.au_rwexpr.proofs.Columns.{then_adds}
 use Rattle.au_rwexpr.proofs.Gives.{map-map}
-use Rattle.au_rwexpr.proofs.Places.{At, EndsOfAll}
+use Rattle.au_rwexpr.proofs.Places.{At}
 use Rattle.au_rwexpr.proofs.PlanNumbersOf.{passed_all}
 use Rattle.au_combine.proofs.JoinGroups.{with_left}
 use Rattle.au_rwgroup.specs.Groups.{all_sure}
@@ -42,6 +39,7 @@ use Rattle.au_rwgroup.proofs.MemberColumns as member
 use Rattle.au_rwgroup.proofs.MemberColumns.{IsOn}
 use Rattle.au_rwgroup.proofs.GroupRows as rows_of
 use Rattle.au_rwgroup.proofs.SecondRows as second
+use Rattle.au_rwgroup.proofs.KeyReading.{KeyReading}
 
 -- each of made numbers fits
 each_fits : {A : Type 0} (f : A → ℤ) (xs : List A) → Fit (map f xs) → AllByRecursion (λ x. Fit (f x ∷ [])) xs
@@ -82,57 +80,57 @@ same_size V meet same t implied [] v = refl
 same_size V meet same t implied (r ∷ rows) v =
     size_by same t (meet r) (same r) r (filter meet rows) (filter same rows) refl (implied r v.0) (same_size V meet same t implied rows v.1)
 
-module _ (ks : List Kind) (k : ℕ) (keys : List Span → List Span) (long : (r : RangeRow) → IsRangeRow ks r → length (keys r.cells) ≡ k) (shifted : (r : RangeRow) → IsRangeRow ks r → (row : List Value) (i : ℕ) → EndsOfAll rl rs rh row i r.cells → EndsOfAll rl rs rh row i (keys r.cells)) (kks : List Kind) (kinded : (r : RangeRow) → IsRangeRow ks r → AllZip IsRangeOf kks (keys r.cells)) (aggs : List Agg) (ok_aggs : AllByRecursion (IsOn (length ks)) aggs) (rows : Bounded) (ok : IsRelation ks rows) where
+module _ (by : KeyReading) (aggs : List Agg) (ok_aggs : AllByRecursion (IsOn (length by.ks)) aggs) (rows : Bounded) (ok : IsRelation by.ks rows) where
   abbrev more : List PAgg
   more = flat_map kept_for aggs
 
   abbrev c : ℕ
-  c = length ks
+  c = length by.ks
 
   abbrev b : ℕ
-  b = 3 * k + 3 + length more
+  b = 3 * by.k + 3 + length more
 
   abbrev t : ℕ
   t = b + 3 * c
 
   abbrev places : Places
-  places = plans.places k b t
+  places = plans.places by.k b t
 
   abbrev Pair : Type 0
   Pair = List Value × RangeRow
 
   abbrev IsPair : Pair → Type 0
-  IsPair s = second.IsPair ks k keys long shifted kks kinded more rows ok s
+  IsPair s = second.IsPair by more rows ok s
 
   abbrev IsKey : List Value → Type 0
-  IsKey key = second.IsKey ks k keys long shifted kks kinded more rows ok key
+  IsKey key = second.IsKey by more rows ok key
 
   abbrev joined : Pair → List Value
-  joined s = second.joined ks k keys long shifted kks kinded more rows ok s
+  joined s = second.joined by more rows ok s
 
   abbrev box_row : List Value → List Value
-  box_row key = second.box_row ks k keys long shifted kks kinded more rows ok key
+  box_row key = second.box_row by more rows ok key
 
   abbrev members : List Value → Bounded
-  members key = second.members ks k keys long shifted kks kinded more rows ok key
+  members key = second.members by more rows ok key
 
   abbrev group_at : List Value → Grouped
-  group_at key = member.group_at ks k keys long shifted kks kinded more rows ok key
+  group_at key = member.group_at by more rows ok key
 
   abbrev belongs : List Value → RangeRow → Bool
-  belongs key r = member.belongs_to ks k keys long shifted kks kinded more rows ok key r
+  belongs key r = member.belongs_to by more rows ok key r
 
   abbrev value_1 : Agg → Pair → Value
-  value_1 a s = member.value_1 ks k keys long shifted kks kinded more rows ok a s
+  value_1 a s = member.value_1 by more rows ok a s
 
   abbrev value_2 : Agg → Pair → Value
-  value_2 a s = member.value_2 ks k keys long shifted kks kinded more rows ok a s
+  value_2 a s = member.value_2 by more rows ok a s
 
   abbrev value_3 : Agg → Pair → Value
-  value_3 a s = member.value_3 ks k keys long shifted kks kinded more rows ok a s
+  value_3 a s = member.value_3 by more rows ok a s
 
   abbrev values : List Agg → Pair → List Value
-  values bs s = member.values ks k keys long shifted kks kinded more rows ok bs s
+  values bs s = member.values by more rows ok bs s
 
   -- what a pair adds to sums fits
   abbrev pub TermsFit : List Agg → Pair → Type 0
@@ -172,31 +170,31 @@ module _ (ks : List Kind) (k : ℕ) (keys : List Span → List Span) (long : (r 
       )
 
   -- The columns of a pair whose numbers fit make no number that does not fit.
-  pub columns_fit : (s : Pair) → IsPair s → member.KeptAt ks k keys long shifted kks kinded more rows ok (joined s) (3 * k + 3) s.0 aggs → RowFits (joined s) → TermsFit aggs s → Fit (grow_numbers (all_member_columns places (3 * k + 3) aggs) (joined s))
+  pub columns_fit : (s : Pair) → IsPair s → member.KeptAt by more rows ok (joined s) (3 * by.k + 3) s.0 aggs → RowFits (joined s) → TermsFit aggs s → Fit (grow_numbers (all_member_columns places (3 * by.k + 3) aggs) (joined s))
   columns_fit s v kept f terms =
-      let q = 3 * k + 3 in
+      let q = 3 * by.k + 3 in
       let tests = plans.tests places in
       let weights = plans.weights places in
       let each = each_member_columns places q aggs in
       let row = joined s in
-      let first = member.test_values ks k keys long shifted kks kinded more rows ok s in
-      let next = member.weight_values ks k keys long shifted kks kinded more rows ok s in
+      let first = member.test_values by more rows ok s in
+      let next = member.weight_values by more rows ok s in
       let tested = row ++ first in
       let weighed = tested ++ next in
       let last = weighed ++ values aggs s in
-      let there = member.kept_more ks k keys long shifted kks kinded more rows ok tested next q s.0 aggs (member.kept_more ks k keys long shifted kks kinded more rows ok row first q s.0 aggs kept) in
-      let x = safe_columns row tests first (member.tests_mean ks k keys long shifted kks kinded more rows ok s v) (
-        reads_safe (And (all_sure b k) (all_sure 0 k)) _ (sure_reads b k, sure_reads 0 k),
-        (reads_safe (same_guesses 0 b k) _ (same_reads 0 b k), tt),
+      let there = member.kept_more by more rows ok tested next q s.0 aggs (member.kept_more by more rows ok row first q s.0 aggs kept) in
+      let x = safe_columns row tests first (member.tests_mean by more rows ok s v) (
+        reads_safe (And (all_sure b by.k) (all_sure 0 by.k)) _ (sure_reads b by.k, sure_reads 0 by.k),
+        (reads_safe (same_guesses 0 b by.k) _ (same_reads 0 b by.k), tt),
       ) f in
-      let y = safe_columns tested weights next (member.weights_mean ks k keys long shifted kks kinded more rows ok s v) (
+      let y = safe_columns tested weights next (member.weights_mean by more rows ok s v) (
         reads_safe (Case (plans.is_sure places) (lo t) zero_term) _ (tt, (tt, refl)),
         (
           reads_safe (And (plans.is_sure places) (positive (lo t))) _ (tt, (refl, tt)),
           (reads_safe (And (plans.belongs places) (positive (sg t))) _ (tt, (refl, tt)), tt),
         ),
       ) x.1 in
-      let z = safe_columns weighed each (values aggs s) (member.members_mean ks k keys long shifted kks kinded more rows ok s v q aggs ok_aggs there) (members_safe s q aggs terms) y.1 in
+      let z = safe_columns weighed each (values aggs s) (member.members_mean by more rows ok s v q aggs ok_aggs there) (members_safe s q aggs terms) y.1 in
       (careful_grow (all_member_columns places q aggs) row last
       (then_adds careful tests (weights ++ each) row tested (Some last) x.0 (then_adds careful weights each tested weighed (Some last) y.0 z.0))).1
 
@@ -215,7 +213,7 @@ module _ (ks : List Kind) (k : ℕ) (keys : List Span → List Span) (long : (r 
       let high = each_fits (upper_term g d) (members key) (fit_parts (pos (sum_by nat_abs uppers) ∷ []) uppers m.1).1 in
       let own = each_fits (guess_term d) g.belonging (fit_parts (pos (sum_by nat_abs guesses) ∷ []) guesses m.0).1 in
       let Passing = λ (r : RangeRow). belongs key r ≡ true → Fit (guess_term d r ∷ []) in
-      let passing = all_filter Passing (second.overlaps ks k keys long shifted kks kinded more rows ok key) rows
+      let passing = all_filter Passing (second.overlaps by more rows ok key) rows
       (passed_all (λ r. Fit (guess_term d r ∷ [])) (λ r. Fit (guess_term d r ∷ [])) (belongs key) rows own) in
       let guess = all_guesses d key (members key) passing in
       all_both (λ r. ValueFits (value_1 (agg.Sum d) (key, r)) × (ValueFits (value_2 (agg.Sum d) (key, r)) × ValueFits (value_3 (agg.Sum d) (key, r)))) (λ r. TermsFit bs (key, r)) (members key)
@@ -230,22 +228,22 @@ module _ (ks : List Kind) (k : ℕ) (keys : List Span → List Span) (long : (r 
   key_terms key (agg.Max d ∷ bs) f = key_terms key bs f
 
   abbrev wide : Pair → List Value
-  wide s = rows_of.wide ks k keys long shifted kks kinded aggs ok_aggs rows ok s
+  wide s = rows_of.wide by aggs ok_aggs rows ok s
 
   abbrev ValuesAt : List Value → ℕ → Pair → List Agg → Type 0
-  ValuesAt row m s bs = rows_of.ValuesAt ks k keys long shifted kks kinded aggs ok_aggs rows ok row m s bs
+  ValuesAt row m s bs = rows_of.ValuesAt by aggs ok_aggs rows ok row m s bs
 
   abbrev own_rows : List Value → List (List Value)
   own_rows key = map wide (with_left box_row members key (members key))
 
   -- the magnitudes of a column over the members
-  magnitude : (key : List Value) (i : ℕ) (f : RangeRow → ℤ) → ((r : RangeRow) → IsRangeRow ks r → At (wide (key, r)) i (value.Int (f r))) → sum_by (λ row. nat_abs (number (value_at row i))) (own_rows key) ≡ sum_by nat_abs (map f (members key))
+  magnitude : (key : List Value) (i : ℕ) (f : RangeRow → ℤ) → ((r : RangeRow) → IsRangeRow by.ks r → At (wide (key, r)) i (value.Int (f r))) → sum_by (λ row. nat_abs (number (value_at row i))) (own_rows key) ≡ sum_by nat_abs (map f (members key))
   magnitude key i f at =
       ap (sum_by (λ row. nat_abs (number (value_at row i)))) (map-map (λ r. (key, r)) wide (members key))
-      ∙ sum_made (IsRangeRow ks) (λ r. wide (key, r)) i f (members key) (all_filter (IsRangeRow ks) (second.overlaps ks k keys long shifted kks kinded more rows ok key) rows ok) at
+      ∙ sum_made (IsRangeRow by.ks) (λ r. wide (key, r)) i f (members key) (all_filter (IsRangeRow by.ks) (second.overlaps by more rows ok key) rows ok) at
 
   -- The sums over the members of a box fit where the numbers of the aggregates do.
-  pub over_fits : (key : List Value) → IsKey key → (m : ℕ) (bs : List Agg) → ((r : RangeRow) → IsRangeRow ks r → ValuesAt (wide (key, r)) m (key, r) bs) → Fit (flat_map (agg_numbers (group_at key)) bs) → Fit (flat_map (magnitudes (own_rows key)) (all_member_aggs m bs))
+  pub over_fits : (key : List Value) → IsKey key → (m : ℕ) (bs : List Agg) → ((r : RangeRow) → IsRangeRow by.ks r → ValuesAt (wide (key, r)) m (key, r) bs) → Fit (flat_map (agg_numbers (group_at key)) bs) → Fit (flat_map (magnitudes (own_rows key)) (all_member_aggs m bs))
   over_fits key some m [] at f = refl
   over_fits key some m (agg.Sum d ∷ bs) at f =
       let g = group_at key in
@@ -259,7 +257,7 @@ module _ (ks : List Kind) (k : ℕ) (keys : List Span → List Span) (long : (r 
       let low : size m ≡ sum_by nat_abs lowers = magnitude key m (lower_term g d) (λ r v. (at r v).0.0) in
       let guess : size (m + 1) ≡ sum_by nat_abs guesses =
       magnitude key (m + 1) (λ r. if belongs key r then guess_term d r else pos 0) (λ r v. (at r v).0.1)
-      ∙ same_size (IsRangeRow ks) (second.overlaps ks k keys long shifted kks kinded more rows ok key) (belongs key) (guess_term d) (λ r v h. second.belongs_overlaps ks k keys long shifted kks kinded more rows ok key some r v h) rows ok in
+      ∙ same_size (IsRangeRow by.ks) (second.overlaps by more rows ok key) (belongs key) (guess_term d) (λ r v h. second.belongs_overlaps by more rows ok key some r v h) rows ok in
       let high : size (m + 2) ≡ sum_by nat_abs uppers = magnitude key (m + 2) (upper_term g d) (λ r v. (at r v).0.2) in
       let none : size (m + 3) ≡ 0 = magnitude key (m + 3) (λ r. pos 0) (λ r v. (at r v).0.3) ∙ zeros (members key) in
       let Sized = λ (n : ℕ). Fit (pos n ∷ []) in

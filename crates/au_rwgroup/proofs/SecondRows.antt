@@ -3,7 +3,6 @@ use Rattle.std.specs.Prelude.{◌≡◌, ◌<◌, ℕ, ◌+◌, ◌*◌, Bool, t
 use Rattle.std.specs.List.{AllByRecursion, AllZip}
 use Rattle.std.proofs.Common.{arith, refl, sym, ◌∙◌, ap, subst, append_assoc}
 use Rattle.std.proofs.lemmas.List.{length-append, length-map, append-nil}
-use Rattle.au_value.specs.declared.kinds.Kind.{Kind}
 use Rattle.au_value.specs.declared.value.Value.{Value}
 use Rattle.au_value.specs.Ranges.{Span, IsRangeOf, all_overlap, guesses}
 use Rattle.au_expr.specs.Ordinary.{is_true}
@@ -42,33 +41,31 @@ use Rattle.au_rwgroup.proofs.Found.{found_from}
 use Rattle.au_rwexpr.proofs.PlanNumbersOf.{all_made}
 use Rattle.au_rwgroup.proofs.FirstRows.{first_row}
 use Rattle.au_rwexpr.proofs.Coded.{rl, rs, rh}
+use Rattle.au_rwgroup.proofs.KeyReading.{KeyReading}
 
 -- the first columns of a row
 run_first : (xs more : List Value) (w : ℕ) → length xs ≡ w → kept (run 0 w) (xs ++ more) ≡ xs
 run_first xs more w e = kept_are (xs ++ more) (run 0 w) xs (first_picks xs more w e)
 
-module _ (ks : List Kind) (k : ℕ) (keys : List Span → List Span) (long : (r : RangeRow) → IsRangeRow ks r → length (keys r.cells) ≡ k) (shifted : (r : RangeRow) → IsRangeRow ks r → (row : List Value) (i : ℕ) → EndsOfAll rl rs rh row i r.cells → EndsOfAll rl rs rh row i (keys r.cells)) (kks : List Kind) (kinded : (r : RangeRow) → IsRangeRow ks r → AllZip IsRangeOf kks (keys r.cells)) (more : List PAgg) (rows : Bounded) (ok : IsRelation ks rows) where
-  abbrev pub there : (r : RangeRow) → IsRangeRow ks r → (row : List Value) → EndsOfAll rl rs rh row 0 r.cells → EndsOfAll rl rs rh row 0 (keys r.cells)
-  there r v row e = shifted r v row 0 e
-
+module _ (by : KeyReading) (more : List PAgg) (rows : Bounded) (ok : IsRelation by.ks rows) where
   abbrev b : ℕ
-  b = 3 * k + 3 + length more
+  b = 3 * by.k + 3 + length more
 
   abbrev guess : RangeRow → List Value
-  guess r = guesses (keys r.cells)
+  guess r = guesses (by.keys r.cells)
 
   abbrev pub group_of : List Value → Bounded
   group_of key = filter (λ r. same_row key (guess r)) rows
 
   abbrev pub box : List Value → List Span
-  box key = hull_of (map (λ r. keys r.cells) (group_of key))
+  box key = hull_of (map (λ r. by.keys r.cells) (group_of key))
 
   -- a box with its triple and what is kept
   abbrev pub box_row : List Value → List Value
-  box_row key = first_row ks k keys long there more (group_of key)
+  box_row key = first_row by more (group_of key)
 
   abbrev pub overlaps : List Value → RangeRow → Bool
-  overlaps key r = all_overlap (keys r.cells) (box key)
+  overlaps key r = all_overlap (by.keys r.cells) (box key)
 
   abbrev pub members : List Value → Bounded
   members key = filter (overlaps key) rows
@@ -77,49 +74,49 @@ module _ (ks : List Kind) (k : ℕ) (keys : List Span → List Span) (long : (r 
   abbrev pub IsKey : List Value → Type 0
   IsKey key = grouping.Some guess key rows
 
-  pub box_long : (key : List Value) → IsKey key → length (box key) ≡ k
+  pub box_long : (key : List Value) → IsKey key → length (box key) ≡ by.k
   box_long key some =
-      let all = subst (λ ss. AllByRecursion (IsRangeRow ks) ss) some.is (all_filter (IsRangeRow ks) (λ r. same_row key (guess r)) rows ok) in
-      subst (λ ss. length (hull_of (map (λ r. keys r.cells) ss)) ≡ k) (sym some.is)
-      (hull_long (λ r. keys r.cells) k some.first some.others (all_from (IsRangeRow ks) (λ r. length (keys r.cells) ≡ k) (some.first ∷ some.others) long all))
+      let all = subst (λ ss. AllByRecursion (IsRangeRow by.ks) ss) some.is (all_filter (IsRangeRow by.ks) (λ r. same_row key (guess r)) rows ok) in
+      subst (λ ss. length (hull_of (map (λ r. by.keys r.cells) ss)) ≡ by.k) (sym some.is)
+      (hull_long (λ r. by.keys r.cells) by.k some.first some.others (all_from (IsRangeRow by.ks) (λ r. length (by.keys r.cells) ≡ by.k) (some.first ∷ some.others) by.long all))
 
   abbrev tail : List Value → List Value
-  tail key = encode_counts (group_counts keys (group_of key)) ++ map (plain_aggregate (map (group.wide ks k keys long there) (group_of key))) more
+  tail key = encode_counts (group_counts by.keys (group_of key)) ++ map (plain_aggregate (map (group.wide by) (group_of key))) more
 
   pub box_row_long : (key : List Value) → IsKey key → length (box_row key) ≡ b
   box_row_long key some =
-      let cells_long : length (encode_cells (box key)) ≡ 3 * k = all_ends_long rl rs rh (box key) ∙ ap (λ m. 3 * m) (box_long key some) in
-      omega (arith, length-append (encode_cells (box key)) (tail key), cells_long, length-map more (plain_aggregate (map (group.wide ks k keys long there) (group_of key))))
+      let cells_long : length (encode_cells (box key)) ≡ 3 * by.k = all_ends_long rl rs rh (box key) ∙ ap (λ m. 3 * m) (box_long key some) in
+      omega (arith, length-append (encode_cells (box key)) (tail key), cells_long, length-map more (plain_aggregate (map (group.wide by) (group_of key))))
 
-  all_in : (key : List Value) (some : IsKey key) → IsRelation ks (some.first ∷ some.others)
-  all_in key some = subst (λ ss. AllByRecursion (IsRangeRow ks) ss) some.is (all_filter (IsRangeRow ks) (λ r. same_row key (guess r)) rows ok)
+  all_in : (key : List Value) (some : IsKey key) → IsRelation by.ks (some.first ∷ some.others)
+  all_in key some = subst (λ ss. AllByRecursion (IsRangeRow by.ks) ss) some.is (all_filter (IsRangeRow by.ks) (λ r. same_row key (guess r)) rows ok)
 
   -- the box is made of ranges, with the key as guess
-  pub box_ranges : (key : List Value) → IsKey key → AllZip IsRangeOf kks (box key)
+  pub box_ranges : (key : List Value) → IsKey key → AllZip IsRangeOf by.kks (box key)
   box_ranges key some =
-      let all = all_from (IsRangeRow ks) (λ r. AllZip IsRangeOf kks (keys r.cells)) (some.first ∷ some.others) kinded (all_in key some) in
-      subst (λ ss. AllZip IsRangeOf kks (hull_of (map (λ r. keys r.cells) ss))) (sym some.is)
-      (hull_of_ranges keys kks (some.first ∷ some.others) all (omega arith))
+      let all = all_from (IsRangeRow by.ks) (λ r. AllZip IsRangeOf by.kks (by.keys r.cells)) (some.first ∷ some.others) by.kinded (all_in key some) in
+      subst (λ ss. AllZip IsRangeOf by.kks (hull_of (map (λ r. by.keys r.cells) ss))) (sym some.is)
+      (hull_of_ranges by.keys by.kks (some.first ∷ some.others) all (omega arith))
 
   pub box_guess : (key : List Value) → IsKey key → guesses (box key) ≡ key
   box_guess key some =
-      ap (λ ss. guesses (hull_of (map (λ r. keys r.cells) ss))) some.is
-      ∙ guesses-hull (λ r. keys r.cells) k some.first some.others (all_from (IsRangeRow ks) (λ r. length (keys r.cells) ≡ k) (some.first ∷ some.others) long (all_in key some))
+      ap (λ ss. guesses (hull_of (map (λ r. by.keys r.cells) ss))) some.is
+      ∙ guesses-hull (λ r. by.keys r.cells) by.k some.first some.others (all_from (IsRangeRow by.ks) (λ r. length (by.keys r.cells) ≡ by.k) (some.first ∷ some.others) by.long (all_in key some))
       ∙ sym (same_row_is key (guess some.first) some.key_is)
 
   -- a row that belongs to a box overlaps it
-  pub belongs_overlaps : (key : List Value) → IsKey key → (r : RangeRow) → IsRangeRow ks r → same_row key (guess r) ≡ true → overlaps key r ≡ true
+  pub belongs_overlaps : (key : List Value) → IsKey key → (r : RangeRow) → IsRangeRow by.ks r → same_row key (guess r) ≡ true → overlaps key r ≡ true
   belongs_overlaps key some r v s =
-      guesses_meet kks (keys r.cells) (box key) (kinded r v) (box_ranges key some)
+      guesses_meet by.kks (by.keys r.cells) (box key) (by.kinded r v) (box_ranges key some)
       (ap (same_row (guess r)) (box_guess key some ∙ same_row_is key (guess r) s) ∙ same_row_refl (guess r))
 
   pub has_member : (key : List Value) → IsKey key → Met box_row members key
   has_member key some =
-      let f = found_from (IsRangeRow ks) (λ r. same_row key (guess r)) (overlaps key) (λ r v s. belongs_overlaps key some r v s) rows ok some.first some.others some.is in
+      let f = found_from (IsRangeRow by.ks) (λ r. same_row key (guess r)) (overlaps key) (λ r v s. belongs_overlaps key some r v s) rows ok some.first some.others some.is in
       record { first = f.first; others = f.others; is = f.is }
 
   abbrev pub keys_list : Rows
-  keys_list = guessed_keys keys rows
+  keys_list = guessed_keys by.keys rows
 
   pub all_keys : AllByRecursion IsKey keys_list
   all_keys = all_from (λ key. 0 < copies key (map guess rows)) IsKey keys_list (λ key o. some_with guess key rows o) (all_occur guess rows)
@@ -128,7 +125,7 @@ module _ (ks : List Kind) (k : ℕ) (keys : List Span → List Span) (long : (r 
   joined s = box_row s.0 ++ encode_row s.1
 
   abbrev pub IsPair : List Value × RangeRow → Type 0
-  IsPair s = IsKey s.0 × IsRangeRow ks s.1
+  IsPair s = IsKey s.0 × IsRangeRow by.ks s.1
 
   -- the parts of a joined row
   pub box_at : (s : List Value × RangeRow) → EndsOfAll rl rs rh (joined s) 0 (box s.0)
@@ -137,37 +134,37 @@ module _ (ks : List Kind) (k : ℕ) (keys : List Span → List Span) (long : (r 
   pub cells_at : (s : List Value × RangeRow) → IsPair s → EndsOfAll rl rs rh (joined s) b s.1.cells
   cells_at s v = all_ends_at rl rs rh (box_row s.0) (encode_counts s.1.annot) b s.1.cells (box_row_long s.0 v.0)
 
-  meets_now : (key : List Value) (r : RangeRow) → IsKey key → IsRangeRow ks r → passes (meets b 0 k) (box_row key ++ encode_row r) ≡ overlaps key r
+  meets_now : (key : List Value) (r : RangeRow) → IsKey key → IsRangeRow by.ks r → passes (meets b 0 by.k) (box_row key ++ encode_row r) ≡ overlaps key r
   meets_now key r some v =
       let row = box_row key ++ encode_row r in
-      ap (λ t. is_true (plain_value (meets b 0 k) t)) (sym (append-nil row))
-      ∙ ap is_true (meets_has row b 0 k (keys r.cells) (box key) (long r v) (box_long key some) (shifted r v row b (all_ends_at rl rs rh (box_row key) (encode_counts r.annot) b r.cells (box_row_long key some)))
+      ap (λ t. is_true (plain_value (meets b 0 by.k) t)) (sym (append-nil row))
+      ∙ ap is_true (meets_has row b 0 by.k (by.keys r.cells) (box key) (by.long r v) (box_long key some) (by.shifted r v row b (all_ends_at rl rs rh (box_row key) (encode_counts r.annot) b r.cells (box_row_long key some)))
       (all_ends_more rl rs rh (box_row key) (encode_row r) 0 (box key) (all_ends_at rl rs rh [] (tail key) 0 (box key) refl)) [])
 
   pub pairs_ok : (js : Rows) → AllByRecursion IsKey js → AllByRecursion IsPair (pairs box_row members js)
   pairs_ok [] v = tt
   pairs_ok (j ∷ js) v =
       all_append IsPair (with_left box_row members j (members j)) (pairs box_row members js)
-      (all_made (IsRangeRow ks) IsPair (λ r. (j, r)) (members j) (all_filter (IsRangeRow ks) (overlaps j) rows ok) (λ r p. (v.0, p))) (pairs_ok js v.1)
+      (all_made (IsRangeRow by.ks) IsPair (λ r. (j, r)) (members j) (all_filter (IsRangeRow by.ks) (overlaps j) rows ok) (λ r p. (v.0, p))) (pairs_ok js v.1)
 
   -- each box with each row that overlaps it
   abbrev pub all_pairs : List (List Value × RangeRow)
   all_pairs = pairs box_row members keys_list
 
   -- The rows of the join.
-  pub joined_rows : (ts : List Rows) (boxes p : PlanTree) → plain_rows boxes ts ≡ map box_row keys_list → Gives ts p rows → plain_rows (Join (meets b 0 k) boxes p) ts ≡ map joined all_pairs
+  pub joined_rows : (ts : List Rows) (boxes p : PlanTree) → plain_rows boxes ts ≡ map box_row keys_list → Gives ts p rows → plain_rows (Join (meets b 0 by.k) boxes p) ts ≡ map joined all_pairs
   joined_rows ts boxes p g h =
-      (λ i. filter (passes (meets b 0 k)) (flat_map (λ x. map (λ y. x ++ y) (h i)) (g i)))
-      ∙ join_rows IsKey (IsRangeRow ks) box_row encode_row (passes (meets b 0 k)) overlaps meets_now keys_list rows all_keys ok
+      (λ i. filter (passes (meets b 0 by.k)) (flat_map (λ x. map (λ y. x ++ y) (h i)) (g i)))
+      ∙ join_rows IsKey (IsRangeRow by.ks) box_row encode_row (passes (meets b 0 by.k)) overlaps meets_now keys_list rows all_keys ok
 
   module _ (columns : List PTerm) (values : List Value × RangeRow → List Value) (added : (s : List Value × RangeRow) → IsPair s → add_columns reading columns (joined s) ≡ Some (joined s ++ values s)) (aggs : List PAgg) where
     abbrev pub wide : List Value × RangeRow → List Value
     wide s = joined s ++ values s
 
     -- the rows of the join with the further columns
-    pub wide_rows : (ts : List Rows) (boxes p : PlanTree) → plain_rows boxes ts ≡ map box_row keys_list → Gives ts p rows → plain_rows (extend_all columns (Join (meets b 0 k) boxes p)) ts ≡ map wide all_pairs
+    pub wide_rows : (ts : List Rows) (boxes p : PlanTree) → plain_rows boxes ts ≡ map box_row keys_list → Gives ts p rows → plain_rows (extend_all columns (Join (meets b 0 by.k) boxes p)) ts ≡ map wide all_pairs
     wide_rows ts boxes p g h =
-        rows-extend_all columns (Join (meets b 0 k) boxes p) ts
+        rows-extend_all columns (Join (meets b 0 by.k) boxes p) ts
         ∙ ap (map (grow columns)) (joined_rows ts boxes p g h)
         ∙ map-map joined (grow columns) all_pairs
         ∙ map_valid IsPair (λ s. grow columns (joined s)) wide all_pairs (pairs_ok keys_list all_keys) (λ s v. grow_is columns (joined s) (wide s) (added s v))
@@ -176,13 +173,13 @@ module _ (ks : List Kind) (k : ℕ) (keys : List Span → List Span) (long : (r 
     same_key s v = ap (kept (run 0 b)) (append_assoc (box_row s.0) (encode_row s.1) (values s)) ∙ run_first (box_row s.0) (encode_row s.1 ++ values s) b (box_row_long s.0 v.0)
 
     apart : Apart box_row keys_list
-    apart = boxes_apart (IsRangeRow ks) (λ r. keys r.cells) k long rows ok tail
+    apart = boxes_apart (IsRangeRow by.ks) (λ r. by.keys r.cells) by.k by.long rows ok tail
 
     all_met : AllByRecursion (Met box_row members) keys_list
     all_met = all_from IsKey (Met box_row members) keys_list has_member all_keys
 
     -- The rows of the second grouping, for any further columns and aggregates.
-    pub second_rows : (ts : List Rows) (boxes p : PlanTree) → plain_rows boxes ts ≡ map box_row keys_list → Gives ts p rows → plain_rows (second_grouping k b columns aggs boxes p) ts ≡ map (λ key. box_row key ++ map (plain_aggregate (map wide (with_left box_row members key (members key)))) aggs) keys_list
+    pub second_rows : (ts : List Rows) (boxes p : PlanTree) → plain_rows boxes ts ≡ map box_row keys_list → Gives ts p rows → plain_rows (second_grouping by.k b columns aggs boxes p) ts ≡ map (λ key. box_row key ++ map (plain_aggregate (map wide (with_left box_row members key (members key)))) aggs) keys_list
     second_rows ts boxes p g h =
         ap (plain_group (run 0 b) aggs) (wide_rows ts boxes p g h)
         ∙ join_groups box_row members IsPair wide (run 0 b) same_key aggs keys_list apart all_met (pairs_ok keys_list all_keys)
