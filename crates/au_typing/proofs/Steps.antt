@@ -18,7 +18,7 @@ use Rattle.au_typing.specs.Scales.{rescaled, scale}
 use Rattle.au_typing.specs.Scopes.{Scope}
 use Rattle.au_typing.specs.Shapes.{if_arms, signed_tree, signed_kind, signed_term, argument_given}
 use Rattle.au_typing.specs.Terms.{Setting, term_faults, term_kind, expression, argument_of, branches, operated, rows, argument_term, aggregate_faults, is_extreme, counts}
-use Rattle.au_typing.specs.Results.{Answer, Answers, CaseAnswers, Takes, TermFound, Gathers, Joins, Signs, Chooses, Ends, IsFlag, ClauseAnswers, Refuses, next_column}
+use Rattle.au_typing.specs.Results.{Answer, Answers, CaseAnswers, Takes, TermFound, Gathers, Joins, Signs, Chooses, EndsCase, IsFlag, ClauseAnswers, Refuses, next_column}
 use Rattle.au_typing.specs.declared.fault.TypingFault.{TypingFault}
 use Rattle.au_typing.specs.declared.fault.TypingFault.TheVariants as fault
 use Rattle.au_typing.specs.declared.setting.Gathered.{Gathered}
@@ -179,7 +179,7 @@ term_branch s to (node.Aggregate' at w p x) e = refl
 
 -- the answer of the value of ELSE
 ends_step : (s : Scope) (g : Setting) (around : ℕ) (to : Option Kind) (t : Node) (old new : Gathered) (x z : Answer)
-    → Answers s g around (term_tree t) old new x → Ends to x z → CaseAnswers s g around to (term_tree t) old new z
+    → Answers s g around (term_tree t) old new x → EndsCase to x z → CaseAnswers s g around to (term_tree t) old new z
 ends_step s g around to t old new (Ok x) (Ok z) fx j = (
   record {
     sound = fx.0.sound;
@@ -226,7 +226,7 @@ aggregate_misplaced s g around at w e f h =
 
 -- the same of no WHEN part before it
 pub ends_case : (s : Scope) (g : Setting) (around : ℕ) (to : Option Kind) (arms : List (Node × Node)) (t : Node) (old new : Gathered) (x z : Answer) → length arms ≡ 0
-    → Answers s g around (term_tree t) old new x → Ends to x z → CaseAnswers s g around to (arms_tree arms (term_tree t)) old new z
+    → Answers s g around (term_tree t) old new x → EndsCase to x z → CaseAnswers s g around to (arms_tree arms (term_tree t)) old new z
 ends_case s g around to [] t old new x z none found j = ends_step s g around to t old new x z found j
 ends_case s g around to (arm ∷ arms) t old new x z none found j = absurd (omega (arith, none))
 

@@ -1,5 +1,5 @@
--- What the calls answer: of a term its expression and its kind where nothing is wrong with it, or else one of its faults.
--- Besides, the plain views of what the calls hold.
+-- What the calls answer: what they look for where nothing is wrong with the text, or else one of its faults.
+-- In this order: answers as such, what the calls hold, terms, output columns, and the clauses of a SELECT.
 use Rattle.std.specs.Prelude.{ℕ, ◌+◌, ◌≡◌, ◌⊎◌, List, [], ◌∷◌, ◌++◌, length, map, flat_map, Option, Bool, Some, None, option_map, if◌then◌else◌, Result, Ok, Err, Contains}
 use Rattle.au_value.specs.declared.kinds.Kind.{Kind}
 use Rattle.au_expr.specs.declared.expr.Expr.{Expr}
@@ -31,9 +31,35 @@ use Rattle.au_typing.specs.declared.setting.Setting.{Setting as HeldSetting}
 use Rattle.au_typing.specs.declared.setting.Setting.TheVariants as held
 use Rattle.au_typing.specs.declared.setting.Gathered.{Gathered}
 
+-- ---- answers
+
 -- one of these faults, or want of memory
 abbrev pub Refuses : List TypingFault → TypingFault → Type 0
 Refuses faults f = (f ≡ fault.NoMemory) ⊎ Contains faults f
+
+-- Kinds that don't fit, at this place, or want of memory.
+abbrev pub Misfits : ℕ → Option Kind → TypingFault → Type 0
+Misfits at kind f = (f ≡ fault.NoMemory) ⊎ ((f ≡ fault.KindMismatch at) × (kind ≡ None))
+
+-- What was looked for is found, or one of the faults is named.
+abbrev pub IsFoundOr : {A : Type 0} → List TypingFault → (A → Type 0) → Result A TypingFault → Type 0
+IsFoundOr faults Found (Ok a) = Found a
+IsFoundOr faults Found (Err f) = Refuses faults f
+
+-- An answer is made of that of a part, or of those of two or three parts, whose first fault is handed on.
+abbrev pub OfOne : {A R : Type 0} → (A → Result R TypingFault → Type 0) → Result A TypingFault → Result R TypingFault → Type 0
+OfOne Made (Ok x) r = Made x r
+OfOne Made (Err g) r = r ≡ Err g
+
+abbrev pub OfTwo : {A B R : Type 0} → (A → B → Result R TypingFault → Type 0) → Result A TypingFault → Result B TypingFault → Result R TypingFault → Type 0
+OfTwo Made (Ok x) y r = OfOne (Made x) y r
+OfTwo Made (Err g) y r = r ≡ Err g
+
+abbrev pub OfThree : {A B C R : Type 0} → (A → B → C → Result R TypingFault → Type 0) → Result A TypingFault → Result B TypingFault → Result C TypingFault → Result R TypingFault → Type 0
+OfThree Made (Ok x) y z r = OfTwo (Made x) y z r
+OfThree Made (Err g) y z r = r ≡ Err g
+
+-- ---- what the calls hold
 
 abbrev pub scope_view : HeldScope → Scope
 scope_view s = record { owners = s.owners.items; fields = s.fields.items }
@@ -46,42 +72,45 @@ setting_view (held.Groups g) = groups (record { keys = g.keys.items; by = g.by; 
 abbrev pub next_column : Setting → Gathered → ℕ
 next_column setting gathered = first_column setting + length gathered.arguments.items
 
+-- These aggregates have been put behind those that were gathered, the first at this column.
+pub record Gathers (scope : Scope) (n : ℕ) (ws : List Written) (old new : Gathered) : Type 0 where
+  pub arguments : map term new.arguments.items ≡ map term old.arguments.items ++ map (argument_of scope) ws
+  pub aggs : new.aggs.items ≡ old.aggs.items ++ taken_from n ws
+
+-- the aggregates of this tree
+abbrev pub GathersAll : Scope → Setting → Tree → Gathered → Gathered → Type 0
+GathersAll scope setting tree old new = Gathers scope (next_column setting old) (written tree) old new
+
+-- ---- terms
+
+-- what a call answers of a term: its expression and its kind
+abbrev pub Answer : Type 0
+Answer = Result (Expr × Kind) TypingFault
+
 -- Nothing is wrong with the term, and this is its expression and its kind.
 pub record TermFound (scope : Scope) (setting : Setting) (around n : ℕ) (tree : Tree) (e : Term) (k : Kind) : Type 0 where
   pub sound : term_faults scope setting around tree ≡ []
   pub kind : term_kind scope tree ≡ Some k
   pub term : expression scope setting n tree ≡ e
 
--- These aggregates have been put behind those that were gathered, the first at this column.
-pub record Gathers (scope : Scope) (n : ℕ) (ws : List Written) (old new : Gathered) : Type 0 where
-  pub arguments : map term new.arguments.items ≡ map term old.arguments.items ++ map (argument_of scope) ws
-  pub aggs : new.aggs.items ≡ old.aggs.items ++ taken_from n ws
-
--- what a call answers of a term
-abbrev pub Answer : Type 0
-Answer = Result (Expr × Kind) TypingFault
-
 -- The term is found and its aggregates are gathered, or one of its faults is named.
 abbrev pub Answers : Scope → Setting → ℕ → Tree → Gathered → Gathered → Answer → Type 0
-Answers scope setting around tree old new (Ok r) = TermFound scope setting around (next_column setting old) tree (term r.0) r.1 × Gathers scope (next_column setting old) (written tree) old new
-Answers scope setting around tree old new (Err f) = Refuses (term_faults scope setting around tree) f
+Answers scope setting around tree old new answer =
+    IsFoundOr (term_faults scope setting around tree) (λ r. TermFound scope setting around (next_column setting old) tree (term r.0) r.1 × GathersAll scope setting tree old new) answer
 
--- Kinds that don't fit, at this place, or want of memory.
-abbrev pub Misfits : ℕ → Option Kind → TypingFault → Type 0
-Misfits at kind f = (f ≡ fault.NoMemory) ⊎ ((f ≡ fault.KindMismatch at) × (kind ≡ None))
+-- This is the kind, and the expression is as claimed; or the kinds don't fit.
+abbrev pub IsOfKind : ℕ → Option Kind → (Term → Type 0) → Answer → Type 0
+IsOfKind at kind Is (Ok r) = (kind ≡ Some r.1) × Is (term r.0)
+IsOfKind at kind Is (Err f) = Misfits at kind f
 
 -- The answers of two operands are made that of their operator.
 abbrev pub Joins : Operator → ℕ → Answer → Answer → Answer → Type 0
-Joins o at (Ok x) (Ok y) (Ok r) = (operator_kind o (Some x.1) (Some y.1) ≡ Some r.1) × (operated o (Some x.1) (Some y.1) (term x.0) (term y.0) ≡ term r.0)
-Joins o at (Ok x) (Ok y) (Err f) = Misfits at (operator_kind o (Some x.1) (Some y.1)) f
-Joins o at (Ok x) (Err g) r = r ≡ Err g
-Joins o at (Err g) y r = r ≡ Err g
+Joins o at left right answer =
+    OfTwo (λ x y. IsOfKind at (operator_kind o (Some x.1) (Some y.1)) (λ e. operated o (Some x.1) (Some y.1) (term x.0) (term y.0) ≡ e)) left right answer
 
 -- The answer of an operand is made that of its sign or NOT.
 abbrev pub Signs : Sign → ℕ → Answer → Answer → Type 0
-Signs s at (Ok x) (Ok r) = (signed_kind s (Some x.1) ≡ Some r.1) × (signed_term s (term x.0) ≡ term r.0)
-Signs s at (Ok x) (Err f) = Misfits at (signed_kind s (Some x.1)) f
-Signs s at (Err g) r = r ≡ Err g
+Signs s at operand answer = OfOne (λ x. IsOfKind at (signed_kind s (Some x.1)) (λ e. signed_term s (term x.0) ≡ e)) operand answer
 
 -- Nothing is wrong with the parts of a CASE, and this is their expression with each branch brought to a kind, and their own kind.
 pub record BranchesFound (scope : Scope) (setting : Setting) (around n : ℕ) (to : Option Kind) (tree : Tree) (e : Term) (k : Kind) : Type 0 where
@@ -91,23 +120,22 @@ pub record BranchesFound (scope : Scope) (setting : Setting) (around n : ℕ) (t
 
 -- The parts of a CASE are found and their aggregates are gathered, or one of their faults is named.
 abbrev pub CaseAnswers : Scope → Setting → ℕ → Option Kind → Tree → Gathered → Gathered → Answer → Type 0
-CaseAnswers scope setting around to tree old new (Ok r) =
-    BranchesFound scope setting around (next_column setting old) to tree (term r.0) r.1 × Gathers scope (next_column setting old) (written tree) old new
-CaseAnswers scope setting around to tree old new (Err f) = Refuses (term_faults scope setting around tree) f
+CaseAnswers scope setting around to tree old new answer =
+    IsFoundOr (term_faults scope setting around tree) (λ r. BranchesFound scope setting around (next_column setting old) to tree (term r.0) r.1 × GathersAll scope setting tree old new) answer
+
+-- The value of ELSE has the kind that it had, and is brought to that of the branches.
+abbrev pub IsBrought : Option Kind → Expr × Kind → Answer → Type 0
+IsBrought to x (Ok r) = (x.1 ≡ r.1) × (rescaled (Some x.1) to (term x.0) ≡ term r.0)
+IsBrought to x (Err f) = f ≡ fault.NoMemory
 
 -- The answer of the value of ELSE is made that of a branch.
-abbrev pub Ends : Option Kind → Answer → Answer → Type 0
-Ends to (Ok x) (Ok r) = (x.1 ≡ r.1) × (rescaled (Some x.1) to (term x.0) ≡ term r.0)
-Ends to (Ok x) (Err f) = f ≡ fault.NoMemory
-Ends to (Err g) r = r ≡ Err g
+abbrev pub EndsCase : Option Kind → Answer → Answer → Type 0
+EndsCase to value answer = OfOne (IsBrought to) value answer
 
 -- The answers of a condition, a value and what follows are made that of a WHEN part whose value is brought to a kind.
 abbrev pub Chooses : ℕ → Option Kind → Answer → Answer → Answer → Answer → Type 0
-Chooses at to (Ok x) (Ok y) (Ok z) (Ok r) = (when_kind (Some x.1) (Some y.1) (Some z.1) ≡ Some r.1) × (Case (term x.0) (rescaled (Some y.1) to (term y.0)) (term z.0) ≡ term r.0)
-Chooses at to (Ok x) (Ok y) (Ok z) (Err f) = Misfits at (when_kind (Some x.1) (Some y.1) (Some z.1)) f
-Chooses at to (Ok x) (Ok y) (Err g) r = r ≡ Err g
-Chooses at to (Ok x) (Err g) z r = r ≡ Err g
-Chooses at to (Err g) y z r = r ≡ Err g
+Chooses at to condition value rest answer =
+    OfThree (λ x y z. IsOfKind at (when_kind (Some x.1) (Some y.1) (Some z.1)) (λ e. Case (term x.0) (rescaled (Some y.1) to (term y.0)) (term z.0) ≡ e)) condition value rest answer
 
 -- An aggregate of this argument has been put behind those that were gathered.
 pub record TakesOne (setting : Setting) (word : AggWord) (old new : Gathered) (argument e : Term) : Type 0 where
@@ -117,9 +145,10 @@ pub record TakesOne (setting : Setting) (word : AggWord) (old new : Gathered) (a
 
 -- The answer of an argument is made that of its aggregate.
 abbrev pub Takes : Setting → AggWord → ℕ → Gathered → Gathered → Answer → Answer → Type 0
-Takes setting word at old new (Ok x) (Ok r) = (aggregate_kind word (Some x.1) ≡ Some r.1) × TakesOne setting word old new (term x.0) (term r.0)
-Takes setting word at old new (Ok x) (Err f) = Misfits at (aggregate_kind word (Some x.1)) f
-Takes setting word at old new (Err g) r = r ≡ Err g
+Takes setting word at old new argument answer =
+    OfOne (λ x. IsOfKind at (aggregate_kind word (Some x.1)) (λ e. TakesOne setting word old new (term x.0) e)) argument answer
+
+-- ---- output columns
 
 -- an output column of known kind
 abbrev pub output : Term → Option (List ℕ) → Kind → Output
@@ -133,52 +162,14 @@ pub record Puts (outs : List Output) (old new : Outputs) : Type 0 where
   pub exprs : map term new.exprs.items ≡ map term old.exprs.items ++ map (λ o. o.term) outs
   pub columns : new.columns.items ≡ old.columns.items ++ columns_from (length old.columns.items + 1) outs
 
--- what a well-typed query is, and a FROM item
-abbrev pub part_typing : Part → Typing
-part_typing part = record { faults = []; tree = tree part.query; columns = part.columns.items; joins = part.joins }
-
-abbrev pub from_view : FromPart → FromItem
-from_view item = record { at = item.at; name = item.name; typing = part_typing item.part }
+-- This output column has been put behind the others, or memory is wanting.
+abbrev pub PutsOne : Outputs → Outputs → Output → Result (Unit {0}) TypingFault → Type 0
+PutsOne old new out (Ok done) = Puts (out ∷ []) old new
+PutsOne old new out (Err f) = f ≡ fault.NoMemory
 
 -- A term of this name and answer is put as an output column.
 abbrev pub PutsValue : Outputs → Outputs → Result (Option (List ℕ)) TypingFault → Answer → Result (Unit {0}) TypingFault → Type 0
-PutsValue old new (Ok name) (Ok x) (Ok done) = Puts (output (term x.0) name x.1 ∷ []) old new
-PutsValue old new (Ok name) (Ok x) (Err f) = f ≡ fault.NoMemory
-PutsValue old new (Ok name) (Err g) r = r ≡ Err g
-PutsValue old new (Err g) found r = r ≡ Err g
-
--- The answer of a term at this place is that of a condition: its expression, where it is a flag.
-abbrev pub IsFlag : ℕ → Answer → Result (Option Expr) TypingFault → Type 0
-IsFlag at (Ok x) (Ok o) = (x.1 ≡ Flag) × (o ≡ Some x.0)
-IsFlag at (Ok x) (Err f) = (f ≡ fault.KindMismatch at) × (kind_if (is_kind Flag (Some x.1)) Flag ≡ None)
-IsFlag at (Err g) r = r ≡ Err g
-
-abbrev pub clause_term : Scope → Setting → ℕ → Option (ℕ × Tree) → Option Term
-clause_term scope setting n clause = option_map (λ c. expression scope setting n c.1) clause
-
--- The condition is found and its aggregates are gathered, or one of its faults is named.
-abbrev pub ClauseAnswers : Scope → Setting → Option (ℕ × Tree) → Gathered → Gathered → Result (Option Expr) TypingFault → Type 0
-ClauseAnswers scope setting clause old new (Ok o) =
-    (clause_faults scope setting clause ≡ []) × (clause_term scope setting (next_column setting old) clause ≡ option_map term o) × Gathers scope (next_column setting old) (having_written clause) old new
-ClauseAnswers scope setting clause old new (Err f) = Refuses (clause_faults scope setting clause) f
-
--- a tree under the expression of a condition, if there is one
-abbrev pub selected_by : Option Term → Query → Query
-selected_by None q = q
-selected_by (Some e) q = Select e q
-
--- the groups of a tree, or the totals over its rows
-abbrev pub groups_tree : Bool → ℕ → List Agg → List Term → Query → Query
-groups_tree by keys aggs columns q = if by then Group keys aggs (Project columns q) else Total aggs (Project columns q)
-
--- the clauses of a SELECT that was read
-abbrev pub clauses_of : SelectPart → Clauses
-clauses_of part = record { distinct = part.distinct; items = map item_view part.items.items; condition = condition_view part.condition; keys = part.keys.items; grouped = part.grouped; having = condition_view part.having }
-
--- a tree joined with those before it
-abbrev pub joined_to : Option Query → Query → Query
-joined_to None q = q
-joined_to (Some left) q = Product left q
+PutsValue old new name value answer = OfTwo (λ n x. PutsOne old new (output (term x.0) n x.1)) name value answer
 
 -- Nothing is wrong with these items, and their columns and aggregates have been put behind the others.
 pub record ItemsFound (scope : Scope) (setting : Setting) (items : List ItemTree) (old new : Gathered) (before after : Outputs) : Type 0 where
@@ -186,10 +177,51 @@ pub record ItemsFound (scope : Scope) (setting : Setting) (items : List ItemTree
   pub gathers : Gathers scope (next_column setting old) (items_written items) old new
   pub puts : Puts (outputs_from scope setting (next_column setting old) items) before after
 
+-- ---- queries and FROM items
+
+-- what a well-typed query is, and a FROM item
+abbrev pub part_typing : Part → Typing
+part_typing part = record { faults = []; tree = tree part.query; columns = part.columns.items; joins = part.joins }
+
+abbrev pub from_view : FromPart → FromItem
+from_view item = record { at = item.at; name = item.name; typing = part_typing item.part }
+
+-- a tree joined with those before it
+abbrev pub joined_to : Option Query → Query → Query
+joined_to None q = q
+joined_to (Some left) q = Product left q
+
+-- ---- conditions: WHERE and HAVING
+
+-- The term is a flag, and this is its expression; or it is none.
+abbrev pub IsFlagOf : ℕ → Expr × Kind → Result (Option Expr) TypingFault → Type 0
+IsFlagOf at x (Ok o) = (x.1 ≡ Flag) × (o ≡ Some x.0)
+IsFlagOf at x (Err f) = (f ≡ fault.KindMismatch at) × (kind_if (is_kind Flag (Some x.1)) Flag ≡ None)
+
+-- The answer of a term at this place is that of a condition: its expression, where it is a flag.
+abbrev pub IsFlag : ℕ → Answer → Result (Option Expr) TypingFault → Type 0
+IsFlag at value answer = OfOne (IsFlagOf at) value answer
+
+abbrev pub clause_term : Scope → Setting → ℕ → Option (ℕ × Tree) → Option Term
+clause_term scope setting n clause = option_map (λ c. expression scope setting n c.1) clause
+
+-- The condition is found and its aggregates are gathered, or one of its faults is named.
+abbrev pub ClauseAnswers : Scope → Setting → Option (ℕ × Tree) → Gathered → Gathered → Result (Option Expr) TypingFault → Type 0
+ClauseAnswers scope setting clause old new answer =
+    IsFoundOr (clause_faults scope setting clause)
+    (λ o. (clause_faults scope setting clause ≡ []) × (clause_term scope setting (next_column setting old) clause ≡ option_map term o) × Gathers scope (next_column setting old) (having_written clause) old new)
+    answer
+
 -- The expression of WHERE is found, or one of its faults is named.
 abbrev pub FilterAnswers : Scope → Option (ℕ × Tree) → Result (Option Expr) TypingFault → Type 0
-FilterAnswers scope clause (Ok o) = (clause_faults scope rows clause ≡ []) × (clause_term scope rows 0 clause ≡ option_map term o)
-FilterAnswers scope clause (Err f) = Refuses (clause_faults scope rows clause) f
+FilterAnswers scope clause answer =
+    IsFoundOr (clause_faults scope rows clause) (λ o. (clause_faults scope rows clause ≡ []) × (clause_term scope rows 0 clause ≡ option_map term o)) answer
+
+-- ---- the clauses of a SELECT
+
+-- the clauses that were read
+abbrev pub clauses_of : SelectPart → Clauses
+clauses_of part = record { distinct = part.distinct; items = map item_view part.items.items; condition = condition_view part.condition; keys = part.keys.items; grouped = part.grouped; having = condition_view part.having }
 
 -- the terms of the clauses, or the first fault
 abbrev pub all_terms : Result (Option Expr) TypingFault → Result (Unit {0}) TypingFault → Result (Option Expr) TypingFault → Gathered → Outputs → Result ClauseTerms TypingFault
@@ -211,8 +243,7 @@ pub record TermsFound (scope : Scope) (setting : Setting) (c : Clauses) (terms :
   pub columns : terms.outputs.columns.items ≡ columns_from 1 (outputs scope setting c)
 
 abbrev pub TermsAnswer : Scope → Setting → Clauses → Result ClauseTerms TypingFault → Type 0
-TermsAnswer scope setting c (Ok terms) = TermsFound scope setting c terms
-TermsAnswer scope setting c (Err f) = Refuses (clauses_faults scope setting c) f
+TermsAnswer scope setting c answer = IsFoundOr (clauses_faults scope setting c) (TermsFound scope setting c) answer
 
 -- what a call answers of the clauses of a SELECT: what they stand over, and their terms
 abbrev pub HeldClauses : Type 0
@@ -223,6 +254,17 @@ abbrev pub ClausesAnswer : Scope → Bool → Clauses → HeldClauses → Type 0
 ClausesAnswer scope joins c (Ok r) =
     (setting_view r.0 ≡ setting_of scope joins c) × (flat_map (name_faults scope) c.keys ≡ []) × TermsFound scope (setting_view r.0) c r.1
 ClausesAnswer scope joins c (Err f) = Refuses (clauses_faults scope (setting_of scope joins c) c) f
+
+-- ---- what a SELECT is
+
+-- a tree under the expression of a condition, if there is one
+abbrev pub selected_by : Option Term → Query → Query
+selected_by None q = q
+selected_by (Some e) q = Select e q
+
+-- the groups of a tree, or the totals over its rows
+abbrev pub groups_tree : Bool → ℕ → List Agg → List Term → Query → Query
+groups_tree by keys aggs columns q = if by then Group keys aggs (Project columns q) else Total aggs (Project columns q)
 
 -- the tree below the items
 abbrev pub held_body : HeldSetting → Option Term → Option Term → Gathered → Query → Query
@@ -241,5 +283,4 @@ held_typing distinct joins setting terms q = record {
 
 -- What the terms of a SELECT over FROM items make is what it is, or one of its faults is named.
 abbrev pub SelectAnswer : Clauses → List FromItem → HeldClauses → Type 0
-SelectAnswer c from (Ok r) = held_typing c.distinct (is_join from) r.0 r.1 (product from) ≡ select c from
-SelectAnswer c from (Err f) = Refuses ((select c from).faults) f
+SelectAnswer c from answer = IsFoundOr ((select c from).faults) (λ r. held_typing c.distinct (is_join from) r.0 r.1 (product from) ≡ select c from) answer

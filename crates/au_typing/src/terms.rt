@@ -4,7 +4,7 @@ ghost use Rattle.au_expr.specs.Terms.{term, Case, Literal};
 ghost use Rattle.au_parse.specs.Levels.{arms_tree};
 ghost use Rattle.au_parse.specs.Tree.{Tree};
 ghost use Rattle.au_parse.specs.Views.{term_tree};
-ghost use Rattle.au_typing.specs.Results.{Answers, CaseAnswers, Chooses, Ends, Joins, Signs, Takes, scope_view, setting_view};
+ghost use Rattle.au_typing.specs.Results.{Answers, CaseAnswers, Chooses, EndsCase, Joins, Signs, Takes, scope_view, setting_view};
 ghost use Rattle.au_typing.specs.Shapes.{if_arms, operator_of, signed_kind, signed_term, argument_given};
 ghost use Rattle.au_typing.specs.Scales.{scale};
 ghost use Rattle.au_typing.specs.Scopes.{Scope as ScopeOf, field_kind};
@@ -317,7 +317,7 @@ fn sign(alloc: Global, at: usize, sign: Sign, inner: Answer) -> Answer
 // The answer of a value made that of a branch, brought to a kind.
 fn last_branch(alloc: Global, to: Option<Kind>, value: Answer) -> Answer
     requires { scale to ≤ 9 }
-    ensures { Ends to value result }
+    ensures { EndsCase to value result }
 {
     match value {
         Ok((e, k)) => Ok((rescaled(alloc, k, to, e)?, k)),
