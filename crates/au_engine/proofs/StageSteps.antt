@@ -1,22 +1,19 @@
 -- A plan over tables behind others, from the plans of its inputs over parts of them.
-use Rattle.std.specs.Prelude.{◌≡◌, ℕ, ◌+◌, ◌*◌, List, [], ◌∷◌, ◌++◌, length, Some, slice_get, unwrap_or, ◌==◌, option_and_then, ℤ, suc}
+use Rattle.std.specs.Prelude.{◌≡◌, ℕ, ◌+◌, ◌*◌, List, [], ◌∷◌, ◌++◌, length, Some, slice_get, ℤ, suc}
 use Rattle.std.specs.List.{AllZip}
-use Rattle.std.proofs.Common.{arith, refl, sym, ◌∙◌, ap, subst, append_assoc, eq-eqb}
+use Rattle.std.proofs.Common.{arith, refl, sym, ◌∙◌, ap, subst, append_assoc}
 use Rattle.std.proofs.lemmas.List.{length-append}
 use Rattle.au_value.specs.declared.kinds.Kind.{Kind}
-use Rattle.au_value.specs.declared.kinds.Kind.TheVariants.{Int}
 use Rattle.au_algebra.specs.Bounded.{Bounded}
 use Rattle.au_algebra.specs.Laws.{IsRelation}
 use Rattle.au_algebra.specs.Ordinary.{Rows}
-use Rattle.au_algebra.specs.Typing.{kinds_if}
 use Rattle.au_algebra.proofs.Each.{all_append}
 use Rattle.au_plain.specs.PlanKinds.{FitRows, FitTables, HaveKinds}
 use Rattle.au_plain.specs.Plans.{PlanTree, Scan}
 use Rattle.au_encode.specs.Encode.{encode, encoded_kinds}
 use Rattle.au_encode.specs.Gives.{Gives}
 use Rattle.au_encode.proofs.EncodedKinds.{rows_have_kinds}
-use Rattle.au_rwexpr.proofs.Coded.{own}
-use Rattle.au_rwexpr.proofs.Picks.{coded_long}
+use Rattle.au_rwexpr.proofs.Filled.{scan_gives as scanned}
 use Rattle.au_expr.specs.Figures.{Fit}
 use Rattle.au_engine.specs.Stages.{Adds, GivesOver, SameRows}
 use Rattle.au_engine.proofs.Operators.{more_numbers}
@@ -54,9 +51,6 @@ right_group xs ys zs us = ap (λ l. l ++ us) (append_assoc xs ys zs)
 moved : (p : PlanTree) (ks : List Kind) (rows : Bounded) (ns : List ℤ) (tk uk : List (List Kind)) (ts us : List Rows) → tk ≡ uk → ts ≡ us → Gives tk ts p ks rows ns → Gives uk us p ks rows ns
 moved p ks rows ns tk uk ts us e f g = subst (λ hs. Gives uk hs p ks rows ns) f (subst (λ hs. Gives hs ts p ks rows ns) e g)
 
-pub wide_enough : (ks : List Kind) → kinds_if (length (encoded_kinds ks) == 3 * length ks + 3) (encoded_kinds ks) ≡ Some (encoded_kinds ks)
-wide_enough ks = let e = eq-eqb _ _ (coded_long own own own own own own (length ks) ks Int refl) in rw e
-
 -- the Scan of rows that were put behind others
 module _ (old new : List Rows) (found : Rows) (behind : new ≡ old ++ found ∷ []) (c : ℕ) (ks : List Kind) (rows : Bounded) (long : length ks ≡ c) (relation : IsRelation ks rows) (fits : FitRows (encode rows)) (same : SameRows found (encode rows)) where
   scan_gives :
@@ -67,12 +61,7 @@ module _ (old new : List Rows) (found : Rows) (behind : new ≡ old ++ found ∷
       let tables = (before ++ encode rows ∷ []) ++ after in
       let kind : slice_get tk (length old) ≡ Some (encoded_kinds ks) = subst (λ n. slice_get tk n ≡ Some (encoded_kinds ks)) fn (item_at front (encoded_kinds ks) back) in
       let table : slice_get tables (length old) ≡ Some (encode rows) = subst (λ n. slice_get tables n ≡ Some (encode rows)) bn (item_at before (encode rows) after) in
-      record {
-        typed = ap (option_and_then (λ js. kinds_if (length js == 3 * length ks + 3) js)) kind ∙ wide_enough ks;
-        relation = relation;
-        encoded = ap (λ o. unwrap_or o []) table;
-        fit = λ f. refl;
-      }
+      scanned tk tables (length old) ks rows ns kind table relation
 
   pub scan_adds : (p : PlanTree) → p ≡ Scan (length old) (3 * c + 3) → (ns : List ℤ) → Adds old new p c ks rows ns
   scan_adds p is ns =

@@ -19,6 +19,7 @@ use Rattle.au_plain.specs.PlanKinds.{FitTables}
 use Rattle.au_plain.specs.Plans.{PlanTree, Scan}
 use Rattle.au_encode.specs.Encode.{encode, encoded_kinds}
 use Rattle.au_encode.specs.Gives.{Gives}
+use Rattle.au_rwexpr.proofs.Filled.{wide_enough}
 use Rattle.au_rwcore.specs.Gives.{Multiplies, Projects, Selects, Unites}
 use Rattle.au_combine.specs.Gives.{Combines}
 use Rattle.au_rwdiff.specs.Gives.{Subtracts}
@@ -29,7 +30,6 @@ use Rattle.au_compress.proofs.PlainProduct.{numbers_is}
 use Rattle.au_engine.specs.Compressing.{tree_numbers, tree_rows}
 use Rattle.au_engine.specs.Rewriting.{AreEncodable, GivesTree, IsPlanOf}
 use Rattle.au_engine.proofs.Operators.{Counts, One, Two, difference_part, distinct_part, group_part, product_part, project_part, select_part, total_part, typed_kinds, union_part}
-use Rattle.au_engine.proofs.StageSteps.{wide_enough}
 
 -- what two facts of a value give together
 pub from_two : {X E : Type 0} (r : Result X E) (P Q R : X → Type 0) → ((x : X) → P x → Q x → R x) → IfOk r P → IfOk r Q → IfOk r R

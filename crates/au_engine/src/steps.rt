@@ -1,6 +1,6 @@
 //! Each operator of a tree as a step of its plan.
 //!
-//! Each step gives `NoMemory` also where a row cannot have so many columns.
+//! Each step gives `NoMemory` also where its operator's call does, since a row cannot have so many columns.
 ghost use Rattle.std.specs.Prelude.{◌≡◌, ◌+◌, ◌*◌, IfOk, length, map};
 ghost use Rattle.au_expr.specs.Terms.{term};
 ghost use Rattle.au_plain.specs.Plans.{Scan, plan_tree};
@@ -12,7 +12,7 @@ ghost use Rattle.au_rwgroup.specs.Gives.{Distincts, Groups, Totals};
 use au_algebra::Agg;
 use au_combine::combine;
 use au_expr::Expr;
-use au_plain::{Layout, Plan, both};
+use au_plain::{Layout, Plan};
 use au_rwcore::{product, project, select, union};
 use au_rwdiff::difference;
 use au_rwexpr::width_of;
@@ -63,24 +63,13 @@ pub(crate) fn project_of(alloc: Global, items: &[Expr], of: Planned) -> Result<P
     })
 }
 
-// A sum of two numbers of columns, if a row can have so many.
-fn sum_of(first: usize, second: usize) -> Result<usize, NoMemory>
-    ensures { IfOk result (λ n. n ≡ first + second) }
-{
-    match first.checked_add(second) {
-        Some(columns) => Ok(columns),
-        None => Err(NoMemory),
-    }
-}
-
 /// Each pair of rows.
 pub(crate) fn product_of(alloc: Global, left: Planned, right: Planned) -> Result<Planned, NoMemory>
     ensures columns { IfOk result (λ p. p.layout.columns ≡ left.layout.columns + right.layout.columns) }
     ensures plan { IfOk result (λ p. Multiplies left.layout.columns right.layout.columns (plan_tree left.plan) (plan_tree right.plan) (plan_tree p.plan)) }
 {
-    let columns = sum_of(left.layout.columns, right.layout.columns);
-    let made = product(alloc, left.plan, right.plan, &left.layout, &right.layout);
-    let (plan, columns) = both(made, columns)?;
+    let plan = product(alloc, left.plan, right.plan, &left.layout, &right.layout)?;
+    let columns = left.layout.columns + right.layout.columns;
     Ok(Planned {
         plan,
         layout: Layout { columns },
@@ -145,9 +134,8 @@ pub(crate) fn group_of(
     ensures columns { IfOk result (λ p. p.layout.columns ≡ keys + length aggs.now) }
     ensures plan { IfOk result (λ p. Groups of.layout.columns keys aggs.now (plan_tree of.plan) (plan_tree p.plan)) }
 {
-    let columns = sum_of(keys, aggs.len());
-    let made = group(alloc, of.plan, keys, aggs, &of.layout);
-    let (plan, columns) = both(made, columns)?;
+    let plan = group(alloc, of.plan, keys, aggs, &of.layout)?;
+    let columns = keys + aggs.len();
     Ok(Planned {
         plan,
         layout: Layout { columns },
