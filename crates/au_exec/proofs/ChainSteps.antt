@@ -11,6 +11,7 @@ use Rattle.au_algebra.specs.Ordinary.{Rows}
 use Rattle.au_physical.specs.Physicals.{PhysicalTree}
 use Rattle.au_exec.specs.ChainLaws.{chain_apart, chain_fit_apart, chain_fit_none, chain_none, rows_apart}
 use Rattle.au_exec.specs.Chains.{CanChain, CanWork, atop, chain_fit, chain_rows, if_stays, operator_numbers, operator_rows, over, plan_size}
+use Rattle.au_exec.specs.Pushed.{Working}
 use Rattle.au_exec.specs.declared.operators.Operator.{Operator}
 use Rattle.au_exec.specs.declared.operators.Operator.TheVariants as code
 
@@ -32,47 +33,57 @@ chain_can_apart (o ∷ os) xs ys h =
     let b = chain_can_apart os (operator_rows o xs) (operator_rows o ys) (subst (CanChain os) (rows_apart o xs ys) h.1) in
     ((a.0, b.0), (a.1, b.1))
 
--- a row on which some operators have worked: what those that are left make of it
-pub record Working (os rest : List Operator) (row now : List Value) : Type 0 where
-  pub can : CanChain rest (now ∷ [])
-  pub rows : chain_rows rest (now ∷ []) ≡ chain_rows os (row ∷ [])
-  pub fits : chain_fit rest (now ∷ []) ≡ chain_fit os (row ∷ [])
-
 -- one operator more
+module _ (os rest later : List Operator) (o : Operator) (row now then : List Value) (is : rest ≡ o ∷ later) where
+  whole : Working os rest row now → Working os (o ∷ later) row now
+  whole w = subst (λ xs. Working os xs row now) is w
+
+  pub can_step : Working os rest row now → CanWork o (now ∷ [])
+  can_step w = (whole w).can.0
+
+  pub stays_step :
+      Working os rest row now → operator_rows o (now ∷ []) ≡ if_stays true then → fit (operator_numbers o (now ∷ [])) ≡ true
+      → Working os later row then
+  stays_step w rows fits =
+      let h = whole w in
+      record {
+        can = subst (CanChain later) rows h.can.1;
+        rows = ap (chain_rows later) (sym rows) ∙ h.rows;
+        fits = ap (chain_fit later) (sym rows) ∙ ap (λ b. b && chain_fit later (operator_rows o (now ∷ []))) (sym fits) ∙ h.fits;
+      }
+
+  pub drops_rows : Working os rest row now → operator_rows o (now ∷ []) ≡ [] → chain_rows os (row ∷ []) ≡ []
+  drops_rows w rows = sym (whole w).rows ∙ ap (chain_rows later) rows ∙ chain_none later
+
+  pub drops_fits :
+      Working os rest row now → operator_rows o (now ∷ []) ≡ [] → fit (operator_numbers o (now ∷ [])) ≡ true → chain_fit os (row ∷ []) ≡ true
+  drops_fits w rows fits = sym (whole w).fits ∙ (λ j. fits j && chain_fit later (rows j)) ∙ chain_fit_none later
+
+  pub drops_over : Working os rest row now → fit (operator_numbers o (now ∷ [])) ≡ false → chain_fit os (row ∷ []) ≡ false
+  drops_over w over = sym (whole w).fits ∙ ap (λ b. b && chain_fit later (operator_rows o (now ∷ []))) over
+
+-- the operator at a place
 module _ (os : List Operator) (i : ℕ) (o : Operator) (row now then : List Value) (below : i < length os) (is : o ≡ get_or os i o) where
   next_is : drop i os ≡ o ∷ drop (i + 1) os
   next_is = drop_more os i o below ∙ ap (λ (x : Operator). x ∷ drop (i + 1) os) (sym is)
 
-  whole : Working os (drop i os) row now → Working os (o ∷ drop (i + 1) os) row now
-  whole w = subst (λ rest. Working os rest row now) next_is w
-
   pub can_next : Working os (drop i os) row now → CanWork o (now ∷ [])
-  can_next w = (whole w).can.0
+  can_next w = can_step os (drop i os) (drop (i + 1) os) o row now then next_is w
 
   pub stays_next :
       Working os (drop i os) row now → operator_rows o (now ∷ []) ≡ if_stays true then → fit (operator_numbers o (now ∷ [])) ≡ true
       → Working os (drop (i + 1) os) row then
-  stays_next w rows fits =
-      let h = whole w in
-      let rest = drop (i + 1) os in
-      record {
-        can = subst (CanChain rest) rows h.can.1;
-        rows = ap (chain_rows rest) (sym rows) ∙ h.rows;
-        fits = ap (chain_fit rest) (sym rows) ∙ ap (λ b. b && chain_fit rest (operator_rows o (now ∷ []))) (sym fits) ∙ h.fits;
-      }
+  stays_next w rows fits = stays_step os (drop i os) (drop (i + 1) os) o row now then next_is w rows fits
 
   pub leaves_rows : Working os (drop i os) row now → operator_rows o (now ∷ []) ≡ [] → chain_rows os (row ∷ []) ≡ []
-  leaves_rows w rows = let h = whole w in let rest = drop (i + 1) os in sym h.rows ∙ ap (chain_rows rest) rows ∙ chain_none rest
+  leaves_rows w rows = drops_rows os (drop i os) (drop (i + 1) os) o row now then next_is w rows
 
   pub leaves_fits :
       Working os (drop i os) row now → operator_rows o (now ∷ []) ≡ [] → fit (operator_numbers o (now ∷ [])) ≡ true → chain_fit os (row ∷ []) ≡ true
-  leaves_fits w rows fits =
-      let h = whole w in
-      let rest = drop (i + 1) os in
-      sym h.fits ∙ (λ j. fits j && chain_fit rest (rows j)) ∙ chain_fit_none rest
+  leaves_fits w rows fits = drops_fits os (drop i os) (drop (i + 1) os) o row now then next_is w rows fits
 
   pub leaves_over : Working os (drop i os) row now → fit (operator_numbers o (now ∷ [])) ≡ false → chain_fit os (row ∷ []) ≡ false
-  leaves_over w over = sym (whole w).fits ∙ ap (λ b. b && chain_fit (drop (i + 1) os) (operator_rows o (now ∷ []))) over
+  leaves_over w over = drops_over os (drop i os) (drop (i + 1) os) o row now then next_is w over
 
 -- rows on which a chain has worked, and those that are left
 pub record Chaining (os : List Operator) (rest all done : Rows) : Type 0 where

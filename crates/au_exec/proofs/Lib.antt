@@ -17,7 +17,9 @@ pub mod RangeOrder
 pub mod RangeIndex
 pub mod Matches
 pub mod Probing
+pub mod PairSteps
 pub mod PairedSteps
+pub mod PushSteps
 pub mod JoinPulls
 pub mod TypedPhysical
 pub mod Collected

@@ -1,13 +1,9 @@
 -- An operator that works row by row takes a chunk as it takes all rows.
-use Rattle.std.specs.Prelude.{◌≡◌, ◌+◌, ◌≤◌, Bool, true, false, ◌&&◌, ℤ, List, [], ◌++◌, Option, None, Result, Ok, Err, Vec}
+use Rattle.std.specs.Prelude.{◌≡◌, ◌+◌, ◌≤◌, Bool, true, false, ◌&&◌, List, ◌++◌, Option, None, Result, Ok, Err, Vec}
 use Rattle.std.proofs.Common.{refl, sym, ◌∙◌, ap, subst, arith}
-use Rattle.std.proofs.lemmas.List.Folds.{list_all-append}
 use Rattle.std.specs.declared.alloc.Global.{Global}
 use Rattle.au_value.specs.declared.value.Value.{Value}
-use Rattle.au_value.specs.Numeral.{is_i128}
-use Rattle.au_expr.specs.Figures.{fit}
 use Rattle.au_expr.specs.declared.fault.EvalFault.{EvalFault}
-use Rattle.au_algebra.specs.Ordinary.{Rows}
 use Rattle.au_exec.specs.Chains.{CanChain, chain_fit, chain_rows}
 use Rattle.au_exec.specs.Left.{CanPull, Gave, Pulled, WorksNext, chunk_rows, fits_left, pulls, rows_left, work}
 use Rattle.au_exec.specs.declared.node.Node.{Node}
@@ -16,13 +12,6 @@ use Rattle.au_exec.specs.declared.operators.Operator.{Operator}
 use Rattle.au_exec.specs.ChainLaws.{chain_apart, chain_fit_apart, chain_fit_none, chain_none}
 use Rattle.au_exec.proofs.ChainSteps.{chain_can_apart}
 
--- an operator row by row, and the numbers that it evaluates
-pub record Streams (f : Rows → Rows) (g : Rows → List ℤ) : Type 0 where
-  pub rows : (xs ys : Rows) → f (xs ++ ys) ≡ f xs ++ f ys
-  pub numbers : (xs ys : Rows) → g (xs ++ ys) ≡ g xs ++ g ys
-  pub no_rows : f [] ≡ []
-  pub no_numbers : g [] ≡ []
-
 pub not_true : (b : Bool) → ¬ (b ≡ true) → b ≡ false
 not_true true h = absurd (h refl)
 not_true false h = refl
@@ -30,10 +19,6 @@ not_true false h = refl
 pub and_false : (a b : Bool) → b ≡ false → a && b ≡ false
 and_false true b h = h
 and_false false b h = refl
-
--- the numbers of all rows fit where those of the chunk and of the rest do
-pub fits_apart : (f : Rows → Rows) (g : Rows → List ℤ) → Streams f g → (all xs ys : Rows) → all ≡ xs ++ ys → fit (g all) ≡ fit (g xs) && fit (g ys)
-fits_apart f g s all xs ys is = ap (λ zs. fit (g zs)) is ∙ ap fit (s.numbers xs ys) ∙ list_all-append is_i128 (g xs) (g ys)
 
 abbrev Chunk : Type 0
 Chunk = Option (Vec (Vec Value Global) Global)

@@ -19,12 +19,14 @@ pub mod Left
 pub mod CanOpen
 pub mod Scans
 pub mod Opened
+pub mod Waiting
 pub mod Runs
 pub mod RunViews
 pub mod Advances
 pub mod Folds
 pub mod Tables
 pub mod Paired
+pub mod Pushed
 pub mod Merging
 pub mod Gathering
 pub mod GatherLaws

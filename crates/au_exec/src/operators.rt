@@ -81,8 +81,12 @@ pub(crate) fn work_rows(
     Ok(kept)
 }
 
-// Whether a row stays, changed by each operator in turn.
-fn work_row(alloc: Global, operators: &[Operator], row: &mut PRow) -> Result<bool, EvalFault>
+/// Whether a row stays, changed by each operator in turn.
+pub(crate) fn work_row(
+    alloc: Global,
+    operators: &[Operator],
+    row: &mut PRow,
+) -> Result<bool, EvalFault>
     requires { CanChain operators.now (row.old.items ∷ []) }
     ensures { Works operators.now row.old.items row.new.items result }
 {

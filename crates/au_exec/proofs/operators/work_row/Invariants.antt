@@ -1,6 +1,6 @@
 -- What the operators that are left make of the row is what all make of it.
 use Rattle.std.proofs.Common.{drop}
-use Rattle.au_exec.proofs.ChainSteps.{Working}
+use Rattle.au_exec.specs.Pushed.{Working}
 use Rattle.au_exec.proofs.operators.work_row.Given as goal
 
 abbrev pub invariant-loop-operator : goal.invariant-loop-operator
