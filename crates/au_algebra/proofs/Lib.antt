@@ -66,3 +66,6 @@ pub mod MergedRuns
 pub mod Gathering
 pub mod ByProduct
 pub mod AnyProduct
+pub mod FirstSeen
+pub mod RowKeys
+pub mod RowGroups

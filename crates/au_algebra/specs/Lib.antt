@@ -13,3 +13,4 @@ pub mod Products
 pub mod Laws
 -- What the contracts of inner calls and the proofs speak of.
 pub mod Ends
+pub mod Keys

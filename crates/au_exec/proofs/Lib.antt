@@ -3,10 +3,8 @@ pub mod Handed
 pub mod Parts
 pub mod Progress
 pub mod TermKinds
-pub mod FirstSeen
 pub mod GroupSteps
 pub mod AllPairs
-pub mod KeyParts
 pub mod NearPlaces
 pub mod Members
 pub mod NarrowSteps

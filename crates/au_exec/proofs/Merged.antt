@@ -24,7 +24,7 @@ use Rattle.au_exec.specs.Tables.{Folded, Table, folded, folded_with, put_at, tab
 use Rattle.au_exec.specs.declared.fold.Fold.{Fold}
 use Rattle.au_exec.specs.declared.fold.Fold.TheVariants.{Sum as Total, Least, Greatest}
 use Rattle.au_exec.proofs.ChainSteps.{without}
-use Rattle.au_exec.proofs.FirstSeen.{Apart, Cells, apart-distinct, itself, one, same}
+use Rattle.au_algebra.proofs.FirstSeen.{Apart, Cells, apart-distinct, itself, one, same}
 use Rattle.au_exec.proofs.TableSteps.{grow_is, table_at}
 use Rattle.au_exec.proofs.Updates.{Change, Has, Lacks, at_place, exchanged, has_own, has_still, keys_in, keys_upd, lacks_first, lacks_later, upd}
 

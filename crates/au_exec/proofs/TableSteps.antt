@@ -17,9 +17,10 @@ use Rattle.au_plain.specs.PlanNumbers.{group_numbers, magnitudes}
 use Rattle.au_exec.specs.Fitting.{HasArgument, HasColumn, HavePlaces}
 use Rattle.au_exec.specs.Groups.{CanRow, Group, group_with, groups_of, members_of, numbers_of_group, row_of_group, with_row_at}
 use Rattle.au_exec.specs.Tables.{CanGrowAll, CanPut, Table, finished_row, folded, folded_with, grow, grow_all, grow_numbers, grown_fit, put_at, put_numbers, table_with}
-use Rattle.au_exec.proofs.FirstSeen.{Cells}
+use Rattle.au_algebra.proofs.FirstSeen.{Cells}
+use Rattle.au_algebra.proofs.RowGroups.{keys-push, within}
 use Rattle.au_exec.proofs.FoldSteps.{all_fewer_fit, can_step_all, step_folds, stepped_are, values_are}
-use Rattle.au_exec.proofs.GroupSteps.{groups-push, keys-push, within}
+use Rattle.au_exec.proofs.GroupSteps.{groups-push}
 use Rattle.au_exec.proofs.Members.{Seen, can_rows, group_numbers_are, group_rows_are, keys_seen, some_members}
 use Rattle.au_exec.proofs.ChainSteps.{both_parts}
 use Rattle.au_exec.proofs.Pulling.{and_false, not_true}
@@ -94,7 +95,7 @@ module _ (keys : List ℕ) (aggs : List PAgg) where
       let ks = distinct same_row (map (kept keys) rows) in
       let p = position_or_len (same_row (kept keys row)) ks in
       let gs = put_is aggs (groups_of keys rows) p (kept keys row) row (some_groups keys rows) ∙ ap (map (folded aggs)) (groups-push keys rows row) in
-      λ i. table_with (sym (keys-push keys rows row) i) (gs i)
+      λ i. table_with (sym (keys-push (kept keys) rows row) i) (gs i)
 
   pub grown_is : (seen rows : Rows) → grow_all keys aggs (table_at keys aggs seen) rows ≡ table_at keys aggs (seen ++ rows)
   grown_is seen [] = ap (table_at keys aggs) (sym (append_nil seen))

@@ -31,7 +31,7 @@ use Rattle.au_physical.specs.declared.physical.Bounds.{Bounds}
 use Rattle.au_exec.specs.CanOpen.{CanJoin, CanOpen}
 use Rattle.au_exec.specs.Fitting.{HasArgument, HasColumn, HasKind, HavePlaces}
 use Rattle.au_exec.specs.Groups.{members_of}
-use Rattle.au_exec.proofs.FirstSeen.{Cells}
+use Rattle.au_algebra.proofs.FirstSeen.{Cells}
 use Rattle.au_exec.proofs.Members.{Seen, keys_seen, some_members}
 use Rattle.au_exec.proofs.TermKinds.{column_kind, kind_there, one_of_two, typed_kind, value_kind}
 

@@ -8,7 +8,7 @@ use Rattle.indexmap.specs.IndexSet.{insert_key}
 use Rattle.au_algebra.specs.Lists.{same_row}
 use Rattle.au_exec.specs.Tables.{Folded, folded_with}
 use Rattle.au_exec.specs.declared.fold.Fold.{Fold}
-use Rattle.au_exec.proofs.FirstSeen.{Cells, itself, same, turned}
+use Rattle.au_algebra.proofs.FirstSeen.{Cells, itself, same, turned}
 
 abbrev pub Change : Type 0
 Change = List Fold → List Fold

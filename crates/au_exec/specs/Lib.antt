@@ -5,7 +5,6 @@ pub mod Ends
 pub mod Outcomes
 pub mod Pairs
 pub mod Groups
-pub mod Keys
 pub mod Taken
 pub mod Ranged
 pub mod Hashed

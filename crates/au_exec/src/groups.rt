@@ -8,13 +8,13 @@ ghost use Rattle.au_algebra.specs.Lists.{same_row};
 ghost use Rattle.au_plain.specs.Meaning.{kept};
 ghost use Rattle.au_exec.specs.Fitting.{HavePlaces};
 ghost use Rattle.au_exec.specs.Folds.{fold_value};
-ghost use Rattle.au_exec.specs.Keys.{key_values, part_values};
+ghost use Rattle.au_algebra.specs.Keys.{key_values};
 ghost use Rattle.au_exec.specs.Outcomes.{rows_of};
 ghost use Rattle.au_exec.specs.Tables.{CanGrow, CanGrowAll, CanPut, finished_row, folded_of, grow, grow_all, grow_numbers, grown_fit, put_at, put_numbers, table_of};
 
 use crate::fold::{Fold, add_all, first_folds};
 use crate::keep::columns;
-use crate::key::{Part, has_parts, push_parts};
+use crate::key::{has_values, push_kept};
 use crate::lent_row::LentRow;
 use crate::rows::{push_row, push_value};
 use au_expr::EvalFault;
@@ -27,7 +27,7 @@ use std::mem;
 /// The groups of some rows: each list of key values, in the order in which they are first seen, with its aggregates.
 #[derive(Drop)]
 pub(crate) struct Groups {
-    pub(crate) seen: IndexSet<Vec<Part>>,
+    pub(crate) seen: IndexSet<Vec<Value>>,
     pub(crate) held: Vec<(PRow, Vec<Fold>)>,
     /// The place that was found last. Rows of one group often come one after the other, so it is tried first.
     pub(crate) recent: usize,
@@ -80,7 +80,7 @@ pub(crate) fn add_row(
     aggs: &[PAgg],
     groups: &mut Groups,
     row: &LentRow<'_>,
-    key: &mut Vec<Part>,
+    key: &mut Vec<Value>,
 ) -> Result<(), EvalFault>
     requires { CanGrow keys.now aggs.now (table_of groups.old) row.now }
     ensures { MatchResult result (λ _. (table_of groups.new ≡ grow keys.now aggs.now (table_of groups.old) row.now) × Fit (grow_numbers keys.now aggs.now (table_of groups.old) row.now)) (λ f. f ≡ fault.Overflow → ¬ (Fit (grow_numbers keys.now aggs.now (table_of groups.old) row.now))) }
@@ -95,10 +95,10 @@ pub(crate) fn add_row(
 // The place of a row's key values, where they may well stand at this place. No key is made where they do.
 fn place_near(
     alloc: Global,
-    seen: &mut IndexSet<Vec<Part>>,
+    seen: &mut IndexSet<Vec<Value>>,
     keys: &[usize],
     row: &LentRow<'_>,
-    key: &mut Vec<Part>,
+    key: &mut Vec<Value>,
     recent: usize,
 ) -> Result<usize, NoMemory>
     requires { HavePlaces keys.now row.now }
@@ -112,13 +112,13 @@ fn place_near(
 }
 
 // Whether a row's key values are those at a place.
-fn stands_at(seen: &IndexSet<Vec<Part>>, keys: &[usize], row: &LentRow<'_>, place: usize) -> bool
+fn stands_at(seen: &IndexSet<Vec<Value>>, keys: &[usize], row: &LentRow<'_>, place: usize) -> bool
     requires { HavePlaces keys.now row.now }
     ensures { IsTrue result → (list_any (same_row (kept keys.now row.now)) (key_values seen.now.keys) ≡ true) × (place ≡ position_or_len (same_row (kept keys.now row.now)) (key_values seen.now.keys)) }
 {
     let known = seen.as_slice();
     if place < known.len() {
-        has_parts(row, keys, &known[place])
+        has_values(row, keys, &known[place])
     } else {
         false
     }
@@ -128,28 +128,28 @@ fn stands_at(seen: &IndexSet<Vec<Part>>, keys: &[usize], row: &LentRow<'_>, plac
 /// is used again for each row.
 pub(crate) fn place_of(
     alloc: Global,
-    seen: &mut IndexSet<Vec<Part>>,
+    seen: &mut IndexSet<Vec<Value>>,
     keys: &[usize],
     row: &LentRow<'_>,
-    key: &mut Vec<Part>,
+    key: &mut Vec<Value>,
 ) -> Result<usize, NoMemory>
     requires { HavePlaces keys.now row.now }
     ensures keys { OnOk result (key_values seen.new.keys ≡ insert_key same_row (key_values seen.old.keys) (kept keys.now row.now)) }
     ensures place { IfOk result (λ place. place ≡ position_or_len (same_row (kept keys.now row.now)) (key_values seen.old.keys)) }
 {
     key.clear();
-    push_parts(key, keys, row)?;
+    push_kept(key, keys, row)?;
     place_of_key(alloc, seen, key)
 }
 
 /// The place of a key among those that were seen, behind the others where it is new.
 pub(crate) fn place_of_key(
     alloc: Global,
-    seen: &mut IndexSet<Vec<Part>>,
-    key: &mut Vec<Part>,
+    seen: &mut IndexSet<Vec<Value>>,
+    key: &mut Vec<Value>,
 ) -> Result<usize, NoMemory>
-    ensures keys { OnOk result (key_values seen.new.keys ≡ insert_key same_row (key_values seen.old.keys) (part_values key.old.items)) }
-    ensures place { IfOk result (λ place. place ≡ position_or_len (same_row (part_values key.old.items)) (key_values seen.old.keys)) }
+    ensures keys { OnOk result (key_values seen.new.keys ≡ insert_key same_row (key_values seen.old.keys) key.old.items) }
+    ensures place { IfOk result (λ place. place ≡ position_or_len (same_row key.old.items) (key_values seen.old.keys)) }
 {
     match known_place(seen, key) {
         Some(place) => Ok(place),
@@ -158,8 +158,8 @@ pub(crate) fn place_of_key(
 }
 
 // The place of a key that was seen.
-fn known_place(seen: &IndexSet<Vec<Part>>, key: &[Part]) -> Option<usize>
-    ensures { IfSome result (λ place. (list_any (same_row (part_values key.now)) (key_values seen.now.keys) ≡ true) × (place ≡ position_or_len (same_row (part_values key.now)) (key_values seen.now.keys))) }
+fn known_place(seen: &IndexSet<Vec<Value>>, key: &[Value]) -> Option<usize>
+    ensures { IfSome result (λ place. (list_any (same_row key.now) (key_values seen.now.keys) ≡ true) × (place ≡ position_or_len (same_row key.now) (key_values seen.now.keys))) }
 {
     match seen.get_index_of(key) {
         Some(place) => Some(place),
@@ -168,9 +168,9 @@ fn known_place(seen: &IndexSet<Vec<Part>>, key: &[Part]) -> Option<usize>
 }
 
 // Puts a key among those that were seen.
-fn put_key(seen: &mut IndexSet<Vec<Part>>, key: Vec<Part>) -> Result<usize, NoMemory>
-    ensures keys { OnOk result (key_values seen.new.keys ≡ insert_key same_row (key_values seen.old.keys) (part_values key.items)) }
-    ensures place { IfOk result (λ place. place ≡ position_or_len (same_row (part_values key.items)) (key_values seen.old.keys)) }
+fn put_key(seen: &mut IndexSet<Vec<Value>>, key: Vec<Value>) -> Result<usize, NoMemory>
+    ensures keys { OnOk result (key_values seen.new.keys ≡ insert_key same_row (key_values seen.old.keys) key.items) }
+    ensures place { IfOk result (λ place. place ≡ position_or_len (same_row key.items) (key_values seen.old.keys)) }
 {
     let (place, _) = seen.insert_full(key)?;
     Ok(place)

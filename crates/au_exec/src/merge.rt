@@ -6,14 +6,14 @@ ghost use Rattle.au_expr.specs.Figures.{Fit};
 ghost use Rattle.au_expr.specs.declared.fault.EvalFault.TheVariants as fault;
 ghost use Rattle.au_algebra.specs.Lists.{same_row};
 ghost use Rattle.au_exec.specs.Ends.{preferred};
-ghost use Rattle.au_exec.specs.Keys.{key_values, part_values};
+ghost use Rattle.au_algebra.specs.Keys.{key_values};
 ghost use Rattle.au_exec.specs.Merging.{absorb, absorb_all, absorb_numbers, absorbed_fit, fold_join_numbers, join_at, join_at_numbers, join_numbers, joined_fold, joined_folds};
 ghost use Rattle.au_exec.specs.Tables.{folded_of, folded_with, table_of};
 
 use crate::extreme::{Extreme, comes_first};
 use crate::fold::Fold;
 use crate::groups::{Groups, place_of_key, push_group};
-use crate::key::{Part, push_values};
+use crate::key::push_values;
 use au_expr::EvalFault;
 use au_plain::PRow;
 use au_value::{NoMemory, Value, copy};
@@ -41,7 +41,7 @@ fn add_group(
     groups: &mut Groups,
     key: PRow,
     folds: Vec<Fold>,
-    room: &mut Vec<Part>,
+    room: &mut Vec<Value>,
 ) -> Result<(), EvalFault>
     ensures { MatchResult result (λ _. (table_of groups.new ≡ absorb (table_of groups.old) (folded_with key.items folds.items)) × Fit (absorb_numbers (table_of groups.old) (folded_with key.items folds.items))) (λ f. f ≡ fault.Overflow → ¬ (Fit (absorb_numbers (table_of groups.old) (folded_with key.items folds.items)))) }
 {

@@ -1,20 +1,73 @@
--- The combined rows, one for each first row.
-use Rattle.std.specs.Prelude.{◌≡◌, List, [], ◌∷◌, map}
-use Rattle.std.proofs.Common.{refl, sym, ◌∙◌, ap}
+-- The combined rows, one for each group of rows with equal guesses.
+use Rattle.std.specs.Prelude.{◌≡◌, ℕ, ◌+◌, ◌<◌, ◌≤◌, List, [], ◌∷◌, ◌++◌, length, map, take}
+use Rattle.std.specs.List.{AllByRecursion, position_or_len}
+use Rattle.std.proofs.Common.{arith, refl, sym, ◌∙◌, ap, get_or, subst}
+use Rattle.std.proofs.lemmas.List.{length-map, take_more}
+use Rattle.indexmap.specs.IndexSet.{insert_key}
+use Rattle.au_value.specs.declared.kinds.Kind.{Kind}
+use Rattle.au_value.specs.declared.value.Value.{Value}
 use Rattle.au_value.specs.Ranges.{guesses}
+use Rattle.au_algebra.specs.Bounded.{RangeRow, Bounded, combine, merged}
+use Rattle.au_algebra.specs.Keys.{groups_by, with_item_at, with_key}
 use Rattle.au_algebra.specs.Lists.{distinct, same_row}
-use Rattle.au_algebra.specs.Bounded.{RangeRow, Bounded, combine, guessing, merged}
+use Rattle.au_algebra.specs.Ordinary.{Rows}
+use Rattle.au_algebra.proofs.Each.{all_filter}
+use Rattle.au_algebra.proofs.RowGroups.{groups-push, keys-push, within}
+use Rattle.au_kfull.specs.Keys.{kinds, HasKinds}
+use Rattle.au_kfull.specs.SameGuesses.{groups_held}
+use Rattle.au_kfull.proofs.PutRows.{Held}
 
 -- a map of a map is one map
 pub map_twice : {A B C : Type 0} (f : B → C) (g : A → B) (xs : List A) → map f (map g xs) ≡ map (λ x. f (g x)) xs
 map_twice f g [] = refl
 map_twice f g (x ∷ xs) = ap (λ ys. f (g x) ∷ ys) (map_twice f g xs)
 
--- the rows with the guesses of this one, in one
-abbrev pub merged_with : Bounded → RangeRow → RangeRow
-merged_with rows head = merged (guessing (guesses head.cells) rows)
+-- the guesses of a row
+abbrev pub guess : RangeRow → List Value
+guess r = guesses r.cells
 
--- where the first rows have the distinct guesses, theirs are the combined rows
-pub combine_heads : (rows heads : Bounded) → map (λ r. guesses r.cells) heads ≡ distinct same_row (map (λ r. guesses r.cells) rows) → combine rows ≡ map (merged_with rows) heads
-combine_heads rows heads h =
-    ap (map (λ guess. merged (guessing guess rows))) (sym h) ∙ map_twice (λ guess. merged (guessing guess rows)) (λ r. guesses r.cells) heads
+-- a group that is held, in one row
+abbrev pub merged_group : Held → RangeRow
+merged_group group = merged group.items
+
+-- each group in one row
+pub combine_groups : (rows : Bounded) (groups : List Held) → groups_held groups ≡ groups_by guess rows → map merged_group groups ≡ combine rows
+combine_groups rows groups h =
+    sym (map_twice merged (λ (g : Held). g.items) groups)
+    ∙ ap (map merged) h
+    ∙ map_twice merged (with_key guess rows) (distinct same_row (map guess rows))
+
+all_with_keys : (ks : List Kind) (rows : Bounded) (keys : Rows) → HasKinds ks rows → AllByRecursion (HasKinds ks) (map (with_key guess rows) keys)
+all_with_keys ks rows [] h = tt
+all_with_keys ks rows (k ∷ keys) h = (all_filter (λ r. kinds r.cells ≡ ks) (λ r. same_row k (guess r)) rows h, all_with_keys ks rows keys h)
+
+all_held : (ks : List Kind) (groups : List Held) → AllByRecursion (HasKinds ks) (groups_held groups) → AllByRecursion (λ (g : Held). HasKinds ks g.items) groups
+all_held ks [] h = tt
+all_held ks (g ∷ groups) h = (h.0, all_held ks groups h.1)
+
+-- the rows of each group have the kinds of all
+pub groups_kinds : (ks : List Kind) (rows : Bounded) (groups : List Held) → groups_held groups ≡ groups_by guess rows → HasKinds ks rows → AllByRecursion (λ (g : Held). HasKinds ks g.items) groups
+groups_kinds ks rows groups h k = all_held ks groups (subst (AllByRecursion (HasKinds ks)) (sym h) (all_with_keys ks rows (distinct same_row (map guess rows)) k))
+
+-- a place among the keys lies among the groups, or behind them
+pub place_within : (rows : Bounded) (k : List Value) (keys : Rows) (groups : List Bounded) → keys ≡ distinct same_row (map guess rows) → groups ≡ groups_by guess rows → position_or_len (same_row k) keys ≤ length groups
+place_within rows k keys groups as_keys as_groups =
+    let far = within (same_row k) keys in
+    let long : length groups ≡ length keys = ap length as_groups ∙ length-map (distinct same_row (map guess rows)) (with_key guess rows) ∙ ap length (sym as_keys) in
+    omega (arith, far, long)
+
+module _ (rows : Bounded) (i : ℕ) (row : RangeRow) (below : i < length rows) (is : row ≡ get_or rows i row) where
+  next : take (i + 1) rows ≡ take i rows ++ row ∷ []
+  next = take_more rows i row below ∙ (λ j. take i rows ++ sym is j ∷ [])
+
+  -- the keys, one row more
+  pub keys_next : (keys : Rows) → keys ≡ distinct same_row (map guess (take i rows)) → insert_key same_row keys (guess row) ≡ distinct same_row (map guess (take (i + 1) rows))
+  keys_next keys h =
+      ap (λ ks. insert_key same_row ks (guess row)) h ∙ sym (keys-push guess (take i rows) row) ∙ ap (λ rs. distinct same_row (map guess rs)) (sym next)
+
+  -- and the groups
+  pub groups_next : (keys : Rows) (groups : List Bounded) → keys ≡ distinct same_row (map guess (take i rows)) → groups ≡ groups_by guess (take i rows) → with_item_at groups (position_or_len (same_row (guess row)) keys) row ≡ groups_by guess (take (i + 1) rows)
+  groups_next keys groups h g =
+      (λ j. with_item_at (g j) (position_or_len (same_row (guess row)) (h j)) row)
+      ∙ groups-push guess (take i rows) row
+      ∙ ap (groups_by guess) (sym next)

@@ -3,6 +3,7 @@ pub mod Firsts
 pub mod HullFolds
 pub mod RowByRow
 pub mod Fitting
+pub mod PutRows
 pub mod CombineRows
 pub mod DifferenceRows
 pub mod GivesMore

@@ -11,3 +11,4 @@ pub mod Embedding
 pub mod Meeting
 pub mod Typed
 pub mod Gives
+pub mod SameGuesses

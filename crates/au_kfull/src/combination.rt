@@ -1,21 +1,21 @@
 //! Rows with equal guesses in one.
 ghost use Rattle.std.specs.Prelude.{◌≡◌, IfErr, IfOk, IsTrue, List, OkIff, OnOk, false, map};
+ghost use Rattle.std.specs.List.{AllByRecursion};
 ghost use Rattle.au_expr.specs.declared.fault.EvalFault.TheVariants as fault;
 ghost use Rattle.au_annot.specs.Triples.{total, in_range};
 ghost use Rattle.au_value.specs.declared.kinds.Kind.{Kind};
-ghost use Rattle.au_value.specs.Ranges.{guesses};
-ghost use Rattle.au_algebra.specs.Bounded.{combine as combine_of, guessing, merged as merged_of};
+ghost use Rattle.au_algebra.specs.Bounded.{combine as combine_of, merged as merged_of};
 ghost use Rattle.au_algebra.specs.Distribution.{Bounds};
 ghost use Rattle.au_algebra.specs.Entries.{entry};
 ghost use Rattle.au_algebra.specs.Fits.{triples_fit};
 ghost use Rattle.au_algebra.specs.Laws.{Guesses, IsRelation};
 ghost use Rattle.au_algebra.specs.Ordinary.{Rows};
 ghost use Rattle.au_kfull.specs.Gives.{Gives};
-ghost use Rattle.au_kfull.specs.Keys.{kinds, HasKinds};
+ghost use Rattle.au_kfull.specs.Keys.{HasKinds};
 
 use crate::hull::hull_of;
-use crate::keys::{Keys, firsts};
-use crate::meeting::{Meeting, rows_meeting};
+use crate::keys::Keys;
+use crate::same_guesses::grouped_by_guesses;
 use crate::tuple::{Tuple, tuples};
 use au_algebra::Rel;
 use au_annot::{Annot, Triple};
@@ -34,18 +34,32 @@ fn sum_of(rows: &[Tuple<'_, Range, Triple>]) -> Result<Triple, Overflow>
     Ok(sum)
 }
 
-// The rows with the guesses of the given one, in one row.
+// Several rows in one.
 fn merged(
     alloc: Global,
-    cells: &[Range],
     rows: &[Tuple<'_, Range, Triple>],
 ) -> Result<(Vec<Range>, Triple), EvalFault>
-    requires { HasKinds (kinds cells.now) rows.now }
-    ensures { let row = merged_of (guessing (guesses cells.now) rows.now) in Gives result (λ r. entry r.0.items r.1 ≡ row) (in_range row.annot) }
+    requires { (ks : List Kind) × HasKinds ks rows.now }
+    ensures { let row = merged_of rows.now in Gives result (λ r. entry r.0.items r.1 ≡ row) (in_range row.annot) }
 {
-    let same = rows_meeting(alloc, Meeting::Guess, Keys::All, cells, rows)?;
-    let sum = sum_of(&same)?;
-    Ok((hull_of(alloc, Keys::All, &same)?, sum))
+    let sum = sum_of(rows)?;
+    Ok((hull_of(alloc, Keys::All, rows)?, sum))
+}
+
+// Each group of rows in one row.
+fn all_merged(
+    alloc: Global,
+    groups: &[Vec<Tuple<'_, Range, Triple>>],
+) -> Result<Rel<Range, Triple>, EvalFault>
+    requires { (ks : List Kind) × AllByRecursion (λ g. HasKinds ks g.items) groups.now }
+    ensures { let rows = map (λ g. merged_of g.items) groups.now in Gives result (λ r. r ≡ rows) (triples_fit rows) }
+{
+    let mut rel = Rel::new(alloc);
+    for group in groups {
+        let (cells, triple) = merged(alloc, group)?;
+        rel.push(cells, triple)?;
+    }
+    Ok(rel)
 }
 
 /// One row for each distinct list of guesses, where it is first seen: the hulls of the rows with these guesses, and
@@ -57,13 +71,8 @@ pub(crate) fn combined(
     requires { (ks : List Kind) × HasKinds ks rows.now }
     ensures { Gives result (λ r. r ≡ combine_of rows.now) (triples_fit (combine_of rows.now)) }
 {
-    let heads = firsts(alloc, Keys::All, rows)?;
-    let mut rel = Rel::new(alloc);
-    for head in &heads {
-        let (cells, triple) = merged(alloc, head.cells(), rows)?;
-        rel.push(cells, triple)?;
-    }
-    Ok(rel)
+    let groups = grouped_by_guesses(alloc, rows)?;
+    all_merged(alloc, &groups)
 }
 
 /// One row for each distinct list of guesses, where it is first seen: the hulls of the rows with these guesses, and

@@ -4,8 +4,9 @@
 //! 2021; the formulas of grouping are in docs/SEMANTICS.md). [`ordinary`] gives the answer over values with counts: the
 //! guesses of the bounded relation, each value taken as a range of its own. [`difference`], [`group`], [`distinct`],
 //! [`total`] and [`combine`] are single operators. [`Full`] has the three that are not positive over any domain and
-//! annotation: ranges with triples, and values with counts. Nothing is indexed: the rows that an output needs are found
-//! among all rows, and a row that is only read is lent.
+//! annotation: ranges with triples, and values with counts. Rows with equal guesses are gathered in one pass, by hashing.
+//! Nothing else is indexed: the rows that an output or a difference needs are found among all rows, and a row that is only
+//! read is lent.
 //!
 //! ```text
 //! let kept = difference(alloc, &orders, &returned)?;
@@ -30,6 +31,7 @@ mod keys;
 mod meeting;
 mod output;
 mod positives;
+mod same_guesses;
 mod sums;
 mod totals;
 mod tuple;

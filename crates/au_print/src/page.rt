@@ -17,6 +17,9 @@ pub fn start(alloc: Global) -> Writer<Vec<u8>>
 }
 
 /// Writes a record behind the text.
+///
+/// The writer's `Io` is want of memory, since a `Vec` is written to. Its contract doesn't shut out other errors, which are
+/// named so, too: none comes where all records have as many fields as the first.
 #[tactic(auto, unfolding(crate::specs::Texts::record_text))]
 pub fn write(writer: &mut Writer<Vec<u8>>, row: &ByteRecord) -> Result<(), NoMemory>
     requires { IsReady writer.old }
@@ -29,7 +32,7 @@ pub fn write(writer: &mut Writer<Vec<u8>>, row: &ByteRecord) -> Result<(), NoMem
     }
 }
 
-/// The text.
+/// The text. What a `Vec` refuses is want of memory, though the contract of `into_inner` doesn't name the error.
 pub fn finish(writer: Writer<Vec<u8>>) -> Result<Vec<u8>, NoMemory>
     ensures { IfOk result (λ v. v.items ≡ written writer (λ w. w.items)) }
 {

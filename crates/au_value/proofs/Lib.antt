@@ -1,4 +1,5 @@
 pub mod Decimals
 pub mod Numerals
 pub mod OrderLaws
+pub mod ValueEquality
 pub mod RangeLaws

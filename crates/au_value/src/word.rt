@@ -1,10 +1,15 @@
 //! A text, seen as its bytes.
 ghost use Rattle.std.specs.Prelude.{◌≡◌, string_bytes, IfOk, IsUtf8};
+ghost use Rattle.std.specs.Prelude.{nat_eq};
 ghost use Rattle.std.specs.Ordering.{nat_cmp};
-ghost use Rattle.std.specs.Cmp.Lexicographic.{slice_cmp};
+ghost use Rattle.std.specs.Cmp.Lexicographic.{pointwise, slice_cmp};
+ghost use Rattle.std.specs.Cmp.Rules.{comparing, hashing};
+ghost use Rattle.std.specs.Hash as fed;
+ghost use Rattle.std.proofs.Common.{rules};
 
 use crate::faults::NoMemory;
 use std::cmp::Ordering;
+use std::hash::{Hash, Hasher};
 use std::marker::Model;
 
 /// A text. Contracts see its bytes.
@@ -57,5 +62,29 @@ impl Word {
         Ok(Word {
             text: self.text.clone()?,
         })
+    }
+}
+
+impl PartialEq for Word {
+    ghost eq = { pointwise nat_eq };
+
+    ghost laws = { Prim.search (comparing, rules) };
+
+    fn eq(&self, other: &Word) -> bool {
+        self.text == other.text
+    }
+}
+
+impl Eq for Word {
+    ghost laws = { Prim.search (comparing, rules) };
+}
+
+impl Hash for Word {
+    ghost hash_input = { λ w. fed.str w };
+
+    ghost respects_eq = { Prim.search (hashing, rules) };
+
+    fn hash<H: Hasher>(&self, state: &mut H) {
+        self.text.hash(state);
     }
 }

@@ -1,5 +1,5 @@
 -- The place that the search found is that of the key's values.
-use Rattle.au_exec.proofs.KeyParts.{known}
+use Rattle.au_algebra.proofs.RowKeys.{known}
 use Rattle.au_exec.proofs.groups.known_place.Goals as goal
 
 pub returns-in-Some : goal.returns-in-Some

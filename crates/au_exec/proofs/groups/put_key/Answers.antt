@@ -1,11 +1,11 @@
 -- The keys by their values.
 use Rattle.std.proofs.Common.{◌∙◌, ap}
-use Rattle.au_exec.specs.Keys.{key_values}
-use Rattle.au_exec.proofs.KeyParts.{insert_part, position_key}
+use Rattle.au_algebra.specs.Keys.{key_values}
+use Rattle.au_algebra.proofs.RowKeys.{insert_values, position_key}
 use Rattle.au_exec.proofs.groups.put_key.Goals as goal
 
 pub returns-clause-keys : goal.returns-clause-keys
-returns-clause-keys c = ap key_values c.in_ok-place.ensures.keys ∙ insert_part c.args.key c.args.seen.now.keys
+returns-clause-keys c = ap key_values c.in_ok-place.ensures.keys ∙ insert_values c.args.key c.args.seen.now.keys
 
 pub returns-clause-place : goal.returns-clause-place
 returns-clause-place c = c.in_ok-place.ensures.index ∙ position_key c.args.key c.args.seen.now.keys

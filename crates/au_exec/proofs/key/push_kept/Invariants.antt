@@ -2,11 +2,10 @@
 use Rattle.std.proofs.Common.{◌≡◌, ◌++◌, drop}
 use Rattle.au_plain.specs.Meaning.{kept}
 use Rattle.au_exec.specs.Fitting.{HavePlaces}
-use Rattle.au_exec.specs.Keys.{part_values}
-use Rattle.au_exec.proofs.key.push_parts.Given as goal
+use Rattle.au_exec.proofs.key.push_kept.Given as goal
 
 abbrev pub invariant-loop-column : goal.invariant-loop-column
 invariant-loop-column l = record {
   within : HavePlaces (drop l.column-index l.columns) l.row;
-  values : part_values l.key.items ++ kept (drop l.column-index l.columns) l.row ≡ part_values l.fn.key.items ++ kept l.columns l.row;
+  values : l.key.items ++ kept (drop l.column-index l.columns) l.row ≡ l.fn.key.items ++ kept l.columns l.row;
 }

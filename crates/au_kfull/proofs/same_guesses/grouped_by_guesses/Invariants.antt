@@ -1,0 +1,13 @@
+-- The keys and the groups of the rows so far.
+use Rattle.std.proofs.Common.{◌≡◌, map, take}
+use Rattle.au_algebra.specs.Keys.{groups_by, key_values}
+use Rattle.au_algebra.specs.Lists.{distinct, same_row}
+use Rattle.au_kfull.specs.SameGuesses.{groups_held}
+use Rattle.au_kfull.proofs.CombineRows.{guess}
+use Rattle.au_kfull.proofs.same_guesses.grouped_by_guesses.Given as goal
+
+abbrev pub invariant-loop-row : goal.invariant-loop-row
+invariant-loop-row l = record {
+  keys : key_values l.seen.keys ≡ distinct same_row (map guess (take l.row-index l.rows));
+  groups : groups_held l.groups.items ≡ groups_by guess (take l.row-index l.rows);
+}
