@@ -53,6 +53,7 @@ answer|SELECT k FROM (SELECT n AS k, n + 1 AS z FROM t) u|t=most.csv -> 0 Done r
 const FORMS: &str =
     "answer|SELECT id AS \"a,b\" FROM orders WHERE id = 2|orders=orders.csv -> 0 Done row_lo,row,row_hi,\"a,b_lo\",\"a,b\",\"a,b_hi\"~1,1,1,2,2,2~! 
 answer|SELECT id AS \"say \"\"x\"\"\" FROM orders WHERE id = 2|orders=orders.csv -> 0 Done row_lo,row,row_hi,\"say \"\"x\"\"_lo\",\"say \"\"x\"\"\",\"say \"\"x\"\"_hi\"~1,1,1,2,2,2~! 
+direct|--combine|SELECT city FROM orders|orders=orders.csv -> 0 Done row_lo,row,row_hi,city_lo,city,city_hi~1,1,1,Bergen,Bergen,Bergen~1,2,2,Bergen,Oslo,Oslo~! 
 answer|--table|SELECT city FROM orders|--combine|orders=orders.csv -> 0 Done city               | row  ~-------------------+------~Bergen             | 1/1/1~[Bergen/Oslo/Oslo] | 1/2/2~! 
 direct|--table|SELECT id FROM t|t=none.csv -> 0 Done id | row~---+----~! 
 answer|--table|SELECT city AS \"Ærø\" FROM t|t=nordic.csv -> 0 Done Ærø   | row  ~------+------~Malmö | 0/1/1~! 
