@@ -26,7 +26,8 @@ use Rattle.au_words.specs.declared.words.Command.TheVariants.{Answer, Direct, Gu
 use Rattle.au_io.specs.Files.{File}
 use Rattle.au_cli.specs.declared.outcome.Outcome.{Outcome}
 use Rattle.au_cli.specs.declared.outcome.Outcome.TheVariants as outcome
-use Rattle.au_cli.specs.Files.{Text, greatest_files}
+use Rattle.au_value.specs.Texts.{Text}
+use Rattle.au_cli.specs.Files.{greatest_files}
 use Rattle.au_cli.specs.Requests.{IsRefusal, Refusal, ended, place_refusal, refused_place, refused_request, refused_statement, text_refusal}
 use Rattle.au_cli.specs.Requests.Refusal.{exactly, no_statement, defects}
 use Rattle.au_cli.specs.Causes.{IsNotPositive, IsRefusedBefore, RequestCause, StageCause, StatementCause, is_query_limit, is_text_fault, is_text_limit}

@@ -25,7 +25,8 @@ use Rattle.au_cli.specs.declared.outcome.Outcome.{Outcome}
 use Rattle.au_cli.specs.declared.outcome.Outcome.TheVariants as outcome
 use Rattle.au_cli.specs.Demo.{Demonstrates}
 use Rattle.au_cli.specs.FileCauses.{FileCause}
-use Rattle.au_cli.specs.Files.{Text, file_table, greatest_files}
+use Rattle.au_value.specs.Texts.{Text}
+use Rattle.au_cli.specs.Files.{file_table, greatest_files}
 use Rattle.au_cli.specs.PlanCauses.{PlanCause, PlanGives}
 use Rattle.au_cli.specs.Requests.{IsAnswer, IsRefusal, Refusal, given_of, numbers_fit, refused_request}
 

@@ -26,7 +26,8 @@ use Rattle.au_words.specs.declared.words.Command.{Command}
 use Rattle.au_words.specs.declared.words.Command.TheVariants.{Answer, Direct, Guess, Ua, Rewrite}
 use Rattle.au_cli.specs.declared.outcome.Outcome.{Outcome}
 use Rattle.au_cli.specs.declared.outcome.Outcome.TheVariants as outcome
-use Rattle.au_cli.specs.Files.{Text, greatest_files, tables_of}
+use Rattle.au_value.specs.Texts.{Text}
+use Rattle.au_cli.specs.Files.{greatest_files, tables_of}
 
 -- ---- refusals
 

@@ -11,7 +11,8 @@ use Rattle.au_parse.specs.Parsing as parsing
 use Rattle.au_engine.specs.declared.faults.EngineFault.{EngineFault}
 use Rattle.au_engine.specs.declared.faults.EngineFault.TheVariants as engine
 use Rattle.au_engine.specs.declared.faults.LimitFault.TheVariants as limit
-use Rattle.au_engine.specs.Reading.{Text, Refusal, IsRefusalOf, IsTokensRefusal, TextCause, TokensCause, greatest_length, refused_text, refused_tokens, token_fault, parse_fault}
+use Rattle.au_value.specs.Texts.{Text}
+use Rattle.au_engine.specs.Reading.{Refusal, IsRefusalOf, IsTokensRefusal, TextCause, TokensCause, greatest_length, refused_text, refused_tokens, token_fault, parse_fault}
 use Rattle.au_engine.specs.Reading.Refusal.{exactly, no_statement}
 
 pub parsed_cause : (n : ℕ) (tokens : List Token) (f : ParseFault) → parsing.HasCause n tokens f → TokensCause n tokens (parse_fault f)

@@ -1,6 +1,7 @@
 -- How the text of a query is refused, and the statement of a text.
 use Rattle.std.specs.Prelude.{ℕ, ◌≡◌, ◌⊎◌, List, length, Option, Some, None, option_and_then, Result, Ok, Err, if◌then◌else◌, nat_lt}
 use Rattle.std.specs.Result.{result_ok}
+use Rattle.au_value.specs.Texts.{Text}
 use Rattle.au_lex.specs.declared.Token.{Token}
 use Rattle.au_lex.specs.declared.LexFault.{LexFault}
 use Rattle.au_lex.specs.declared.LexFault.TheVariants as lex
@@ -15,9 +16,6 @@ use Rattle.au_engine.specs.declared.faults.EngineFault.{EngineFault}
 use Rattle.au_engine.specs.declared.faults.EngineFault.TheVariants as engine
 use Rattle.au_engine.specs.declared.faults.LimitFault.TheVariants as limit
 use Rattle.au_engine.specs.declared.faults.QueryFault.TheVariants as query
-
-abbrev pub Text : Type 0
-Text = List ℕ
 
 -- A refusal: one fault, or that there is no statement, at whichever place is named.
 pub data Refusal : Type 0 where
