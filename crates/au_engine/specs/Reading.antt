@@ -62,10 +62,14 @@ abbrev pub PlaceIn : ℕ → Result (List Token) LexFault → ℕ → Type 0
 PlaceIn n (Ok tokens) at = IsPlace n tokens at
 PlaceIn n (Err fault) at = ⊥
 
+-- a fault is that of a refusal, in a text of so many bytes with these tokens
+abbrev pub IsRefusalIn : ℕ → Result (List Token) LexFault → Refusal → EngineFault → Type 0
+IsRefusalIn n tokens (Refusal.exactly wanted) f = f ≡ wanted
+IsRefusalIn n tokens Refusal.no_statement f = (at : ℕ) × (f ≡ engine.Query (query.Syntax at)) × PlaceIn n tokens at
+
 -- a fault is that of a refusal of the text
 abbrev pub IsRefusalOf : Text → Refusal → EngineFault → Type 0
-IsRefusalOf text (Refusal.exactly wanted) f = f ≡ wanted
-IsRefusalOf text Refusal.no_statement f = (at : ℕ) × (f ≡ engine.Query (query.Syntax at)) × PlaceIn (length text) (tokens_of text) at
+IsRefusalOf text r f = IsRefusalIn (length text) (tokens_of text) r f
 
 -- the statement of a text
 abbrev pub statement_of : Text → Option QueryTree
@@ -76,9 +80,5 @@ abbrev pub TextCause : Text → EngineFault → Type 0
 TextCause text f = (f ≡ engine.NoMemory) ⊎ ((r : Refusal) × (refused_text text ≡ Some r) × IsRefusalOf text r f)
 
 -- why tokens are not read
-abbrev pub IsTokensRefusal : ℕ → List Token → Refusal → EngineFault → Type 0
-IsTokensRefusal n tokens (Refusal.exactly wanted) f = f ≡ wanted
-IsTokensRefusal n tokens Refusal.no_statement f = (at : ℕ) × (f ≡ engine.Query (query.Syntax at)) × IsPlace n tokens at
-
 abbrev pub TokensCause : ℕ → List Token → EngineFault → Type 0
-TokensCause n tokens f = (f ≡ engine.NoMemory) ⊎ ((r : Refusal) × (refused_tokens n (Ok tokens) ≡ Some r) × IsTokensRefusal n tokens r f)
+TokensCause n tokens f = (f ≡ engine.NoMemory) ⊎ ((r : Refusal) × (refused_tokens n (Ok tokens) ≡ Some r) × IsRefusalIn n (Ok tokens) r f)
