@@ -8,10 +8,8 @@ use Rattle.std.proofs.lemmas.List.{append-nil}
 use Rattle.std.proofs.lemmas.List.Elements.{filter-append}
 use Rattle.std.proofs.lemmas.Slice.Eq.{bytes_eq-Decides}
 use Rattle.indexmap.specs.IndexSet.{insert_key}
+use Rattle.au_value.specs.Texts.{Text}
 use Rattle.au_blocks.specs.Entries.{distinct}
-
-abbrev pub Text : Type 0
-Text = List ℕ
 
 -- a text is equal to itself, and the other way round
 pub itself : (x : Text) → bytes_eq x x ≡ true

@@ -14,7 +14,8 @@ use Rattle.au_blocks.specs.Entries.{Entry, entry_of, entries_of, label_of, label
 use Rattle.au_blocks.specs.Gathered.{Gathered, gathered, nothing, with_entry}
 use Rattle.au_blocks.proofs.Gathering.{gathered-push}
 use Rattle.au_blocks.proofs.Places.{absent-place, known-place}
-use Rattle.au_blocks.proofs.Distinct.{Text, Apart, one, itself, turned, same, any-distinct, distinct-push, apart-distinct}
+use Rattle.au_value.specs.Texts.{Text}
+use Rattle.au_blocks.proofs.Distinct.{Apart, one, itself, turned, same, any-distinct, distinct-push, apart-distinct}
 
 -- a list by labels, where the value of one label changes
 module _ (G H : Text → Gathered) (l : Text) (keeps : (m : Text) → bytes_eq l m ≡ false → H m ≡ G m) where

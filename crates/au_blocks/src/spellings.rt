@@ -1,13 +1,11 @@
 //! What the fields of a table file write.
 ghost use Rattle.std.specs.Prelude.{◌≡◌, ◌≤◌, ◌^◌, IfSome, option_map};
-ghost use Rattle.std.specs.List.{list_all};
-ghost use Rattle.std.specs.Char.{is_ascii_digit};
 ghost use Rattle.au_value.specs.declared.value.Value.{Value};
 ghost use Rattle.au_value.specs.Order.{kind_of};
 ghost use Rattle.au_blocks.specs.Spellings.{count_written as count_written_of, copies_written, cut_dots, flag_written as flag_written_of, is_count as is_count_of, number_written as number_written_of, ordered_copies, ordered_range as ordered_range_of, part_texts, parts as parts_of, range_of, range_written as range_written_of, three};
 
 use crate::times::Times;
-use au_value::{Kind, Range, Value, order, read_decimal, read_numeral};
+use au_value::{Kind, Range, Value, all_digits, order, read_decimal, read_numeral};
 
 /// The greatest number of copies.
 const MAX_COPIES: u64 = 1_000_000_000_000;
@@ -136,12 +134,6 @@ fn is_count(field: &str) -> bool
     ensures { result ≡ is_count_of field.now }
 {
     !field.is_empty() && field.len() <= 13 && all_digits(field.as_bytes())
-}
-
-fn all_digits(text: &[u8]) -> bool
-    ensures { result ≡ list_all is_ascii_digit text.now }
-{
-    text.iter().all(|byte| byte.is_ascii_digit())
 }
 
 // The three parts of a field that has `..` between them.

@@ -10,7 +10,8 @@ use Rattle.au_words.specs.declared.words.form.Verb.{Verb}
 use Rattle.au_words.specs.declared.words.form.Verb.TheVariants as verb
 use Rattle.au_words.specs.CommandLine.{HasForm}
 use Rattle.au_words.specs.Words as words
-use Rattle.au_words.specs.Words.{Asked, Text, asked_by, asked_of, asked_of_verb, first_word, is_form, is_number, is_plain, later_words, number_of, positionals, request_of, table_fault, table_of, unless, value_of, verb_of}
+use Rattle.au_value.specs.Texts.{Text}
+use Rattle.au_words.specs.Words.{Asked, asked_by, asked_of, asked_of_verb, first_word, is_form, is_number, is_plain, later_words, number_of, positionals, request_of, table_fault, table_of, unless, value_of, verb_of}
 use Rattle.au_words.proofs.AskedWords.{compress_read, read, workers_read}
 
 -- ---- a number that is read lies in its range

@@ -11,7 +11,8 @@ use Rattle.au_cli.specs.declared.outcome.Outcome.{Outcome}
 use Rattle.au_cli.specs.declared.outcome.Outcome.TheVariants as outcome
 use Rattle.au_cli.specs.Causes.{Encodes}
 use Rattle.au_cli.specs.FileCauses.{FileCause}
-use Rattle.au_cli.specs.Files.{Text, file_table}
+use Rattle.au_value.specs.Texts.{Text}
+use Rattle.au_cli.specs.Files.{file_table}
 use Rattle.au_cli.specs.Requests.{IsRefusal, Refusal}
 use Rattle.au_cli.specs.Requests.Refusal.{exactly}
 use Rattle.au_cli.proofs.Refusals.{err_comes, ok_comes}

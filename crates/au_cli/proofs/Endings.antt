@@ -20,7 +20,7 @@ use Rattle.au_cli.specs.Demo.{Demonstrates}
 use Rattle.au_cli.specs.Files.{file_table}
 use Rattle.au_cli.specs.Requests.{Given, IsRefusal, Refusal, given_of, numbers_fit, refused_request, unless_refused}
 use Rattle.au_cli.specs.Requests.Refusal.{exactly}
-use Rattle.au_cli.specs.Causes.{AskedCause, AskedNotPositive, DemoCause, Ends, Gives, IsAskedText, IsRead, IsRefusedBefore, RequestCause, StageCause, TextPut, is_text_fault, is_text_limit}
+use Rattle.au_cli.specs.Causes.{AskedCause, AskedNotPositive, DemoCause, Ends, FaultCounts, Gives, IsAskedText, IsRead, IsRefusedBefore, RequestCause, StageCause, TextPut, is_text_fault, is_text_limit}
 use Rattle.au_cli.proofs.Encodings.{encoded_comes, file_comes, file_decides, file_memory}
 use Rattle.au_cli.proofs.PlanRuns.{decided_comes as decided_plan, given_comes as given_plan, plan_decides, plan_early, run_memory}
 use Rattle.au_cli.proofs.Refusals.{not_few}
@@ -37,27 +37,27 @@ memory_cause (Ok (words.encode word)) told f fn a an = tt
 memory_cause (Ok (words.plain path tables)) told f fn a an = tt
 
 -- what a text that is put ends in
-pub put_ends : (asked : Result Asked UsageFault) (told : Option (List File)) (f fn a an p pn : ℕ) (old new : Option (List ℕ)) (text : List ℕ) (o : Outcome)
-    → IsAskedText asked told text → TextPut p pn old new text o → Ends asked told f fn a an p pn old new o
-put_ends asked told f fn a an p pn old new text outcome.Done is put = (text, is, put)
-put_ends asked told f fn a an p pn old new text outcome.WriteFault is put = (put.0, (text, is, put.1))
-put_ends asked told f fn a an p pn old new text outcome.NoMemory is put = (memory_cause asked told f fn a an, put)
-put_ends asked told f fn a an p pn old new text _ is put = elim put [ ]
+pub put_ends : (asked : Result Asked UsageFault) (told : Option (List File)) (n : FaultCounts) (old new : Option (List ℕ)) (text : List ℕ) (o : Outcome)
+    → IsAskedText asked told text → TextPut n.puts n.puts_now old new text o → Ends asked told n old new o
+put_ends asked told n old new text outcome.Done is put = (text, is, put)
+put_ends asked told n old new text outcome.WriteFault is put = (put.0, (text, is, put.1))
+put_ends asked told n old new text outcome.NoMemory is put = (memory_cause asked told n.faults n.faults_now n.absences n.absences_now, put)
+put_ends asked told n old new text _ is put = elim put [ ]
 
 -- and what is refused ends in its cause
-pub refused_ends : (asked : Result Asked UsageFault) (told : Option (List File)) (f fn a an p pn : ℕ) (old new : Option (List ℕ)) (o : Outcome)
-    → AskedCause asked told f fn a an o → Appends old new [] → Ends asked told f fn a an p pn old new o
-refused_ends (Err fault) told f fn a an p pn old new outcome.Done h put = elim h [ inl e ↦ cc | inr e ↦ cc ]
-refused_ends (Err fault) told f fn a an p pn old new outcome.WriteFault h put = elim h [ inl e ↦ cc | inr e ↦ cc ]
-refused_ends (Ok (words.query r)) told f fn a an p pn old new outcome.Done h put = elim h [ ]
-refused_ends (Ok (words.query r)) told f fn a an p pn old new outcome.WriteFault h put = elim h [ ]
-refused_ends (Ok (words.demo start blocks workers)) told f fn a an p pn old new outcome.Done h put = elim h [ ]
-refused_ends (Ok (words.demo start blocks workers)) told f fn a an p pn old new outcome.WriteFault h put = elim h [ ]
-refused_ends (Ok (words.encode word)) told f fn a an p pn old new outcome.Done h put = elim h [ ]
-refused_ends (Ok (words.encode word)) told f fn a an p pn old new outcome.WriteFault h put = elim h [ ]
-refused_ends (Ok (words.plain path tables)) told f fn a an p pn old new outcome.Done h put = elim h [ ]
-refused_ends (Ok (words.plain path tables)) told f fn a an p pn old new outcome.WriteFault h put = elim h [ ]
-refused_ends asked told f fn a an p pn old new _ h put = (h, put)
+pub refused_ends : (asked : Result Asked UsageFault) (told : Option (List File)) (n : FaultCounts) (old new : Option (List ℕ)) (o : Outcome)
+    → AskedCause asked told n.faults n.faults_now n.absences n.absences_now o → Appends old new [] → Ends asked told n old new o
+refused_ends (Err fault) told n old new outcome.Done h put = elim h [ inl e ↦ cc | inr e ↦ cc ]
+refused_ends (Err fault) told n old new outcome.WriteFault h put = elim h [ inl e ↦ cc | inr e ↦ cc ]
+refused_ends (Ok (words.query r)) told n old new outcome.Done h put = elim h [ ]
+refused_ends (Ok (words.query r)) told n old new outcome.WriteFault h put = elim h [ ]
+refused_ends (Ok (words.demo start blocks workers)) told n old new outcome.Done h put = elim h [ ]
+refused_ends (Ok (words.demo start blocks workers)) told n old new outcome.WriteFault h put = elim h [ ]
+refused_ends (Ok (words.encode word)) told n old new outcome.Done h put = elim h [ ]
+refused_ends (Ok (words.encode word)) told n old new outcome.WriteFault h put = elim h [ ]
+refused_ends (Ok (words.plain path tables)) told n old new outcome.Done h put = elim h [ ]
+refused_ends (Ok (words.plain path tables)) told n old new outcome.WriteFault h put = elim h [ ]
+refused_ends asked told n old new _ h put = (h, put)
 
 -- ---- refusals
 
@@ -134,11 +134,11 @@ text_comes (Ok (words.demo start blocks workers)) files text refusal o h k = cc
 text_comes (Ok (words.encode word)) files text refusal o h k = encoded_comes (λ t. text ≡ encoded_text t) files word.1 refusal o h k
 text_comes (Ok (words.plain path tables)) files text refusal o h k = given_plan path tables files refusal o h.1.0 h.0 h.1.1 k
 
-pub refusal_comes : (asked : Result Asked UsageFault) (files : List File) (f fn a an p pn : ℕ) (old new : Option (List ℕ)) (refusal : Refusal) (o : Outcome)
-    → Ends asked (Some files) f fn a an p pn old new o → ¬ Rose f fn → first_refusal asked files ≡ Some refusal → IsRefusal refusal o ⊎ (o ≡ outcome.NoMemory)
-refusal_comes asked files f fn a an p pn old new refusal outcome.Done h calm k = text_comes asked files h.0 refusal outcome.Done h.1 k
-refusal_comes asked files f fn a an p pn old new refusal outcome.WriteFault h calm k = text_comes asked files h.1.0 refusal outcome.WriteFault h.1.1 k
-refusal_comes asked files f fn a an p pn old new refusal o h calm k = cause_comes asked files f fn a an refusal o h.0 calm k
+pub refusal_comes : (asked : Result Asked UsageFault) (files : List File) (n : FaultCounts) (old new : Option (List ℕ)) (refusal : Refusal) (o : Outcome)
+    → Ends asked (Some files) n old new o → ¬ Rose n.faults n.faults_now → first_refusal asked files ≡ Some refusal → IsRefusal refusal o ⊎ (o ≡ outcome.NoMemory)
+refusal_comes asked files n old new refusal outcome.Done h calm k = text_comes asked files h.0 refusal outcome.Done h.1 k
+refusal_comes asked files n old new refusal outcome.WriteFault h calm k = text_comes asked files h.1.0 refusal outcome.WriteFault h.1.1 k
+refusal_comes asked files n old new refusal o h calm k = cause_comes asked files n.faults n.faults_now n.absences n.absences_now refusal o h.0 calm k
 
 -- ---- whatever the files hold
 
@@ -181,11 +181,11 @@ early_text (Ok (words.demo start blocks workers)) told text refusal o h k = cc
 early_text (Ok (words.encode word)) told text refusal o h k = cc
 early_text (Ok (words.plain path tables)) told text refusal o h k = inl (not_few tables refusal o h.0 k)
 
-pub early_comes : (asked : Result Asked UsageFault) (told : Option (List File)) (f fn a an p pn : ℕ) (old new : Option (List ℕ)) (refusal : Refusal) (o : Outcome)
-    → Ends asked told f fn a an p pn old new o → refused_before asked ≡ Some refusal → IsRefusal refusal o ⊎ (o ≡ outcome.NoMemory)
-early_comes asked told f fn a an p pn old new refusal outcome.Done h k = early_text asked told h.0 refusal outcome.Done h.1 k
-early_comes asked told f fn a an p pn old new refusal outcome.WriteFault h k = early_text asked told h.1.0 refusal outcome.WriteFault h.1.1 k
-early_comes asked told f fn a an p pn old new refusal o h k = early_cause_comes asked told f fn a an refusal o h.0 k
+pub early_comes : (asked : Result Asked UsageFault) (told : Option (List File)) (n : FaultCounts) (old new : Option (List ℕ)) (refusal : Refusal) (o : Outcome)
+    → Ends asked told n old new o → refused_before asked ≡ Some refusal → IsRefusal refusal o ⊎ (o ≡ outcome.NoMemory)
+early_comes asked told n old new refusal outcome.Done h k = early_text asked told h.0 refusal outcome.Done h.1 k
+early_comes asked told n old new refusal outcome.WriteFault h k = early_text asked told h.1.0 refusal outcome.WriteFault h.1.1 k
+early_comes asked told n old new refusal o h k = early_cause_comes asked told n.faults n.faults_now n.absences n.absences_now refusal o h.0 k
 
 -- ---- completeness
 
@@ -227,11 +227,11 @@ cause_memory (Ok (words.encode word)) files f fn a an o h calm can =
     file_memory (file_table purpose.Encode 0 0 (bytes_at files word.1)) o can.0 (file_decides files purpose.Encode word.1 0 0 f fn a an o h calm) can.1
 cause_memory (Ok (words.plain path tables)) files f fn a an o h calm can = run_memory path tables files o (plan_decides path tables files f fn a an o h calm) can
 
-pub is_complete : (asked : Result Asked UsageFault) (files : List File) (f fn a an p pn : ℕ) (old new : Option (List ℕ)) (o : Outcome)
-    → Ends asked (Some files) f fn a an p pn old new o → ¬ Rose f fn → ¬ Rose p pn → CanAnswer asked files → Yields o outcome.Done
-is_complete asked files f fn a an p pn old new outcome.Done h calm still can = inl refl
-is_complete asked files f fn a an p pn old new outcome.WriteFault h calm still can = absurd (still h.0)
-is_complete asked files f fn a an p pn old new o h calm still can = inr (cause_memory asked files f fn a an o h.0 calm can)
+pub is_complete : (asked : Result Asked UsageFault) (files : List File) (n : FaultCounts) (old new : Option (List ℕ)) (o : Outcome)
+    → Ends asked (Some files) n old new o → ¬ Rose n.faults n.faults_now → ¬ Rose n.puts n.puts_now → CanAnswer asked files → Yields o outcome.Done
+is_complete asked files n old new outcome.Done h calm still can = inl refl
+is_complete asked files n old new outcome.WriteFault h calm still can = absurd (still h.0)
+is_complete asked files n old new o h calm still can = inr (cause_memory asked files n.faults n.faults_now n.absences n.absences_now o h.0 calm can)
 
 -- ---- usage
 
@@ -242,26 +242,26 @@ usage_asked (Ok (words.demo start blocks workers)) told f fn a an fault h = elim
 usage_asked (Ok (words.encode word)) told f fn a an fault h = elim h [ ]
 usage_asked (Ok (words.plain path tables)) told f fn a an fault h = elim h [ ]
 
-pub usage_cause : (asked : Result Asked UsageFault) (told : Option (List File)) (f fn a an p pn : ℕ) (old new : Option (List ℕ)) (o : Outcome) (fault : UsageFault)
-    → Ends asked told f fn a an p pn old new o → o ≡ outcome.Usage fault → result_err asked ≡ Some fault
-usage_cause asked told f fn a an p pn old new (outcome.Usage x) fault h e = let same : x ≡ fault = cc in usage_asked asked told f fn a an fault (subst (λ y. AskedCause asked told f fn a an (outcome.Usage y)) same h.0)
-usage_cause asked told f fn a an p pn old new _ fault h e = cc
+pub usage_cause : (asked : Result Asked UsageFault) (told : Option (List File)) (n : FaultCounts) (old new : Option (List ℕ)) (o : Outcome) (fault : UsageFault)
+    → Ends asked told n old new o → o ≡ outcome.Usage fault → result_err asked ≡ Some fault
+usage_cause asked told n old new (outcome.Usage x) fault h e = let same : x ≡ fault = cc in usage_asked asked told n.faults n.faults_now n.absences n.absences_now fault (subst (λ y. AskedCause asked told n.faults n.faults_now n.absences n.absences_now (outcome.Usage y)) same h.0)
+usage_cause asked told n old new _ fault h e = cc
 
 usage_early : (asked : Result Asked UsageFault) (fault : UsageFault) → result_err asked ≡ Some fault → refused_before asked ≡ Some (exactly (outcome.Usage fault))
 usage_early (Err x) fault e = let same : x ≡ fault = cc in ap (λ y. Some (exactly (outcome.Usage y))) same
 usage_early (Ok x) fault e = cc
 
-pub usage_comes_first : (asked : Result Asked UsageFault) (told : Option (List File)) (f fn a an p pn : ℕ) (old new : Option (List ℕ)) (o : Outcome) (fault : UsageFault)
-    → Ends asked told f fn a an p pn old new o → result_err asked ≡ Some fault → Yields o (outcome.Usage fault)
-usage_comes_first asked told f fn a an p pn old new o fault h e = early_comes asked told f fn a an p pn old new (exactly (outcome.Usage fault)) o h (usage_early asked fault e)
+pub usage_comes_first : (asked : Result Asked UsageFault) (told : Option (List File)) (n : FaultCounts) (old new : Option (List ℕ)) (o : Outcome) (fault : UsageFault)
+    → Ends asked told n old new o → result_err asked ≡ Some fault → Yields o (outcome.Usage fault)
+usage_comes_first asked told n old new o fault h e = early_comes asked told n old new (exactly (outcome.Usage fault)) o h (usage_early asked fault e)
 
 -- ---- causes
 
-pub ends_cause : (asked : Result Asked UsageFault) (told : Option (List File)) (f fn a an p pn : ℕ) (old new : Option (List ℕ)) (o : Outcome)
-    → Ends asked told f fn a an p pn old new o → o ≢ outcome.Done → o ≢ outcome.WriteFault → AskedCause asked told f fn a an o × Appends old new []
-ends_cause asked told f fn a an p pn old new outcome.Done h undone unwritten = absurd (undone refl)
-ends_cause asked told f fn a an p pn old new outcome.WriteFault h undone unwritten = absurd (unwritten refl)
-ends_cause asked told f fn a an p pn old new o h undone unwritten = h
+pub ends_cause : (asked : Result Asked UsageFault) (told : Option (List File)) (n : FaultCounts) (old new : Option (List ℕ)) (o : Outcome)
+    → Ends asked told n old new o → o ≢ outcome.Done → o ≢ outcome.WriteFault → AskedCause asked told n.faults n.faults_now n.absences n.absences_now o × Appends old new []
+ends_cause asked told n old new outcome.Done h undone unwritten = absurd (undone refl)
+ends_cause asked told n old new outcome.WriteFault h undone unwritten = absurd (unwritten refl)
+ends_cause asked told n old new o h undone unwritten = h
 
 absence_rose : (asked : Result Asked UsageFault) (told : Option (List File)) (f fn a an : ℕ) (i : ℕ) → AskedCause asked told f fn a an (outcome.NoFile i) → Rose a an
 absence_rose (Err x) told f fn a an i h = elim h [ inl e ↦ cc | inr e ↦ cc ]
@@ -270,10 +270,10 @@ absence_rose (Ok (words.demo start blocks workers)) told f fn a an i h = elim h 
 absence_rose (Ok (words.encode word)) told f fn a an i h = h.1
 absence_rose (Ok (words.plain path tables)) told f fn a an i h = h.0
 
-pub no_file_rose : (asked : Result Asked UsageFault) (told : Option (List File)) (f fn a an p pn : ℕ) (old new : Option (List ℕ)) (o : Outcome) (i : ℕ)
-    → Ends asked told f fn a an p pn old new o → o ≡ outcome.NoFile i → Rose a an
-no_file_rose asked told f fn a an p pn old new (outcome.NoFile j) i h e = absence_rose asked told f fn a an j h.0
-no_file_rose asked told f fn a an p pn old new _ i h e = cc
+pub no_file_rose : (asked : Result Asked UsageFault) (told : Option (List File)) (n : FaultCounts) (old new : Option (List ℕ)) (o : Outcome) (i : ℕ)
+    → Ends asked told n old new o → o ≡ outcome.NoFile i → Rose n.absences n.absences_now
+no_file_rose asked told n old new (outcome.NoFile j) i h e = absence_rose asked told n.faults n.faults_now n.absences n.absences_now j h.0
+no_file_rose asked told n old new _ i h e = cc
 
 fault_rose : (asked : Result Asked UsageFault) (told : Option (List File)) (f fn a an : ℕ) (i : ℕ) → AskedCause asked told f fn a an (outcome.ReadFault i) → Rose f fn
 fault_rose (Err x) told f fn a an i h = elim h [ inl e ↦ cc | inr e ↦ cc ]
@@ -282,10 +282,10 @@ fault_rose (Ok (words.demo start blocks workers)) told f fn a an i h = elim h [ 
 fault_rose (Ok (words.encode word)) told f fn a an i h = h.1
 fault_rose (Ok (words.plain path tables)) told f fn a an i h = h.1
 
-pub read_fault_rose : (asked : Result Asked UsageFault) (told : Option (List File)) (f fn a an p pn : ℕ) (old new : Option (List ℕ)) (o : Outcome) (i : ℕ)
-    → Ends asked told f fn a an p pn old new o → o ≡ outcome.ReadFault i → Rose f fn
-read_fault_rose asked told f fn a an p pn old new (outcome.ReadFault j) i h e = fault_rose asked told f fn a an j h.0
-read_fault_rose asked told f fn a an p pn old new _ i h e = cc
+pub read_fault_rose : (asked : Result Asked UsageFault) (told : Option (List File)) (n : FaultCounts) (old new : Option (List ℕ)) (o : Outcome) (i : ℕ)
+    → Ends asked told n old new o → o ≡ outcome.ReadFault i → Rose n.faults n.faults_now
+read_fault_rose asked told n old new (outcome.ReadFault j) i h e = fault_rose asked told n.faults n.faults_now n.absences n.absences_now j h.0
+read_fault_rose asked told n old new _ i h e = cc
 
 placed : (asked : Result Asked UsageFault) (told : Option (List File)) (f fn a an : ℕ) (at : ℕ) → AskedCause asked told f fn a an (outcome.Query (query.NotPositive at)) → AskedNotPositive asked at
 placed (Err x) told f fn a an at h = elim h [ inl e ↦ cc | inr e ↦ cc ]
@@ -294,11 +294,11 @@ placed (Ok (words.demo start blocks workers)) told f fn a an at h = elim h [ ]
 placed (Ok (words.encode word)) told f fn a an at h = elim h [ ]
 placed (Ok (words.plain path tables)) told f fn a an at h = elim h [ ]
 
-pub not_positive_cause : (asked : Result Asked UsageFault) (told : Option (List File)) (f fn a an p pn : ℕ) (old new : Option (List ℕ)) (o : Outcome) (at : ℕ)
-    → Ends asked told f fn a an p pn old new o → o ≡ outcome.Query (query.NotPositive at) → AskedNotPositive asked at
-not_positive_cause asked told f fn a an p pn old new (outcome.Query fault) at h e =
-    let same : fault ≡ query.NotPositive at = cc in placed asked told f fn a an at (subst (λ x. AskedCause asked told f fn a an (outcome.Query x)) same h.0)
-not_positive_cause asked told f fn a an p pn old new _ at h e = cc
+pub not_positive_cause : (asked : Result Asked UsageFault) (told : Option (List File)) (n : FaultCounts) (old new : Option (List ℕ)) (o : Outcome) (at : ℕ)
+    → Ends asked told n old new o → o ≡ outcome.Query (query.NotPositive at) → AskedNotPositive asked at
+not_positive_cause asked told n old new (outcome.Query fault) at h e =
+    let same : fault ≡ query.NotPositive at = cc in placed asked told n.faults n.faults_now n.absences n.absences_now at (subst (λ x. AskedCause asked told n.faults n.faults_now n.absences n.absences_now (outcome.Query x)) same h.0)
+not_positive_cause asked told n old new _ at h e = cc
 
 -- ---- the sink
 

@@ -11,7 +11,8 @@ use Rattle.au_cli.specs.declared.files.Purpose.{Purpose}
 use Rattle.au_cli.specs.declared.files.Purpose.TheVariants as purpose
 use Rattle.au_cli.specs.declared.outcome.Outcome.{Outcome}
 use Rattle.au_cli.specs.declared.outcome.Outcome.TheVariants as outcome
-use Rattle.au_cli.specs.Files.{Text, file_bytes, file_table, passed_limit, sized_bytes, table_in, table_or_defect, table_within, greatest_columns, greatest_size, greatest_total, size_of}
+use Rattle.au_value.specs.Texts.{Text}
+use Rattle.au_cli.specs.Files.{file_bytes, file_table, passed_limit, sized_bytes, table_in, table_or_defect, table_within, greatest_columns, greatest_size, greatest_total, size_of}
 use Rattle.au_cli.specs.FileCauses.{BytesCause, BytesRefused, FileCause, FileRefused, ReadCause, is_file_limit, is_size_limit}
 
 -- ---- the bytes

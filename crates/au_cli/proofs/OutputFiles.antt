@@ -37,7 +37,8 @@ use Rattle.au_cli.specs.declared.files.Purpose.{Purpose}
 use Rattle.au_cli.specs.declared.files.Purpose.TheVariants as purpose
 use Rattle.au_cli.specs.declared.outcome.Outcome.{Outcome}
 use Rattle.au_cli.specs.Causes.{IsAskedText}
-use Rattle.au_cli.specs.Files.{Text, and_more, file_table, greatest_columns, greatest_files, greatest_size, greatest_total, passed_limit, size_of, table_in, table_or_defect, table_within, tables_from, tables_of}
+use Rattle.au_value.specs.Texts.{Text}
+use Rattle.au_cli.specs.Files.{and_more, file_table, greatest_columns, greatest_files, greatest_size, greatest_total, passed_limit, size_of, table_in, table_or_defect, table_within, tables_from, tables_of}
 use Rattle.au_cli.specs.Outputs.{AnswersOutputs, AreOutputs, AreWithin, IsEncodedFile}
 use Rattle.au_cli.specs.Plain.{PlanGiven}
 use Rattle.au_cli.specs.Requests.{Given, IsTextBy, Refusal, given_of, refused_request, statement_given, tables_given, typed_given, unless_refused}

@@ -16,7 +16,8 @@ use Rattle.au_engine.specs.declared.plain.PlainFault.TheVariants as plain
 use Rattle.au_cli.specs.declared.files.Purpose.TheVariants as purpose
 use Rattle.au_cli.specs.declared.outcome.Outcome.{Outcome}
 use Rattle.au_cli.specs.declared.outcome.Outcome.TheVariants as outcome
-use Rattle.au_cli.specs.Files.{Text, file_bytes, greatest_files, size_of, tables_from}
+use Rattle.au_value.specs.Texts.{Text}
+use Rattle.au_cli.specs.Files.{file_bytes, greatest_files, size_of, tables_from}
 use Rattle.au_cli.specs.Plain.{and_tables, file_plan, line_of, line_plan, plan_given, plan_in, plan_over, typed_plan}
 use Rattle.au_cli.specs.FileCauses.{BytesRefused, FilesCause, FilesRefused, ReadCause, is_file_limit, is_size_limit}
 use Rattle.au_cli.proofs.TablesRead.{rose_later}

@@ -15,7 +15,7 @@ use Rattle.au_sqltext.specs.declared.fault.PlanFault.{PlanFault}
 use Rattle.au_sqltext.specs.declared.fault.PlanFault.TheVariants as no_plan
 use Rattle.au_sqltext.proofs.ReadBack.{reads_text}
 use Rattle.au_cli.specs.declared.outcome.Outcome.TheVariants as outcome
-use Rattle.au_cli.specs.Files.{Text}
+use Rattle.au_value.specs.Texts.{Text}
 use Rattle.au_cli.specs.PlanCauses.{LineCause, ended_text}
 use Rattle.au_cli.specs.Plain.{before_line_feed, is_text_of, line_of, line_plan, own_plan, plan_of, plan_or_fault}
 

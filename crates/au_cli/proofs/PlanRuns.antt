@@ -14,7 +14,8 @@ use Rattle.au_sqltext.specs.declared.fault.PlanFault.TheVariants as no_plan
 use Rattle.au_cli.specs.declared.files.Purpose.TheVariants as purpose
 use Rattle.au_cli.specs.declared.outcome.Outcome.{Outcome}
 use Rattle.au_cli.specs.declared.outcome.Outcome.TheVariants as outcome
-use Rattle.au_cli.specs.Files.{Text, greatest_files, size_of, tables_from}
+use Rattle.au_value.specs.Texts.{Text}
+use Rattle.au_cli.specs.Files.{greatest_files, size_of, tables_from}
 use Rattle.au_cli.specs.Plain.{PlanGiven, and_tables, file_plan, line_plan, plan_given, plan_in, plan_over, typed_plan}
 use Rattle.au_cli.specs.PlanCauses.{PlanCause, PlanFaultCause, PlanGives, PlanLimit}
 use Rattle.au_cli.specs.Requests.{IsRefusal, Refusal}

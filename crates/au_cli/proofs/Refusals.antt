@@ -6,7 +6,8 @@ use Rattle.std.specs.Result.{result_err}
 use Rattle.au_engine.specs.declared.faults.LimitFault.TheVariants as limit
 use Rattle.au_cli.specs.declared.outcome.Outcome.{Outcome}
 use Rattle.au_cli.specs.declared.outcome.Outcome.TheVariants as outcome
-use Rattle.au_cli.specs.Files.{Text, greatest_files}
+use Rattle.au_value.specs.Texts.{Text}
+use Rattle.au_cli.specs.Files.{greatest_files}
 use Rattle.au_cli.specs.Requests.{IsRefusal, Refusal}
 use Rattle.au_cli.specs.Requests.Refusal.{exactly}
 use Rattle.au_cli.specs.Run.{refused_number}

@@ -8,7 +8,8 @@ use Rattle.au_engine.specs.Answers.{Named}
 use Rattle.au_cli.specs.declared.files.Purpose.{Purpose}
 use Rattle.au_cli.specs.declared.outcome.Outcome.{Outcome}
 use Rattle.au_cli.specs.declared.outcome.Outcome.TheVariants as outcome
-use Rattle.au_cli.specs.Files.{Text, and_more, file_table, size_of, tables_from}
+use Rattle.au_value.specs.Texts.{Text}
+use Rattle.au_cli.specs.Files.{and_more, file_table, size_of, tables_from}
 use Rattle.au_cli.specs.FileCauses.{FileCause, FileRefused, FilesCause, FilesRefused}
 
 -- tables behind those that are done

@@ -26,7 +26,8 @@ use Rattle.au_words.specs.declared.words.Command.TheVariants.{Answer, Direct, Gu
 use Rattle.au_io.specs.Files.{File}
 use Rattle.au_cli.specs.declared.outcome.Outcome.{Outcome}
 use Rattle.au_cli.specs.declared.outcome.Outcome.TheVariants as outcome
-use Rattle.au_cli.specs.Files.{Text, greatest_files}
+use Rattle.au_value.specs.Texts.{Text}
+use Rattle.au_cli.specs.Files.{greatest_files}
 use Rattle.au_cli.specs.Requests.{IsRefusal, Refusal, ended, place_refusal, refused_place, refused_request, refused_statement, text_refusal}
 use Rattle.au_cli.specs.Requests.Refusal.{exactly, no_statement, defects}
 use Rattle.au_cli.specs.Causes.{IsNotPositive, IsRefusedBefore, RequestCause, StageCause, StatementCause, is_query_limit, is_text_fault, is_text_limit}
@@ -110,7 +111,7 @@ outcome_early (Some (exactly v)) (exactly w) o is e of = let same : v ≡ w = cc
 outcome_early (Some (exactly v)) (no_statement t) o is e of = cc
 outcome_early (Some (exactly v)) (defects ds) o is e of = cc
 outcome_early (Some (no_statement u)) (exactly w) o is e of = cc
-outcome_early (Some (no_statement u)) (no_statement t) o is e of = ap is_early of.1
+outcome_early (Some (no_statement u)) (no_statement t) o is e of = ap is_early (of.2 ∙ ap ended of.1.1)
 outcome_early (Some (no_statement u)) (defects ds) o is e of = cc
 outcome_early (Some (defects ds)) refusal o is e of = absurd is
 
@@ -150,7 +151,7 @@ few_tables r e = rw e refl
 
 refusal_ends : (text : Text) (found : reading.Refusal) (fault : EngineFault) → reading.IsRefusalOf text found fault → IsRefusal (text_refusal text found) (ended fault)
 refusal_ends text (reading.Refusal.exactly wanted) fault h = ap ended h
-refusal_ends text reading.Refusal.no_statement fault h = (h.0, ap ended h.1, h.2)
+refusal_ends text reading.Refusal.no_statement fault h = (fault, h, refl)
 
 pub text_cause : (r : Request) (fault : EngineFault) → nat_lt greatest_files (length r.tables) ≡ false → TextCause r.query fault → StatementCause r (ended fault)
 text_cause r fault few cause = elim cause [
@@ -230,7 +231,7 @@ not_textual (Some (exactly v)) (exactly w) at is e of = let same : v ≡ w = cc 
 not_textual (Some (exactly v)) (no_statement t) at is e of = cc
 not_textual (Some (exactly v)) (defects ds) at is e of = cc
 not_textual (Some (no_statement u)) (exactly w) at is e of = cc
-not_textual (Some (no_statement u)) (no_statement t) at is e of = true≢false (ap is_placed of.1)
+not_textual (Some (no_statement u)) (no_statement t) at is e of = true≢false (ap is_placed (of.2 ∙ ap ended of.1.1))
 not_textual (Some (no_statement u)) (defects ds) at is e of = cc
 not_textual (Some (defects ds)) refusal at is e of = is
 

@@ -25,7 +25,8 @@ use Rattle.au_cli.specs.declared.outcome.Outcome.{Outcome}
 use Rattle.au_cli.specs.declared.outcome.Outcome.TheVariants as outcome
 use Rattle.au_cli.specs.Demo.{Demonstrates}
 use Rattle.au_cli.specs.FileCauses.{FileCause}
-use Rattle.au_cli.specs.Files.{Text, file_table, greatest_files}
+use Rattle.au_value.specs.Texts.{Text}
+use Rattle.au_cli.specs.Files.{file_table, greatest_files}
 use Rattle.au_cli.specs.PlanCauses.{PlanCause, PlanGives}
 use Rattle.au_cli.specs.Requests.{IsAnswer, IsRefusal, Refusal, given_of, numbers_fit, refused_request}
 
@@ -162,10 +163,21 @@ abbrev pub LinePut : ℕ → ℕ → Option (List ℕ) → Option (List ℕ) →
 LinePut faults faults_now old new line =
     Appends old new line ⊎ Rose faults faults_now × AppendsFront old new line ⊎ Appends old new []
 
--- How the answer ended, before any line is put: over the counts of the shelf, and the refusals and the bytes of the sink.
-abbrev pub Ends : Result Asked UsageFault → Option (List File) → ℕ → ℕ → ℕ → ℕ → ℕ → ℕ → Option (List ℕ) → Option (List ℕ) → Outcome → Type 0
-Ends asked told faults faults_now absences absences_now puts puts_now old new outcome.Done = PrintsAsked asked told old new
-Ends asked told faults faults_now absences absences_now puts puts_now old new outcome.WriteFault =
-    Rose puts puts_now × PrintsAskedFront asked told old new
-Ends asked told faults faults_now absences absences_now puts puts_now old new o =
-    AskedCause asked told faults faults_now absences absences_now o × Appends old new []
+-- how often the shelf refused and had no file, and how often the sink refused, before and after
+pub record FaultCounts : Type 0 where
+  pub faults : ℕ
+  pub faults_now : ℕ
+  pub absences : ℕ
+  pub absences_now : ℕ
+  pub puts : ℕ
+  pub puts_now : ℕ
+
+abbrev pub fault_counts : ℕ → ℕ → ℕ → ℕ → ℕ → ℕ → FaultCounts
+fault_counts faults faults_now absences absences_now puts puts_now =
+    record { faults = faults; faults_now = faults_now; absences = absences; absences_now = absences_now; puts = puts; puts_now = puts_now }
+
+-- How the answer ended, before any line is put: over the counts of the shelf and of the sink, and the bytes of the sink.
+abbrev pub Ends : Result Asked UsageFault → Option (List File) → FaultCounts → Option (List ℕ) → Option (List ℕ) → Outcome → Type 0
+Ends asked told n old new outcome.Done = PrintsAsked asked told old new
+Ends asked told n old new outcome.WriteFault = Rose n.puts n.puts_now × PrintsAskedFront asked told old new
+Ends asked told n old new o = AskedCause asked told n.faults n.faults_now n.absences n.absences_now o × Appends old new []

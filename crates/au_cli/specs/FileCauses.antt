@@ -11,7 +11,8 @@ use Rattle.au_cli.specs.declared.files.Purpose.{Purpose}
 use Rattle.au_cli.specs.declared.files.Purpose.TheVariants as purpose
 use Rattle.au_cli.specs.declared.outcome.Outcome.{Outcome}
 use Rattle.au_cli.specs.declared.outcome.Outcome.TheVariants as outcome
-use Rattle.au_cli.specs.Files.{Text, file_bytes, file_table, table_or_defect, tables_from}
+use Rattle.au_value.specs.Texts.{Text}
+use Rattle.au_cli.specs.Files.{file_bytes, file_table, table_or_defect, tables_from}
 
 -- a told file's bytes have this refusal, behind so many bytes of the files before it
 abbrev pub BytesRefused : Option (List File) → Text → ℕ → ℕ → Outcome → Type 0

@@ -1,6 +1,7 @@
 -- The tables of told files, in the order of their words: each file within its own size, all of them within theirs, and each
 -- table within the limits of what it is read for. Files are numbered from 0.
 use Rattle.std.specs.Prelude.{ℕ, ◌+◌, List, [], ◌∷◌, length, Option, Some, None, Result, Ok, Err, if◌then◌else◌, nat_le, nat_lt}
+use Rattle.au_value.specs.Texts.{Text}
 use Rattle.au_blocks.specs.declared.faults.TableFault.{TableFault}
 use Rattle.au_blocks.specs.Tables.{BlockTable}
 use Rattle.au_blocks.specs.Read.{table_of}
@@ -13,9 +14,6 @@ use Rattle.au_cli.specs.declared.files.Purpose.{Purpose}
 use Rattle.au_cli.specs.declared.files.Purpose.TheVariants as purpose
 use Rattle.au_cli.specs.declared.outcome.Outcome.{Outcome}
 use Rattle.au_cli.specs.declared.outcome.Outcome.TheVariants as outcome
-
-abbrev pub Text : Type 0
-Text = List ℕ
 
 -- ---- the bytes of a file
 

@@ -10,7 +10,8 @@ use Rattle.au_words.specs.Words.{Request}
 use Rattle.au_words.specs.Words as words
 use Rattle.au_words.specs.declared.words.Command.TheVariants.{Rewrite}
 use Rattle.au_cli.specs.Causes.{IsAskedText}
-use Rattle.au_cli.specs.Files.{Text, greatest_size, greatest_total, size_of}
+use Rattle.au_value.specs.Texts.{Text}
+use Rattle.au_cli.specs.Files.{greatest_size, greatest_total, size_of}
 use Rattle.au_cli.specs.Requests.{given_of}
 use Rattle.au_cli.specs.Run.{CanAnswer}
 

@@ -15,7 +15,8 @@ use Rattle.au_engine.specs.Exchange.{plain_kinds}
 use Rattle.au_cli.specs.declared.files.Purpose.TheVariants as purpose
 use Rattle.au_cli.specs.declared.outcome.Outcome.{Outcome}
 use Rattle.au_cli.specs.declared.outcome.Outcome.TheVariants as outcome
-use Rattle.au_cli.specs.Files.{Text, file_bytes, size_of, tables_from}
+use Rattle.au_value.specs.Texts.{Text}
+use Rattle.au_cli.specs.Files.{file_bytes, size_of, tables_from}
 
 -- ---- the plan of a file
 

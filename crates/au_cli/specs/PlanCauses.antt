@@ -17,7 +17,8 @@ use Rattle.au_engine.specs.declared.plain.PlainFault.TheVariants as plain
 use Rattle.au_cli.specs.declared.files.Purpose.TheVariants as purpose
 use Rattle.au_cli.specs.declared.outcome.Outcome.{Outcome}
 use Rattle.au_cli.specs.declared.outcome.Outcome.TheVariants as outcome
-use Rattle.au_cli.specs.Files.{Text, greatest_files, tables_from}
+use Rattle.au_value.specs.Texts.{Text}
+use Rattle.au_cli.specs.Files.{greatest_files, tables_from}
 use Rattle.au_cli.specs.Plain.{PlanGiven, file_plan, line_of, line_plan, plan_given, plan_over}
 use Rattle.au_cli.specs.FileCauses.{is_file_limit, is_size_limit}
 

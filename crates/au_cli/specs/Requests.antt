@@ -2,7 +2,6 @@
 use Rattle.std.specs.Prelude.{ℕ, ◌≡◌, ◌&&◌, Bool, true, false, List, [], ◌∷◌, length, Option, Some, None, option_map, Result, Ok, Err, if◌then◌else◌, nat_lt, ⊤}
 use Rattle.std.specs.Option.{option_or}
 use Rattle.au_io.specs.Files.{File}
-use Rattle.au_lex.specs.Tokens.{tokens_of}
 use Rattle.au_parse.specs.Tree.{QueryTree}
 use Rattle.au_typing.specs.declared.fault.TypingFault.{TypingFault}
 use Rattle.au_value.specs.declared.kinds.Kind.{Kind}
@@ -17,7 +16,7 @@ use Rattle.au_engine.specs.declared.faults.EngineFault.TheVariants as engine
 use Rattle.au_engine.specs.declared.faults.LimitFault.TheVariants as limit
 use Rattle.au_engine.specs.declared.faults.QueryFault.TheVariants as query
 use Rattle.au_engine.specs.Reading as reading
-use Rattle.au_engine.specs.Reading.{PlaceIn, refused_text, statement_of}
+use Rattle.au_engine.specs.Reading.{refused_text, statement_of}
 use Rattle.au_engine.specs.Answers.{IsDefect, Named, RowsHold, answer_fits, answer_kinds, answer_names, answer_rows, asked_fits, asked_rows, guess_answer, guess_answer_fits, statement_defects}
 use Rattle.au_engine.specs.Certainty.{UaHolds, ua_answer_fits, ua_rows}
 use Rattle.au_engine.specs.Exchange.{IsPlanText}
@@ -26,7 +25,8 @@ use Rattle.au_words.specs.declared.words.Command.{Command}
 use Rattle.au_words.specs.declared.words.Command.TheVariants.{Answer, Direct, Guess, Ua, Rewrite}
 use Rattle.au_cli.specs.declared.outcome.Outcome.{Outcome}
 use Rattle.au_cli.specs.declared.outcome.Outcome.TheVariants as outcome
-use Rattle.au_cli.specs.Files.{Text, greatest_files, tables_of}
+use Rattle.au_value.specs.Texts.{Text}
+use Rattle.au_cli.specs.Files.{greatest_files, tables_of}
 
 -- ---- refusals
 
@@ -47,7 +47,7 @@ ended engine.NoMemory = outcome.NoMemory
 -- an outcome is that of a refusal
 abbrev pub IsRefusal : Refusal → Outcome → Type 0
 IsRefusal (Refusal.exactly wanted) o = o ≡ wanted
-IsRefusal (Refusal.no_statement text) o = (at : ℕ) × (o ≡ outcome.Query (query.Syntax at)) × PlaceIn (length text) (tokens_of text) at
+IsRefusal (Refusal.no_statement text) o = (fault : EngineFault) × reading.IsRefusalOf text reading.Refusal.no_statement fault × (o ≡ ended fault)
 IsRefusal (Refusal.defects found) o = (fault : EngineFault) × IsDefect found fault × (o ≡ ended fault)
 
 abbrev pub text_refusal : Text → reading.Refusal → Refusal

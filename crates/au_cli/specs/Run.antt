@@ -19,7 +19,8 @@ use Rattle.au_cli.specs.declared.files.Purpose.TheVariants as purpose
 use Rattle.au_cli.specs.declared.outcome.Outcome.{Outcome}
 use Rattle.au_cli.specs.declared.outcome.Outcome.TheVariants as outcome
 use Rattle.au_cli.specs.Demo.{Demonstrates}
-use Rattle.au_cli.specs.Files.{Text, file_table, greatest_files, greatest_size, tables_from}
+use Rattle.au_value.specs.Texts.{Text}
+use Rattle.au_cli.specs.Files.{file_table, greatest_files, greatest_size, tables_from}
 use Rattle.au_cli.specs.Plain.{plan_given}
 use Rattle.au_cli.specs.Requests.{Given, Refusal, given_of, numbers_fit, refused_request}
 use Rattle.au_cli.specs.Requests.Refusal.{exactly}

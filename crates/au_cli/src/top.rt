@@ -7,7 +7,7 @@ ghost use Rattle.au_words.specs.declared.fault.UsageFault.{UsageFault};
 ghost use Rattle.au_words.specs.Words.{asked_of, first_usage_fault};
 ghost use Rattle.au_cli.specs.Lines.{fault_text};
 ghost use Rattle.au_engine.specs.declared.faults.QueryFault.TheVariants.{NotPositive};
-ghost use Rattle.au_cli.specs.Causes.{AskedCause, AskedNotPositive, DemoCause, Ends, IsAskedText, LinePut, PrintsAsked, PrintsAskedFront, TextPut, DemoText};
+ghost use Rattle.au_cli.specs.Causes.{AskedCause, AskedNotPositive, DemoCause, Ends, IsAskedText, LinePut, PrintsAsked, PrintsAskedFront, TextPut, DemoText, fault_counts};
 ghost use Rattle.au_cli.specs.Requests.{IsRefusal, Refusal};
 ghost use Rattle.au_cli.specs.Run.{CanAnswer, Yields, first_refusal, refused_before};
 ghost use Rattle.au_cli.specs.Demo.{Demonstrates};
@@ -83,7 +83,7 @@ fn answer<R: Threads + Sync, S: Shelf, O: Sink, G: Gate + Sync>(
     out: &mut O,
     gate: G,
 ) -> Outcome
-    ensures ends { Ends (asked_of words.now) (S.files shelf.old) (S.faults shelf.old) (S.faults shelf.new) (S.absences shelf.old) (S.absences shelf.new) (O.faults out.old) (O.faults out.new) (O.written out.old) (O.written out.new) result }
+    ensures ends { Ends (asked_of words.now) (S.files shelf.old) (fault_counts (S.faults shelf.old) (S.faults shelf.new) (S.absences shelf.old) (S.absences shelf.new) (O.faults out.old) (O.faults out.new)) (O.written out.old) (O.written out.new) result }
     ensures files { S.files shelf.new ≡ S.files shelf.old }
     ensures counts { (S.faults shelf.old ≤ S.faults shelf.new) × (S.absences shelf.old ≤ S.absences shelf.new) × (O.faults out.old ≤ O.faults out.new) }
 {

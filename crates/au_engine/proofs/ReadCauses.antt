@@ -1,5 +1,5 @@
 -- Why the text of a query is not read, from why its tokens or its statement are not.
-use Rattle.std.proofs.Common.{◌≡◌, ◌≤◌, ◌<◌, ◌⊎◌, inl, inr, ℕ, true, false, List, None, Ok, Err, refl, ◌∙◌, ap, arith, length}
+use Rattle.std.proofs.Common.{◌≡◌, ◌≤◌, ◌<◌, ◌⊎◌, inl, inr, ℕ, true, false, List, None, Ok, Err, refl, sym, ◌∙◌, ap, subst, arith, length}
 use Rattle.std.specs.Prelude.{nat_lt}
 use Rattle.au_lex.specs.declared.Token.{Token}
 use Rattle.au_lex.specs.declared.LexFault.{LexFault}
@@ -11,7 +11,8 @@ use Rattle.au_parse.specs.Parsing as parsing
 use Rattle.au_engine.specs.declared.faults.EngineFault.{EngineFault}
 use Rattle.au_engine.specs.declared.faults.EngineFault.TheVariants as engine
 use Rattle.au_engine.specs.declared.faults.LimitFault.TheVariants as limit
-use Rattle.au_engine.specs.Reading.{Text, Refusal, IsRefusalOf, IsTokensRefusal, TextCause, TokensCause, greatest_length, refused_text, refused_tokens, token_fault, parse_fault}
+use Rattle.au_value.specs.Texts.{Text}
+use Rattle.au_engine.specs.Reading.{IsRefusalIn, TextCause, TokensCause, greatest_length, refused_text, refused_tokens, token_fault, parse_fault}
 use Rattle.au_engine.specs.Reading.Refusal.{exactly, no_statement}
 
 pub parsed_cause : (n : ℕ) (tokens : List Token) (f : ParseFault) → parsing.HasCause n tokens f → TokensCause n tokens (parse_fault f)
@@ -34,9 +35,5 @@ long_cause text long = let e : nat_lt greatest_length (length text) ≡ true = g
 pub lexed_cause : (text : Text) (f : LexFault) → length text ≤ greatest_length → (f ≡ lex.NoMemory) ⊎ (tokens_of text ≡ Err f) → TextCause text (token_fault f)
 lexed_cause text f short h = elim h [ inl e ↦ inl (ap token_fault e) | inr e ↦ inr (exactly (token_fault f), within text short ∙ ap (refused_tokens (length text)) e, refl) ]
 
-refusal_along : (text : Text) (tokens : List Token) (r : Refusal) (o : EngineFault) → tokens_of text ≡ Ok tokens → IsTokensRefusal (length text) tokens r o → IsRefusalOf text r o
-refusal_along text tokens (exactly w) o e h = h
-refusal_along text tokens no_statement o e h = (h.0, h.1, rw e h.2)
-
 pub tokens_cause : (text : Text) (tokens : List Token) (o : EngineFault) → length text ≤ greatest_length → tokens_of text ≡ Ok tokens → TokensCause (length text) tokens o → TextCause text o
-tokens_cause text tokens o short e h = elim h [ inl m ↦ inl m | inr k ↦ inr (k.0, within text short ∙ ap (refused_tokens (length text)) e ∙ k.1, refusal_along text tokens k.0 o e k.2) ]
+tokens_cause text tokens o short e h = elim h [ inl m ↦ inl m | inr k ↦ inr (k.0, within text short ∙ ap (refused_tokens (length text)) e ∙ k.1, subst (λ t. IsRefusalIn (length text) t k.0 o) (sym e) k.2) ]

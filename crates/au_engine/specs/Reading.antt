@@ -1,6 +1,7 @@
 -- How the text of a query is refused, and the statement of a text.
 use Rattle.std.specs.Prelude.{ℕ, ◌≡◌, ◌⊎◌, List, length, Option, Some, None, option_and_then, Result, Ok, Err, if◌then◌else◌, nat_lt}
 use Rattle.std.specs.Result.{result_ok}
+use Rattle.au_value.specs.Texts.{Text}
 use Rattle.au_lex.specs.declared.Token.{Token}
 use Rattle.au_lex.specs.declared.LexFault.{LexFault}
 use Rattle.au_lex.specs.declared.LexFault.TheVariants as lex
@@ -15,9 +16,6 @@ use Rattle.au_engine.specs.declared.faults.EngineFault.{EngineFault}
 use Rattle.au_engine.specs.declared.faults.EngineFault.TheVariants as engine
 use Rattle.au_engine.specs.declared.faults.LimitFault.TheVariants as limit
 use Rattle.au_engine.specs.declared.faults.QueryFault.TheVariants as query
-
-abbrev pub Text : Type 0
-Text = List ℕ
 
 -- A refusal: one fault, or that there is no statement, at whichever place is named.
 pub data Refusal : Type 0 where
@@ -64,10 +62,14 @@ abbrev pub PlaceIn : ℕ → Result (List Token) LexFault → ℕ → Type 0
 PlaceIn n (Ok tokens) at = IsPlace n tokens at
 PlaceIn n (Err fault) at = ⊥
 
+-- a fault is that of a refusal, in a text of so many bytes with these tokens
+abbrev pub IsRefusalIn : ℕ → Result (List Token) LexFault → Refusal → EngineFault → Type 0
+IsRefusalIn n tokens (Refusal.exactly wanted) f = f ≡ wanted
+IsRefusalIn n tokens Refusal.no_statement f = (at : ℕ) × (f ≡ engine.Query (query.Syntax at)) × PlaceIn n tokens at
+
 -- a fault is that of a refusal of the text
 abbrev pub IsRefusalOf : Text → Refusal → EngineFault → Type 0
-IsRefusalOf text (Refusal.exactly wanted) f = f ≡ wanted
-IsRefusalOf text Refusal.no_statement f = (at : ℕ) × (f ≡ engine.Query (query.Syntax at)) × PlaceIn (length text) (tokens_of text) at
+IsRefusalOf text r f = IsRefusalIn (length text) (tokens_of text) r f
 
 -- the statement of a text
 abbrev pub statement_of : Text → Option QueryTree
@@ -78,9 +80,5 @@ abbrev pub TextCause : Text → EngineFault → Type 0
 TextCause text f = (f ≡ engine.NoMemory) ⊎ ((r : Refusal) × (refused_text text ≡ Some r) × IsRefusalOf text r f)
 
 -- why tokens are not read
-abbrev pub IsTokensRefusal : ℕ → List Token → Refusal → EngineFault → Type 0
-IsTokensRefusal n tokens (Refusal.exactly wanted) f = f ≡ wanted
-IsTokensRefusal n tokens Refusal.no_statement f = (at : ℕ) × (f ≡ engine.Query (query.Syntax at)) × IsPlace n tokens at
-
 abbrev pub TokensCause : ℕ → List Token → EngineFault → Type 0
-TokensCause n tokens f = (f ≡ engine.NoMemory) ⊎ ((r : Refusal) × (refused_tokens n (Ok tokens) ≡ Some r) × IsTokensRefusal n tokens r f)
+TokensCause n tokens f = (f ≡ engine.NoMemory) ⊎ ((r : Refusal) × (refused_tokens n (Ok tokens) ≡ Some r) × IsRefusalIn n (Ok tokens) r f)

@@ -8,7 +8,6 @@ ghost use Rattle.au_plain.specs.Plans.{plan_tree};
 ghost use Rattle.au_exec.specs.Outcomes.{rows_of};
 ghost use Rattle.au_engine.specs.Stages.{AddsCompressed, AddsPairs, AddsRelation, CanRun, Decodes, HaveSides, LeavesCompressed, LeavesMultiplied, LeavesRange, MultipliesCompressed};
 
-use crate::results::together;
 use crate::runner::Runner;
 use crate::stage::{put, run};
 use crate::steps::{Planned, product_of, union_of};
@@ -18,7 +17,7 @@ use au_compress::{compressed, guess_part};
 use au_encode::{decode, encode};
 use au_expr::EvalFault;
 use au_par::Gate;
-use au_plain::PRow;
+use au_plain::{PRow, beside};
 use au_value::{NoMemory, Range};
 use std::alloc::Global;
 use std::thread::Threads;
@@ -79,7 +78,7 @@ fn pairs_of(
 {
     let left = scan_of(alloc, left, tables)?;
     let second = scan_of(alloc, right, tables);
-    let (right, left) = together(second, left)?;
+    let (right, left) = beside(second, left)?;
     match product_of(alloc, left, right) {
         Ok(pairs) => Ok(pairs),
         Err(NoMemory) => Err(NoMemory),
@@ -180,7 +179,7 @@ fn compressed_pairs(
         Err(NoMemory) => return Err(EvalFault::NoMemory),
     };
     let second = possible_pairs(alloc, left, right, n, tables);
-    let (possible, guesses) = together(second, guesses)?;
+    let (possible, guesses) = beside(second, guesses)?;
     match union_of(alloc, guesses, possible) {
         Ok(pairs) => Ok(pairs),
         Err(NoMemory) => Err(EvalFault::NoMemory),
@@ -207,8 +206,8 @@ pub(crate) fn compressed_product_of<R: Threads + Sync, G: Gate + Sync>(
     ensures overflow { result ≡ Err EvalFault.Overflow → LeavesMultiplied n (map rows_of left.1.items) (plan_tree left.0.plan) left.0.layout.columns (map rows_of right.1.items) (plan_tree right.0.plan) right.0.layout.columns }
 {
     let first = side_of(runner, alloc, left.0, left.1);
-    let (left, own) = together(first, right)?;
+    let (left, own) = beside(first, right)?;
     let second = side_of(runner, alloc, own.0, own.1);
-    let (right, left) = together(second, left)?;
+    let (right, left) = beside(second, left)?;
     compressed_pairs(alloc, &left, &right, n, tables)
 }

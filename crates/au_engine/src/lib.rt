@@ -28,7 +28,6 @@ mod options;
 mod ordered;
 mod plain;
 mod reading;
-mod results;
 mod rewriting;
 mod runner;
 mod running;

@@ -7,13 +7,12 @@ ghost use Rattle.au_sqltext.specs.Fitting.{numbers_fit, widths_fit};
 ghost use Rattle.au_typing.specs.Queries.{relations, table_kinds};
 ghost use Rattle.au_engine.specs.Rewriting.{GivesTree, IsPlanOf};
 
-use crate::results::together;
 use crate::steps::{
     Planned, combined_of, difference_of, distinct_of, group_of, product_of, project_of, scan,
     select_of, total_of, union_of,
 };
 use au_algebra::Query;
-use au_plain::Plan;
+use au_plain::{Plan, beside};
 use au_sqltext::read_numbers;
 use au_typing::{Schema, Typed};
 use au_value::NoMemory;
@@ -56,20 +55,20 @@ fn plan_of(alloc: Global, query: &Query, schemas: &[Schema]) -> Result<Planned, 
         Query::Product(left, right) => {
             let left = plan_of(alloc, left, schemas)?;
             let second = plan_of(alloc, right, schemas);
-            let (right, left) = together(second, left)?;
+            let (right, left) = beside(second, left)?;
             product_of(alloc, left, right)
         }
         Query::Union(left, right) => {
             let left = plan_of(alloc, left, schemas)?;
             let second = plan_of(alloc, right, schemas);
-            let (right, left) = together(second, left)?;
+            let (right, left) = beside(second, left)?;
             union_of(alloc, left, right)
         }
         Query::Difference(left, right) => {
             let left = plan_of(alloc, left, schemas)?;
             let left = combined_of(alloc, left)?;
             let second = plan_of(alloc, right, schemas);
-            let (right, left) = together(second, left)?;
+            let (right, left) = beside(second, left)?;
             difference_of(alloc, left, right)
         }
         Query::Distinct(of) => {

@@ -16,7 +16,6 @@ ghost use Rattle.au_engine.specs.Stages.{AddsTree};
 
 use crate::compressing::compressed_product_of;
 use crate::encoded::scanned;
-use crate::results::together;
 use crate::runner::Runner;
 use crate::stage::{materialized, materialized_combined};
 use crate::steps::{
@@ -27,7 +26,7 @@ use au_algebra::Query;
 use au_blocks::Table;
 use au_expr::EvalFault;
 use au_par::Gate;
-use au_plain::PRow;
+use au_plain::{PRow, beside};
 use au_value::Word;
 use std::alloc::Global;
 use std::thread::Threads;
@@ -103,7 +102,7 @@ fn apart<R: Threads + Sync, G: Gate + Sync>(
 {
     let mut own = Vec::new(alloc);
     let first = staged(runner, alloc, query, blocks, compress, &mut own);
-    let made = together(first, own)?;
+    let made = beside(first, own)?;
     Ok(made)
 }
 
@@ -127,13 +126,13 @@ fn paired<R: Threads + Sync, G: Gate + Sync>(
         None => {
             let first = staged(runner, alloc, left, blocks, compress, tables)?;
             let second = staged(runner, alloc, right, blocks, compress, tables);
-            let sides = together(second, first)?;
+            let sides = beside(second, first)?;
             Ok(product_of(alloc, sides.1, sides.0)?)
         }
         Some(n) => {
             let first = apart(runner, alloc, left, blocks, compress)?;
             let second = apart(runner, alloc, right, blocks, compress);
-            let sides = together(second, first)?;
+            let sides = beside(second, first)?;
             compressed_product_of(runner, alloc, sides.1, sides.0, n, tables)
         }
     }
@@ -157,7 +156,7 @@ fn united<R: Threads + Sync, G: Gate + Sync>(
 {
     let first = staged(runner, alloc, left, blocks, compress, tables)?;
     let second = staged(runner, alloc, right, blocks, compress, tables);
-    let sides = together(second, first)?;
+    let sides = beside(second, first)?;
     Ok(union_of(alloc, sides.1, sides.0)?)
 }
 
@@ -180,6 +179,6 @@ fn lessened<R: Threads + Sync, G: Gate + Sync>(
     let of = apart(runner, alloc, left, blocks, compress)?;
     let first = materialized_combined(runner, alloc, of.0, of.1, tables)?;
     let second = staged(runner, alloc, right, blocks, compress, tables);
-    let sides = together(second, first)?;
+    let sides = beside(second, first)?;
     Ok(difference_of(alloc, sides.1, sides.0)?)
 }

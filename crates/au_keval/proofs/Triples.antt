@@ -40,13 +40,9 @@ both_ways true q f g = sym (f refl)
 both_ways false true f g = g refl
 both_ways false false f g = refl
 
-count_same : (b : Bool) → count_of b ≡ cond b 1 0
-count_same true = refl
-count_same false = refl
-
 -- a truth weighs as its range does
 weight_same : (r : Span) → triple_of (three_way r) ≡ weight r
-weight_same r = λ i. counts (count_same (is_true r.lo) i) (count_same (is_true r.sg) i) (count_same (is_true r.hi) i)
+weight_same r = refl
 
 no_more : (k : Counts) → IsTriple k → k.most ≡ 0 → (k.least ≤ 0) × (k.guess ≤ 0)
 no_more k ok e = (omega (arith, ok.least_guess, ok.guess_most, e), omega (arith, ok.guess_most, e))
@@ -117,7 +113,7 @@ none_same n = both_ways (nat_le n 0) (n == 0) (λ h. let m = leb-true n 0 h in e
 
 -- the general reading is the counted answer
 pub reading_is_counted : ReadingIsCounted
-reading_is_counted q ts = λ i. positive.positive ordinary (record { zero = 0; one = 1; plus = λ m n. m + n; times = λ m n. m * n; is_zero = λ n. none_same n i; weight = λ v. count_same (is_true v) i }) q ts
+reading_is_counted q ts = λ i. positive.positive ordinary (record { zero = 0; one = 1; plus = λ m n. m + n; times = λ m n. m * n; is_zero = λ n. none_same n i; weight = λ v. count_of (is_true v) }) q ts
 
 -- ---- the numbers of the bounded relation
 

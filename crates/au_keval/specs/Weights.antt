@@ -1,6 +1,6 @@
 -- The annotations of truths: 1 for true and 0 for false, twice in a pair, and a triple of these for whether a condition
 -- holds certainly, in the guess and possibly. Valid truths have valid annotations, and products of these are valid.
-use Rattle.std.specs.Prelude.{◌≡◌, ℕ, ◌≤◌, Bool, true, false, refl}
+use Rattle.std.specs.Prelude.{◌≡◌, ℕ, ◌≤◌, Bool, true, false, refl, if◌then◌else◌}
 use Rattle.std.proofs.Common.{zero-le, le_refl, mul-le-mul, sym}
 use Rattle.std.proofs.lemmas.Bool.{true≢false}
 use Rattle.au_annot.specs.Pairs as pairs
@@ -11,8 +11,7 @@ use Rattle.au_expr.specs.declared.truth.ThreeWay.{ThreeWay}
 
 -- 1 for true and 0 for false
 abbrev pub count_of : Bool → ℕ
-count_of true = 1
-count_of false = 0
+count_of t = if t then 1 else 0
 
 -- the same in every world and in the guess world
 abbrev pub twice_of : Bool → PairCounts

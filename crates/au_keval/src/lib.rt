@@ -30,4 +30,4 @@ mod weigh;
 pub use carry::{Carry, Guessing, hom};
 pub use evaluation::positive;
 pub use theorems::{condition_is_numbers, reading_is_bounded, reading_is_counted};
-pub use weigh::Weigh;
+pub use weigh::{Weigh, zero_or_one};

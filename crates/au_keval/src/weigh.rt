@@ -27,7 +27,7 @@ impl Weigh<PlainDomain> for Count {
     ghost weight = { count_of };
 
     fn weight(truth: &bool) -> Count {
-        count(*truth)
+        zero_or_one(*truth)
     }
 
     ghost weight_valid = { counts_valid };
@@ -53,7 +53,9 @@ impl Weigh<RangeDomain> for Triple {
     ghost weight = { triple_of };
 
     fn weight(truth: &ThreeWay) -> Triple {
-        let (least, guess, most) = (count(truth.least), count(truth.guess), count(truth.most));
+        let least = zero_or_one(truth.least);
+        let guess = zero_or_one(truth.guess);
+        let most = zero_or_one(truth.most);
         Triple::of(least, guess, most).unwrap()
     }
 
@@ -62,8 +64,8 @@ impl Weigh<RangeDomain> for Triple {
     ghost times_valid = { triples_times };
 }
 
-// 1 where the test holds, else 0.
-fn count(holds: bool) -> Count
+/// 1 where a test holds, else 0.
+pub fn zero_or_one(holds: bool) -> Count
     ensures { result ≡ count_of holds }
 {
     if holds { Count::one() } else { Count::zero() }

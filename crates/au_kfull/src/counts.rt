@@ -9,6 +9,7 @@ ghost use Rattle.au_kfull.specs.Keys.{keys_of as the_keys};
 use crate::keys::{Keys, keys_of};
 use crate::tuple::Tuple;
 use au_annot::{Annot, Count, Triple};
+use au_keval::zero_or_one;
 use au_value::{Overflow, Range};
 
 /// Whether each range is certain.
@@ -67,13 +68,6 @@ fn sum_uncertain(keys: Keys, rows: &[Tuple<'_, Range, Triple>]) -> Result<Count,
     }
     let _fits = sum.get();
     Ok(sum)
-}
-
-// The count 1, or 0.
-fn zero_or_one(there: bool) -> Count
-    ensures { result ≡ (if there then 1 else 0) }
-{
-    if there { Count::one() } else { Count::zero() }
 }
 
 // Whether the keys of some row are certain.

@@ -23,6 +23,7 @@ mod words;
 
 use au_value::{Comparison, Word};
 pub use reading::parse;
+pub use terms::Operation;
 
 /// The aggregates.
 #[derive(Clone, Copy, Debug, PartialEq, Eq)]

@@ -26,7 +26,7 @@ pub enum Level {
     Product,
 }
 
-/// The operators.
+/// The operators of two operands.
 #[derive(Clone, Copy)]
 pub enum Operation {
     Or,

@@ -2,7 +2,7 @@
 //!
 //! A function that holds an owned value past a `?` drops it there, and the proof of each such drop is long. These calls
 //! hold the values in its place.
-ghost use Rattle.std.specs.Prelude.{◌≡◌, IfOk, Ok};
+ghost use Rattle.std.specs.Prelude.{◌≡◌, IfErr, IfOk, Err, Ok};
 
 /// Both values, if both could be made; else the first fault.
 pub fn both<A: Drop, B: Drop, E: Drop>(
@@ -22,7 +22,8 @@ pub fn both<A: Drop, B: Drop, E: Drop>(
 
 /// A value that could be made, beside another; else the fault.
 pub fn beside<A, B: Drop, E>(first: Result<A, E>, second: B) -> Result<(A, B), E>
-    ensures { IfOk result (λ r. (first ≡ Ok r.0) × (r.1 ≡ second)) }
+    ensures values { IfOk result (λ r. (first ≡ Ok r.0) × (r.1 ≡ second)) }
+    ensures fault { IfErr result (λ f. first ≡ Err f) }
 {
     match first {
         Ok(a) => Ok((a, second)),

@@ -8,24 +8,14 @@ use Rattle.au_expr.specs.Terms.{Term, Literal, Negate, Not}
 use Rattle.au_expr.specs.Kinds.{is_kind, kind_if}
 use Rattle.au_parse.specs.declared.AggWord.{AggWord}
 use Rattle.au_parse.specs.declared.AggWord.TheVariants.{Count, Sum, Min, Max}
-use Rattle.au_parse.specs.Tree.{Tree, Operator}
+use Rattle.au_parse.specs.Tree.{Tree}
 use Rattle.au_parse.specs.Views.{term_tree}
-use Rattle.au_parse.specs.Levels.{arms_tree}
+use Rattle.au_parse.specs.Levels.{arms_tree, operator_of}
 use Rattle.au_typing.specs.Scales.{number_if}
-use Rattle.au_typing.specs.declared.shape.Operation.{Operation}
-use Rattle.au_typing.specs.declared.shape.Operation.TheVariants as operation
 use Rattle.au_typing.specs.declared.shape.Sign.{Sign}
 use Rattle.au_typing.specs.declared.shape.Sign.TheVariants as sign
 use Rattle.au_typing.specs.declared.shape.Shape.{Shape}
 use Rattle.au_typing.specs.declared.shape.Shape.TheVariants as shape
-
-abbrev pub operator_of : Operation → Operator
-operator_of operation.Add = Operator.add
-operator_of operation.Subtract = Operator.subtract
-operator_of operation.Multiply = Operator.multiply
-operator_of (operation.Compare how) = Operator.compare how
-operator_of operation.And = Operator.and
-operator_of operation.Or = Operator.or
 
 abbrev pub signed_tree : ℕ → Sign → Tree → Tree
 signed_tree at sign.Minus e = Tree.negate at e

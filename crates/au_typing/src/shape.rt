@@ -3,19 +3,8 @@ ghost use Rattle.std.specs.Prelude.{◌≡◌};
 ghost use Rattle.au_parse.specs.Views.{term_tree};
 ghost use Rattle.au_typing.specs.Shapes.{shape_tree};
 
-use au_parse::{AggWord, Name, Term};
-use au_value::{Comparison, Word};
-
-/// The operators of two operands.
-#[derive(Clone, Copy)]
-pub(crate) enum Operation {
-    Add,
-    Subtract,
-    Multiply,
-    Compare(Comparison),
-    And,
-    Or,
-}
+use au_parse::{AggWord, Name, Operation, Term};
+use au_value::Word;
 
 /// The operators of one operand.
 #[derive(Clone, Copy)]

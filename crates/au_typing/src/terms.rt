@@ -1,11 +1,11 @@
 //! Terms over a scope: the expression of each and its kind, or what is wrong with it.
 ghost use Rattle.std.specs.Prelude.{◌≡◌, ◌≤◌, ℕ, [], Some, None, false, true, IfOk, IfErr, IfSome, IfNone, Contains};
 ghost use Rattle.au_expr.specs.Terms.{term, Case, Literal};
-ghost use Rattle.au_parse.specs.Levels.{arms_tree};
+ghost use Rattle.au_parse.specs.Levels.{arms_tree, operator_of};
 ghost use Rattle.au_parse.specs.Tree.{Tree};
 ghost use Rattle.au_parse.specs.Views.{term_tree};
 ghost use Rattle.au_typing.specs.Results.{Answers, CaseAnswers, Chooses, EndsCase, Joins, Signs, Takes, scope_view, setting_view};
-ghost use Rattle.au_typing.specs.Shapes.{if_arms, operator_of, signed_kind, signed_term, argument_given};
+ghost use Rattle.au_typing.specs.Shapes.{if_arms, signed_kind, signed_term, argument_given};
 ghost use Rattle.au_typing.specs.Scales.{scale};
 ghost use Rattle.au_typing.specs.Scopes.{Scope as ScopeOf, field_kind};
 ghost use Rattle.au_typing.specs.declared.setting.Gathered.{Gathered as GatheredOf};
@@ -18,9 +18,9 @@ use crate::fault::TypingFault;
 use crate::scales::{common_kind, number_if, product_kind, rescaled, sum_kind};
 use crate::scope::{Scope, column};
 use crate::setting::{Gathered, Setting};
-use crate::shape::{Operation, Shape, Sign, shape_of};
+use crate::shape::{Shape, Sign, shape_of};
 use au_expr::Expr;
-use au_parse::{AggWord, Name, Term};
+use au_parse::{AggWord, Name, Operation, Term};
 use au_value::{Kind, NoMemory, Value, Word};
 use std::alloc::Global;
 

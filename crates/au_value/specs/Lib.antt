@@ -1,4 +1,5 @@
 -- The definitions, in the order in which they are to be read.
+pub mod Texts
 pub mod Order
 pub mod Ranges
 pub mod Numeral

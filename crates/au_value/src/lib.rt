@@ -27,7 +27,7 @@ pub use comparison::Comparison;
 pub use decimal::read_decimal;
 pub use faults::{NoMemory, Overflow};
 pub use kinds::Kind;
-pub use numeral::read_numeral;
+pub use numeral::{all_digits, read_numeral};
 pub use range::Range;
 pub use theorems::{hull_holds_both, order_is_total};
 pub use value::{Value, compare, copies, copy, kind, order};

@@ -35,7 +35,8 @@ pub(crate) fn is_digits(text: &[u8]) -> bool
     !text.is_empty() && text.len() <= 39 && all_digits(text)
 }
 
-fn all_digits(text: &[u8]) -> bool
+/// Whether each byte is a decimal digit.
+pub fn all_digits(text: &[u8]) -> bool
     ensures { result ≡ list_all is_ascii_digit text.now }
 {
     text.iter().all(|byte| byte.is_ascii_digit())

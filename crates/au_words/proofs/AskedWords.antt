@@ -4,7 +4,8 @@ use Rattle.std.specs.Prelude.{is_some, nat_lt, option_and_then, slice_get, slice
 use Rattle.std.specs.List.{list_all}
 use Rattle.std.specs.Str.Parse.{digits_value}
 use Rattle.std.proofs.lemmas.Bool.{and_parts, true≢false}
-use Rattle.au_words.specs.Words.{Asked, Text, all_options, asked_by, asked_of, demo, demo_of, first_word, is_form, is_number, is_taken, number_of, positionals, unless, value_of, verb_of}
+use Rattle.au_value.specs.Texts.{Text}
+use Rattle.au_words.specs.Words.{Asked, all_options, asked_by, asked_of, demo, demo_of, first_word, is_form, is_number, is_taken, number_of, positionals, unless, value_of, verb_of}
 use Rattle.au_words.specs.CommandLine.{HasForm, IsUsage}
 use Rattle.au_words.specs.declared.fault.UsageFault.{UsageFault}
 use Rattle.au_words.specs.declared.fault.UsageFault.TheVariants.{Words}

@@ -5,7 +5,8 @@ use Rattle.std.specs.Str.{bytes_eq}
 use Rattle.std.proofs.lemmas.Bool.{and_parts, true≢false}
 use Rattle.std.proofs.lemmas.List.Sums.{split_at_first, prefix_len_stops}
 use Rattle.std.proofs.lemmas.Slice.Eq.{bytes_eq-Decides}
-use Rattle.au_words.specs.Words.{Text, all_options, is_equal_sign, is_number, is_option, is_taken, is_written, name_part, options_of, value_part}
+use Rattle.au_value.specs.Texts.{Text}
+use Rattle.au_words.specs.Words.{all_options, is_equal_sign, is_number, is_option, is_taken, is_written, name_part, options_of, value_part}
 use Rattle.au_words.specs.declared.words.Command.TheVariants.{Answer, Direct, Guess, Ua, Rewrite}
 use Rattle.au_words.specs.declared.words.form.Verb.{Verb}
 use Rattle.au_words.specs.declared.words.form.Verb.TheVariants as verb

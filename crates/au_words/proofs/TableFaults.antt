@@ -1,7 +1,8 @@
 -- What is wrong with table words, from what is found.
 use Rattle.std.proofs.Common.{◌≡◌, ◌∙◌, ℕ, true, false, List, [], ◌∷◌, map, refl, sym, ap, Some, None}
 use Rattle.std.specs.Prelude.{position}
-use Rattle.au_words.specs.Words.{is_bad_table, same_names, table_fault, name_part, table_of, Text}
+use Rattle.au_value.specs.Texts.{Text}
+use Rattle.au_words.specs.Words.{is_bad_table, same_names, table_fault, name_part, table_of}
 use Rattle.au_words.specs.CommandLine.{name_of, seen_table}
 use Rattle.au_words.specs.declared.fault.UsageFault.TheVariants.{BadTable, SameTable}
 use Rattle.au_words.specs.declared.words.TableWord.{TableWord}

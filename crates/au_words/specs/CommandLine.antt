@@ -10,7 +10,8 @@ use Rattle.clap.specs.declared.builder.command.Command.TheViews.{out-Command}
 use Rattle.clap.specs.declared.builder.command.Command.{Command as Line}
 use Rattle.clap.specs.Values.{bool_text}
 use Rattle.clap.specs.declared.builder.action.ArgAction.TheVariants.{SetTrue, Append}
-use Rattle.au_words.specs.Words.{Text, first_word, is_form, later_words, positionals, value_of, verb_of}
+use Rattle.au_value.specs.Texts.{Text}
+use Rattle.au_words.specs.Words.{first_word, is_form, later_words, positionals, value_of, verb_of}
 use Rattle.au_words.specs.Words as words
 use Rattle.au_words.specs.declared.fault.UsageFault.{UsageFault}
 use Rattle.au_words.specs.declared.words.Asked.{Asked}

@@ -7,15 +7,13 @@ use Rattle.std.specs.List.{list_all, list_any, filter, before_first, after_first
 use Rattle.std.specs.Char.{is_ascii_digit}
 use Rattle.std.specs.Str.{str_eq_ignore_ascii_case}
 use Rattle.std.specs.Str.Parse.{digits_value}
+use Rattle.au_value.specs.Texts.{Text}
 use Rattle.au_words.specs.declared.fault.UsageFault.{UsageFault}
 use Rattle.au_words.specs.declared.fault.UsageFault.TheVariants.{Words, BadTable, SameTable}
 use Rattle.au_words.specs.declared.words.Command.{Command}
 use Rattle.au_words.specs.declared.words.Command.TheVariants.{Answer, Direct, Guess, Ua, Rewrite}
 use Rattle.au_words.specs.declared.words.form.Verb.{Verb}
 use Rattle.au_words.specs.declared.words.form.Verb.TheVariants as verb
-
-abbrev pub Text : Type 0
-Text = List ℕ
 
 -- ---- words that are cut
 

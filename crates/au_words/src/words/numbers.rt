@@ -1,21 +1,15 @@
 //! Numbers among the words.
 ghost use Rattle.std.specs.Prelude.{◌≡◌, true, nat_lt, if◌then◌else◌, Some, None};
-ghost use Rattle.std.specs.List.{list_all};
-ghost use Rattle.std.specs.Char.{is_ascii_digit};
 ghost use Rattle.std.specs.Str.Parse.{digits_value};
 ghost use Rattle.au_words.specs.Words.{is_number, is_plain};
+
+use au_value::all_digits;
 
 // Whether a text is digits without a leading zero.
 fn is_plain(text: &[u8]) -> bool
     ensures { result ≡ is_plain text.now }
 {
     !text.is_empty() && all_digits(text) && (text.len() == 1 || text[0] != b'0')
-}
-
-fn all_digits(text: &[u8]) -> bool
-    ensures { result ≡ list_all is_ascii_digit text.now }
-{
-    text.iter().all(|byte| byte.is_ascii_digit())
 }
 
 // The number of such a text, if it fits.

@@ -13,7 +13,7 @@ use Rattle.au_blocks.specs.Entries.{entry, entry_of, label_of, role_of, copies_i
 use Rattle.au_blocks.specs.Headers.{cells_of}
 use Rattle.au_blocks.specs.Gathered.{Gathered, nothing}
 use Rattle.au_blocks.specs.Labels.{label_bytes}
-use Rattle.au_blocks.proofs.Distinct.{Text}
+use Rattle.au_value.specs.Texts.{Text}
 use Rattle.au_blocks.proofs.GatherStep.{labels, builders, with_builder, labels-push, builders-push, builders-blocks, place-within}
 use Rattle.au_blocks.proofs.gather.gather.Goals as goal
 

@@ -1,10 +1,9 @@
 -- The answer of each term from those of its parts.
 use Rattle.std.proofs.Common.{◌≡◌, [], sym, subst}
 use Rattle.std.specs.Prelude.{Contains}
-use Rattle.au_parse.specs.Levels.{arms_tree}
+use Rattle.au_parse.specs.Levels.{arms_tree, operator_of}
 use Rattle.au_parse.specs.Views.{term_tree}
 use Rattle.au_typing.specs.Results.{Answers, CaseAnswers, scope_view, setting_view}
-use Rattle.au_typing.specs.Shapes.{operator_of}
 use Rattle.au_typing.specs.Terms.{aggregate_faults, counts, is_extreme}
 use Rattle.au_typing.proofs.Steps.{join_step, sign_step, choose_step, case_step, ends_case, aggregate_step, aggregate_misplaced}
 use Rattle.au_typing.proofs.terms.+terms.Goals as goal

@@ -1,0 +1,6 @@
+-- Texts as contracts see them:
+-- the list of their bytes.
+use Rattle.std.specs.Prelude.{ℕ, List}
+
+abbrev pub Text : Type 0
+Text = List ℕ
