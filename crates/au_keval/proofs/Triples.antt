@@ -8,7 +8,7 @@ use borrow.Author.Tests.{leb-true, le-leb, lt-ltb, ltb-true}
 use Rattle.au_value.specs.declared.kinds.Kind.{Kind}
 use Rattle.au_value.specs.declared.kinds.Kind.TheVariants.{Flag}
 use Rattle.au_value.specs.Ranges.{Span}
-use Rattle.au_annot.specs.Triples.{Counts, counts, IsTriple, times, none, at_most, is_none, in_range as counts_in_range}
+use Rattle.au_annot.specs.Triples.{Counts, IsTriple, times, none, at_most, is_none, in_range as counts_in_range}
 use Rattle.au_expr.specs.Terms.{Term}
 use Rattle.au_expr.specs.Kinds.{kind_in}
 use Rattle.au_expr.specs.Numbers.{of_ranges, expr_numbers}
