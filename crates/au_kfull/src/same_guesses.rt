@@ -41,7 +41,7 @@ fn put_row<'a>(
     row: Tuple<'a, Range, Triple>,
 ) -> Result<(), NoMemory>
     requires { place ≤ vec_len groups.old }
-    ensures { OnOk result (groups_held groups.new.items ≡ with_item_at (groups_held groups.old.items) place row) }
+    ensures { OnOk result (groups_held groups.new.items ≡ with_item_at (groups_held groups.old.items) place row.entry) }
 {
     if place == groups.len() {
         let mut group = Vec::new(alloc);
