@@ -30,3 +30,4 @@ pub mod Pushed
 pub mod Merging
 pub mod Gathering
 pub mod GatherLaws
+pub mod Copies
