@@ -18,4 +18,5 @@ mod Refusals
 mod RequestCauses
 mod TablesRead
 mod TextRefusals
+mod TwoTables
 mod OutputFiles

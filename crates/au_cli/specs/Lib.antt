@@ -8,3 +8,4 @@ pub mod PlanCauses
 pub mod Causes
 pub mod Run
 pub mod Outputs
+pub mod TwoFiles

@@ -19,7 +19,7 @@ use au_engine::{
 use au_expr::EvalFault;
 use au_par::Gate;
 use au_parse::Statement;
-use au_print::{Answer, csv_text, guess_text, table_text};
+use au_print::{Answer, csv_text, csv_text_by, guess_text, table_text};
 use au_ua::ua_text;
 use au_value::{NoMemory, Word};
 use au_words::{Command, Request};
@@ -79,8 +79,9 @@ fn planned_text<R: Threads + Sync, G: Gate + Sync>(
     ensures holds { OnOk result (RowsHold tables.now (statement_tree statement.now) (asked_rows options.compress options.combine tables.now (statement_tree statement.now))) }
     ensures refused { IfErr result (AnswerCause (statement_defects tables.now (statement_tree statement.now)) (asked_fits options.compress options.combine tables.now (statement_tree statement.now))) }
 {
+    let workers = options.workers;
     match answer(rt, alloc, statement, tables, options, gate) {
-        Ok(answer) => match rows_text(alloc, &answer, table) {
+        Ok(answer) => match rows_text_by(rt, alloc, workers, &answer, table) {
             Ok(text) => Ok(text),
             Err(NoMemory) => Err(EngineFault::NoMemory),
         },
@@ -122,6 +123,26 @@ fn rows_text(alloc: Global, answer: &Answer, table: bool) -> Result<Vec<u8>, NoM
         table_text(alloc, answer)
     } else {
         csv_text(alloc, answer)
+    }
+}
+
+// The same, where the workers write the rows as CSV.
+fn rows_text_by<R: Threads + Sync>(
+    rt: &R,
+    alloc: Global,
+    workers: usize,
+    answer: &Answer,
+    table: bool,
+) -> Result<Vec<u8>, NoMemory>
+    requires workers { 1 ≤ workers }
+    requires columns { length answer.now.kinds.items ≡ length answer.now.names.items }
+    requires rows { AllByRecursion (λ r. length r.cells ≡ length answer.now.names.items) answer.now.rows }
+    ensures { IfOk result (λ t. t.items ≡ rows_text table answer.now.names.items answer.now.kinds.items answer.now.rows) }
+{
+    if table {
+        table_text(alloc, answer)
+    } else {
+        csv_text_by(rt, alloc, workers, answer)
     }
 }
 

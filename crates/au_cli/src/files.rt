@@ -189,8 +189,8 @@ fn table_within(
     }
 }
 
-// The table of a file's bytes, within its limit and under its name.
-fn named_table(
+/// The table of a file's bytes, within its limit and under its name.
+pub(crate) fn named_table(
     alloc: Global,
     purpose: Purpose,
     file: usize,

@@ -20,6 +20,7 @@ mod reading;
 mod requests;
 mod theorems;
 mod top;
+mod two_files;
 
 pub use au_engine::{LimitFault, QueryFault};
 pub use au_sqltext::PlanFault;

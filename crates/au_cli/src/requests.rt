@@ -9,8 +9,9 @@ ghost use Rattle.au_cli.specs.Causes.{Gives, IsRead, IsRefusedBefore, RequestCau
 ghost use Rattle.au_cli.specs.Requests.{IsAnswer, ended as ended_of, refused_place as refused_place_of, refused_request};
 
 use crate::answering::answer_text;
-use crate::files::{MAX_FILES, Purpose, read_tables};
+use crate::files::MAX_FILES;
 use crate::outcome::Outcome;
+use crate::two_files::query_tables;
 use au_engine::{EngineFault, LimitFault, QueryFault, read_query};
 use au_io::Shelf;
 use au_par::Gate;
@@ -93,7 +94,7 @@ fn statement_text<R: Threads + Sync, S: Shelf, G: Gate + Sync>(
     ensures counts { (S.faults shelf.old ≤ S.faults shelf.new) × (S.absences shelf.old ≤ S.absences shelf.new) }
 {
     let words = request.tables.as_slice();
-    let tables = match read_tables(alloc, shelf, Purpose::Query, 0, 0, words) {
+    let tables = match query_tables(rt, alloc, shelf, request.workers, words) {
         Ok(tables) => tables,
         Err(outcome) => return Err(outcome),
     };

@@ -1,4 +1,4 @@
-//! Those who run plans: so many workers, and the gate that is told of their pieces.
+//! Those who run plans and encode tables: so many workers, and the gate that is told of their pieces.
 ghost use Rattle.std.specs.Prelude.{◌≡◌, ◌≤◌, IfOk, IfErr, false, true, map};
 ghost use Rattle.au_expr.specs.Figures.{fit};
 ghost use Rattle.au_expr.specs.declared.fault.EvalFault.TheVariants as fault;
@@ -6,13 +6,19 @@ ghost use Rattle.au_physical.specs.PhysicalKinds.{IsPhysicalFor};
 ghost use Rattle.au_physical.specs.PhysicalMeaning.{physical_rows};
 ghost use Rattle.au_physical.specs.PhysicalNumbers.{physical_numbers};
 ghost use Rattle.au_physical.specs.Physicals.{physical_tree};
+ghost use Rattle.au_blocks.specs.Tables.{IsBlockTable, table as table_of};
+ghost use Rattle.au_plain.specs.PlanKinds.{FitRows};
+ghost use Rattle.au_encode.specs.Encode.{encode};
+ghost use Rattle.au_translate.specs.Translate.{bounded_blocks};
 ghost use Rattle.au_exec.specs.Outcomes.{rows_of};
 
+use au_blocks::{Block, Column};
 use au_exec::Run;
 use au_expr::EvalFault;
 use au_par::Gate;
 use au_physical::Physical;
 use au_plain::PRow;
+use au_translate::encoded_by;
 use au_value::NoMemory;
 use std::alloc::Global;
 use std::marker::Model;
@@ -66,5 +72,19 @@ impl<'a, R: Threads + Sync, G: Gate + Sync> Runner<'a, R, G> {
             Ok(rows) => Ok(rows),
             Err(fault) => Err(fault),
         }
+    }
+
+    /// The encoded rows of some blocks of a table of these columns, in block order.
+    pub(crate) fn encoded(
+        &self,
+        alloc: Global,
+        columns: &[Column],
+        blocks: &[Block],
+    ) -> Result<Vec<PRow>, NoMemory>
+        requires { IsBlockTable (table_of columns.now blocks.now) }
+        ensures rows { IfOk result (λ rows. rows_of rows ≡ encode (bounded_blocks blocks.now)) }
+        ensures fit { IfOk result (λ rows. FitRows (rows_of rows)) }
+    {
+        encoded_by(self.rt, alloc, self.workers, columns, blocks)
     }
 }

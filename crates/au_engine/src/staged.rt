@@ -52,7 +52,7 @@ pub(crate) fn staged<R: Threads + Sync, G: Gate + Sync>(
 {
     match query {
         Query::Table(i) => match blocks.get(*i) {
-            Some(table) => Ok(scanned(alloc, &table.1, tables)?),
+            Some(table) => Ok(scanned(runner, alloc, &table.1, tables)?),
             None => unreachable!(),
         },
         Query::Select(condition, of) => {

@@ -8,7 +8,7 @@ use crate::relations::{relation, triple};
 use crate::row_texts::{outcome_text, push_values, relation_text};
 use au_algebra::{Gathered, Rel, normal};
 use au_annot::Triple;
-use au_encode::{decode, encode};
+use au_encode::{decode, decode_rows, encode};
 use au_plain::PRow;
 use au_print::demo_text;
 use au_value::{NoMemory, Range, Value};
@@ -107,6 +107,18 @@ fn again(alloc: Global, of: &Rel<Range, Triple>) -> Result<Rel<Range, Triple>, N
     decode(alloc, rows, 2)
 }
 
+// The same by several threads, which copy the values.
+fn again_by_threads<R: Threads + Sync>(
+    rt: &R,
+    alloc: Global,
+    of: &Rel<Range, Triple>,
+) -> Result<Rel<Range, Triple>, NoMemory>
+    requires { IsRelation (replicate 2 Kind.Int) of.now }
+{
+    let rows = encode(alloc, of)?;
+    decode_rows(rt, alloc, rows.as_slice(), 2)
+}
+
 struct Encoded;
 
 impl Call for Encoded {
@@ -160,4 +172,21 @@ fn lines_of_demonstrations(rt: HostRuntime) -> Result<(), Fail> {
 #[test]
 fn encoded_rows(rt: HostRuntime) -> Result<(), Fail> {
     judge::<Encoded>(&rt, rt.alloc(), ENCODED)
+}
+
+// Rows enough for several threads stand in their order, and so do few and none.
+#[test]
+fn rows_decoded_by_threads(rt: HostRuntime) -> Result<(), Fail> {
+    let alloc = rt.alloc();
+    for count in [0, 1, 2_000] {
+        let given = "1/2/9 3 0/1/2; -4 5 1/1/1; ".repeat(alloc, count)?;
+        let rel = relation(&rt, alloc, 2, given.as_str())?;
+        let back = again_by_threads(&rt, alloc, &rel)?;
+        assert_eq!(rt;
+            relation_text(alloc, &back)?.as_str(),
+            given.as_str(),
+            "{count} times two rows"
+        );
+    }
+    Ok(())
 }

@@ -29,3 +29,4 @@ pub mod Pushed
 pub mod Merging
 pub mod Gathering
 pub mod GatherLaws
+pub mod Copies

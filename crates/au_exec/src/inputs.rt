@@ -1,13 +1,15 @@
 //! The tables that a plan reads, each moved out where it is read last.
-ghost use Rattle.std.specs.Prelude.{◌≡◌, ◌<◌, ◌-◌, ℕ, [], IfOk, IsTrue, OnOk, get_or, length, map, set};
+ghost use Rattle.std.specs.Prelude.{◌≡◌, ◌<◌, ◌≤◌, ◌-◌, ℕ, [], IfOk, IsTrue, OnOk, get_or, length, map, set};
 ghost use Rattle.au_exec.specs.Outcomes.{rows_of};
 ghost use Rattle.au_exec.specs.Scans.{AreThere};
 
-use au_plain::{PRow, copy_rows};
+use crate::copying::copied_rows;
+use au_plain::PRow;
 use au_value::NoMemory;
 use std::alloc::Global;
 use std::mem;
 use std::snapshot::Snapshot;
+use std::thread::Threads;
 
 /// Tables, and how many Scans of each one are still to come.
 #[derive(Drop)]
@@ -16,13 +18,16 @@ pub(crate) struct Inputs {
     pub(crate) uses: Vec<usize>,
 }
 
-/// The rows of a table that a Scan reads: copied where a later Scan reads them too, else moved.
-pub(crate) fn table_rows(
+/// The rows of a table that a Scan reads: copied by the workers where a later Scan reads them too, else moved.
+pub(crate) fn table_rows<R: Threads + Sync>(
+    rt: &R,
     alloc: Global,
+    workers: usize,
     given: &Snapshot<Vec<Vec<PRow>>>,
     inputs: &mut Inputs,
     table: usize,
 ) -> Result<Vec<PRow>, NoMemory>
+    requires workers { 1 ≤ workers }
     requires some { 0 < get_or inputs.old.uses.items table 0 }
     requires there { AreThere (map rows_of given.now.value.items) (map rows_of inputs.old.tables.items) inputs.old.uses.items }
     ensures rows { IfOk result (λ v. rows_of v ≡ get_or (map rows_of given.now.value.items) table []) }
@@ -33,7 +38,7 @@ pub(crate) fn table_rows(
         let rows = replaced(&mut inputs.tables, table, Vec::new(alloc));
         return Ok(rows);
     }
-    let rows = copy_rows(alloc, &inputs.tables[table])?;
+    let rows = copied_rows(rt, alloc, workers, &inputs.tables[table])?;
     Ok(rows)
 }
 

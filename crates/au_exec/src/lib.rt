@@ -23,6 +23,7 @@ mod boxed;
 mod chains;
 mod collect;
 mod combine;
+mod copying;
 mod drawn;
 mod evaluation;
 mod extreme;

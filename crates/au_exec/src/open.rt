@@ -39,7 +39,7 @@ pub(crate) fn opened<R: Threads + Sync, G: Gate + Sync>(
     requires plan { CanOpen (map rows_of tables.items) (physical_tree plan.old) }
     ensures { Makes (physical_rows (physical_tree plan.old) (map rows_of tables.items)) (fit (physical_numbers (physical_tree plan.old) (map rows_of tables.items))) result }
 {
-    read_tables(alloc, plan, tables)?;
+    read_tables(rt, alloc, workers, plan, tables)?;
     ready(rt, alloc, workers, gate, plan)
 }
 

@@ -1,5 +1,5 @@
 //! The Scans of a plan, with the rows of their tables in their place.
-ghost use Rattle.std.specs.Prelude.{◌≡◌, ◌+◌, [], IfOk, OnOk, get_or, length, map, set};
+ghost use Rattle.std.specs.Prelude.{◌≡◌, ◌≤◌, ◌+◌, [], IfOk, OnOk, get_or, length, map, set};
 ghost use Rattle.au_expr.specs.Figures.{fit};
 ghost use Rattle.au_physical.specs.PhysicalMeaning.{physical_rows};
 ghost use Rattle.au_physical.specs.PhysicalNumbers.{physical_numbers};
@@ -14,14 +14,19 @@ use au_plain::PRow;
 use au_value::NoMemory;
 use std::alloc::Global;
 use std::snapshot::Snapshot;
+use std::thread::Threads;
 
-/// Puts the rows of its table in place of each Scan: moved where no later Scan reads the table, else copied.
-pub(crate) fn read_tables(
+/// Puts the rows of its table in place of each Scan: moved where no later Scan reads the table, else copied by the
+/// workers.
+pub(crate) fn read_tables<R: Threads + Sync>(
+    rt: &R,
     alloc: Global,
+    workers: usize,
     plan: &mut Physical,
     tables: Vec<Vec<PRow>>,
 ) -> Result<(), NoMemory>
-    requires { CanOpen (map rows_of tables.items) (physical_tree plan.old) }
+    requires workers { 1 ≤ workers }
+    requires plan { CanOpen (map rows_of tables.items) (physical_tree plan.old) }
     ensures rows { OnOk result (physical_rows (physical_tree plan.new) [] ≡ physical_rows (physical_tree plan.old) (map rows_of tables.items)) }
     ensures numbers { OnOk result (physical_numbers (physical_tree plan.new) [] ≡ physical_numbers (physical_tree plan.old) (map rows_of tables.items)) }
     ensures can { OnOk result (CanOpen [] (physical_tree plan.new)) }
@@ -30,17 +35,20 @@ pub(crate) fn read_tables(
     let mut uses = zeros(alloc, tables.len())?;
     count_scans(plan, &mut uses)?;
     let mut inputs = Inputs { tables, uses };
-    fill(alloc, &given, &mut inputs, plan)?;
+    fill(rt, alloc, workers, &given, &mut inputs, plan)?;
     Ok(())
 }
 
 // Puts rows in place of each Scan.
-fn fill(
+fn fill<R: Threads + Sync>(
+    rt: &R,
     alloc: Global,
+    workers: usize,
     given: &Snapshot<Vec<Vec<PRow>>>,
     inputs: &mut Inputs,
     plan: &mut Physical,
 ) -> Result<(), NoMemory>
+    requires workers { 1 ≤ workers }
     requires uses { HasUses (physical_tree plan.old) inputs.old.uses.items }
     requires there { AreThere (map rows_of given.now.value.items) (map rows_of inputs.old.tables.items) inputs.old.uses.items }
     ensures tree { OnOk result (physical_tree plan.new ≡ filled (map rows_of given.now.value.items) (physical_tree plan.old)) }
@@ -50,31 +58,31 @@ fn fill(
     match plan {
         Physical::Scan(table, width) => {
             let width = *width;
-            let rows = table_rows(alloc, given, inputs, *table)?;
+            let rows = table_rows(rt, alloc, workers, given, inputs, *table)?;
             *plan = Physical::Rows(width, rows);
             Ok(())
         }
         Physical::Rows(_, _) => Ok(()),
-        Physical::Extend(_, of) => fill(alloc, given, inputs, of),
-        Physical::Keep(_, of) => fill(alloc, given, inputs, of),
-        Physical::Filter(_, of) => fill(alloc, given, inputs, of),
+        Physical::Extend(_, of) => fill(rt, alloc, workers, given, inputs, of),
+        Physical::Keep(_, of) => fill(rt, alloc, workers, given, inputs, of),
+        Physical::Filter(_, of) => fill(rt, alloc, workers, given, inputs, of),
         Physical::Nested(_, left, right) => {
-            fill(alloc, given, inputs, left)?;
-            fill(alloc, given, inputs, right)
+            fill(rt, alloc, workers, given, inputs, left)?;
+            fill(rt, alloc, workers, given, inputs, right)
         }
         Physical::Hash(_, _, left, right) => {
-            fill(alloc, given, inputs, left)?;
-            fill(alloc, given, inputs, right)
+            fill(rt, alloc, workers, given, inputs, left)?;
+            fill(rt, alloc, workers, given, inputs, right)
         }
         Physical::Overlap(_, _, left, right) => {
-            fill(alloc, given, inputs, left)?;
-            fill(alloc, given, inputs, right)
+            fill(rt, alloc, workers, given, inputs, left)?;
+            fill(rt, alloc, workers, given, inputs, right)
         }
         Physical::Union(left, right) => {
-            fill(alloc, given, inputs, left)?;
-            fill(alloc, given, inputs, right)
+            fill(rt, alloc, workers, given, inputs, left)?;
+            fill(rt, alloc, workers, given, inputs, right)
         }
-        Physical::Group(_, _, of) => fill(alloc, given, inputs, of),
+        Physical::Group(_, _, of) => fill(rt, alloc, workers, given, inputs, of),
     }
 }
 

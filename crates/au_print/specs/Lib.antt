@@ -4,3 +4,4 @@ pub mod Places
 pub mod Records
 pub mod Tables
 pub mod Texts
+pub mod CsvPieces

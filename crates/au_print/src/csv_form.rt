@@ -30,8 +30,8 @@ pub fn csv_text(alloc: Global, answer: &Answer) -> Result<Vec<u8>, NoMemory>
     finish(writer)
 }
 
-// The rows' records, made one after the other in the memory of one.
-fn write_rows(
+/// The rows' records, made one after the other in the memory of one.
+pub(crate) fn write_rows(
     alloc: Global,
     writer: &mut Writer<Vec<u8>>,
     mut record: ByteRecord,

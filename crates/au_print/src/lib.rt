@@ -1,7 +1,8 @@
 //! Answers as texts. The formats are told in docs/FORMATS.md.
 //!
 //! An [`Answer`] has the names, the kinds and the rows of a bounded answer. [`csv_text`] is its text as CSV: a least, a
-//! guessed and a greatest multiplicity, and a lower bound, a guess and an upper bound for each column. [`table_text`]
+//! guessed and a greatest multiplicity, and a lower bound, a guess and an upper bound for each column. [`csv_text_by`]
+//! gives the same text by several workers. [`table_text`]
 //! is the same for the eye, a line for each row, in aligned columns. [`guess_text`] is the text of an answer over the
 //! guess world, each row once behind its count, and [`demo_text`] the four lines of a demonstration. A fixed-point number
 //! is printed with as many digits behind its point as its column's kind says.
@@ -17,6 +18,7 @@
 mod answer;
 mod cells;
 mod csv_form;
+mod csv_pieces;
 mod demo_form;
 mod fields;
 mod fixed;
@@ -31,6 +33,7 @@ pub mod writing;
 
 pub use answer::Answer;
 pub use csv_form::csv_text;
+pub use csv_pieces::csv_text_by;
 pub use demo_form::demo_text;
 pub use guess_form::guess_text;
 pub use table_form::table_text;

@@ -111,6 +111,25 @@ fn agree<R: Abort + Threads + Sync>(
     Ok(())
 }
 
+// A query over two files, and one that groups a file.
+const JOIN: &str = "SELECT a.id FROM a, b WHERE a.id = b.id|a=slices.csv|b=made.csv";
+
+const GROUPS: &str =
+    "SELECT grp, COUNT(*) AS n, SUM(amount) AS total FROM t GROUP BY grp|t=slices.csv";
+
+// So many workers give the answer of one.
+fn share<R: Abort + Threads + Sync>(rt: &R, alloc: Global, asked: &str) -> Result<(), Fail> {
+    let one = format!(in alloc; "answer|{asked}")?;
+    let one = answer_of(rt, alloc, one.as_str())?;
+    for workers in [2u32, 3, 7, 64] {
+        let shared = format!(in alloc; "answer|--workers={workers}|{asked}")?;
+        let shared = answer_of(rt, alloc, shared.as_str())?;
+        assert_eq!(rt; shared.as_str(), one.as_str(), "{workers} workers");
+    }
+    assert!(rt; one.as_str().starts_with("0 Done "), "an answer");
+    Ok(())
+}
+
 #[test]
 fn answers_of_queries(rt: HostRuntime) -> Result<(), Fail> {
     judge(&rt, rt.alloc(), ANSWERS)
@@ -135,4 +154,10 @@ fn one_answer_by_both_roads(rt: HostRuntime) -> Result<(), Fail> {
 fn one_answer_over_slices(rt: HostRuntime) -> Result<(), Fail> {
     agree(&rt, rt.alloc(), BY_ROW, "slices.csv")?;
     agree(&rt, rt.alloc(), FEW_ROWS, "slices.csv")
+}
+
+#[test]
+fn one_answer_by_all_workers(rt: HostRuntime) -> Result<(), Fail> {
+    share(&rt, rt.alloc(), JOIN)?;
+    share(&rt, rt.alloc(), GROUPS)
 }

@@ -45,6 +45,13 @@ answer|SELECT * FROM t|t=large.csv -> 3 Table(0, BadColumnName(0)) ! audb: file 
 answer|SELECT * FROM t|t=larger.csv -> 8 Limit(FileSize(0)) ! audb: limit: size of file 0~
 answer|SELECT 1 FROM t|t=full.csv|u=full.csv|v=byte.csv -> 8 Limit(AllFiles(2)) ! audb: limit: size of all files at file 2~
 answer|SELECT * FROM orders|orders=orders.csv|t=no.csv -> 9 NoFile(1) ! audb: file 1 is not there~
+answer|--workers=2|SELECT * FROM orders|orders=orders.csv|t=no.csv -> 9 NoFile(1) ! audb: file 1 is not there~
+answer|--workers=2|SELECT 1 FROM t|t=short.csv|u=no.csv -> 3 Table(0, WrongWidth(1)) ! audb: file 0: wrong number of fields in record 1~
+answer|--workers=2|SELECT 1 FROM t|t=short.csv|u=larger.csv -> 3 Table(0, WrongWidth(1)) ! audb: file 0: wrong number of fields in record 1~
+answer|--workers=2|SELECT 1 FROM t|t=short.csv|u=empty.csv -> 3 Table(0, WrongWidth(1)) ! audb: file 0: wrong number of fields in record 1~
+answer|--workers=2|SELECT 1 FROM t|t=orders.csv|u=empty.csv -> 3 Table(1, NoHeader) ! audb: file 1: no header~
+answer|--workers=2|SELECT 1 FROM t|t=no.csv|u=empty.csv -> 9 NoFile(0) ! audb: file 0 is not there~
+answer|--workers=2|SELECT 1 FROM t|t=orders.csv|u=larger.csv -> 8 Limit(FileSize(1)) ! audb: limit: size of file 1~
 answer|SELECT SUM(x) FROM t|t=sums.csv -> 4 Overflow ! audb: a number leaves 128 bits~
 answer|SELECT n + 1 FROM t|t=most.csv -> 4 Overflow ! audb: a number leaves 128 bits~
 guess|SELECT n + 1 FROM t|t=most.csv -> 4 Overflow ! audb: a number leaves 128 bits~
@@ -55,6 +62,10 @@ const UNREAD: &str =
 
 const SECOND_UNREAD: &str =
     "answer|SELECT * FROM orders|orders=orders.csv|r=rates.csv -> 5 ReadFault(1) ! audb: file 1 cannot be read~";
+
+// The files are parsed by two workers, and the first of them is no table.
+const FIRST_REFUSED: &str =
+    "answer|--workers=2|SELECT 1 FROM t|t=short.csv|r=rates.csv -> 3 Table(0, WrongWidth(1)) ! audb: file 0: wrong number of fields in record 1~";
 
 const NOT_PUT: &str =
     "answer|SELECT * FROM orders|orders=orders.csv -> 6 WriteFault row_l! audb: the answer cannot be written~";
@@ -73,6 +84,7 @@ fn refusals_of_files(rt: HostRuntime) -> Result<(), Fail> {
 fn failing_reads_and_puts(rt: HostRuntime) -> Result<(), Fail> {
     judge_read(&rt, rt.alloc(), 2, UNREAD)?;
     judge_read(&rt, rt.alloc(), 3, SECOND_UNREAD)?;
+    judge_read(&rt, rt.alloc(), 3, FIRST_REFUSED)?;
     judge_put(&rt, rt.alloc(), 5, NOT_PUT)
 }
 

@@ -8,3 +8,4 @@ pub mod Alternatives
 pub mod BlockRelation
 pub mod BoundedAnswer
 mod Misread
+mod BlockPieces

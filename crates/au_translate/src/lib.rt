@@ -15,11 +15,13 @@
 #![tactic(auto)]
 
 mod bounds;
+mod encoding_pieces;
 mod encodings;
 mod guesses;
 mod relations;
 mod theorems;
 
+pub use encoding_pieces::encoded_by;
 pub use encodings::{encoded, encoded_blocks};
 pub use guesses::guessed;
 pub use relations::bounded;

@@ -17,7 +17,7 @@ returns-in-Err-clause-refused g c =
     let read : IsRead r = record { allowed = c.requires.allowed; statement = statement_tree c.args.statement.now; is = c.requires.tree } in
     let told = g.S.Shelf.files c.args.shelf.now in
     files_request told r _ _ _ _ c.in-Err.outcome read
-    (subst (λ words. FilesCause told purpose.Query 0 0 (map seen_table words) (g.S.Shelf.faults c.args.shelf.now) (g.S.Shelf.faults c.read_tables.new.shelf) (g.S.Shelf.absences c.args.shelf.now) (g.S.Shelf.absences c.read_tables.new.shelf) c.in-Err.outcome)
+    (subst (λ words. FilesCause told purpose.Query 0 0 (map seen_table words) (g.S.Shelf.faults c.args.shelf.now) (g.S.Shelf.faults c.query_tables.new.shelf) (g.S.Shelf.absences c.args.shelf.now) (g.S.Shelf.absences c.query_tables.new.shelf) c.in-Err.outcome)
     c.as_slice-words.ensures.value c.in-Err.ensures.refused)
 
 pub returns-clause-refused : goal.returns-clause-refused
@@ -28,5 +28,5 @@ returns-clause-refused g c =
     let told = g.S.Shelf.files c.args.shelf.now in
     let given = subst (λ words. IfSome told (λ files. tables_of files (map seen_table words) ≡ Ok c.in-Ok.tables.items)) c.as_slice-words.ensures.value c.in-Ok.ensures.tables in
     let cause = subst (λ ts. AnswerCause (statement_defects ts s) (numbers_fit r ts s) c.in-Err-answer_text.fault) c.as_slice.ensures.value c.in-Err-answer_text.ensures.refused in
-    subst (λ o. RequestCause r told (g.S.Shelf.faults c.args.shelf.now) (g.S.Shelf.faults c.read_tables.new.shelf) (g.S.Shelf.absences c.args.shelf.now) (g.S.Shelf.absences c.read_tables.new.shelf) o) (sym c.ended.ensures)
+    subst (λ o. RequestCause r told (g.S.Shelf.faults c.args.shelf.now) (g.S.Shelf.faults c.query_tables.new.shelf) (g.S.Shelf.absences c.args.shelf.now) (g.S.Shelf.absences c.query_tables.new.shelf) o) (sym c.ended.ensures)
     (answer_cause told r _ _ _ _ read c.in-Ok.tables.items c.in-Err-answer_text.fault given cause)

@@ -7,10 +7,13 @@ use Rattle.au_exec.specs.Outcomes.{rows_of}
 use Rattle.au_engine.specs.Stages.{AddsTable}
 use Rattle.au_engine.proofs.encoded.scanned.Goals as goal
 
-pub scanned_blocks-requires : goal.scanned_blocks-requires
-scanned_blocks-requires c = subst IsBlockTable (λ i. table (sym c.columns.ensures.of i) (sym c.blocks-2.ensures.of i)) c.columns.ensures.is_table
+pub encoded-rows-requires : goal.encoded-rows-requires
+encoded-rows-requires g c κs within = subst IsBlockTable (λ i. table (sym c.columns-columns.ensures.of i) (sym c.blocks-blocks.ensures.of i)) c.columns-columns.ensures.is_table
+
+pub put_encoded-requires-clause-table : goal.put_encoded-requires-clause-table
+put_encoded-requires-clause-table g c = subst IsBlockTable (λ i. table (sym c.columns-columns.ensures.of i) (sym c.blocks-blocks.ensures.of i)) c.columns-columns.ensures.is_table
 
 pub returns : goal.returns
-returns c =
-    subst (λ (t : BlockTable). IfOk c.scanned_blocks.result (λ p. AddsTable t (map rows_of c.args.tables.now.items) (map rows_of c.scanned_blocks.new.tables.items) (plan_tree p.plan) p.layout.columns))
-    (λ i. table (c.columns.ensures.of i) (c.blocks-2.ensures.of i)) c.scanned_blocks.ensures
+returns g c =
+    subst (λ (t : BlockTable). IfOk c.put_encoded.result (λ p. AddsTable t (map rows_of c.args.tables.now.items) (map rows_of c.put_encoded.new.tables.items) (plan_tree p.plan) p.layout.columns))
+    (λ i. table (c.columns-columns.ensures.of i) (c.blocks-blocks.ensures.of i)) c.put_encoded.ensures

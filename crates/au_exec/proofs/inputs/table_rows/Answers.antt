@@ -6,7 +6,7 @@ use Rattle.au_exec.proofs.CountedScans.{there_moved}
 use Rattle.au_exec.proofs.inputs.table_rows.Goals as goal
 
 pub returns-then-is_last-clause-there : goal.returns-then-is_last-clause-there
-returns-then-is_last-clause-there c =
+returns-then-is_last-clause-there g c =
     let now = c.is_last.new.uses.items in
     let last : get_or now c.args.table 0 ≡ 0 = search (rules, c.is_last.ensures.last, c.if-is_last.true) in
     there_moved (map rows_of c.args.given.now.value.items) (map rows_of c.args.inputs.now.tables.items) (map rows_of c.replaced-rows.new.tables.items) c.args.inputs.now.uses.items now c.args.table _ (rows_of c.new.result)

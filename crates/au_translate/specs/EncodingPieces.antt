@@ -1,0 +1,16 @@
+-- The encoded rows of blocks that are put together are those of each part, put together.
+use Rattle.std.specs.Prelude.{◌≡◌, List, ◌++◌, map, not}
+use Rattle.std.proofs.Common.{◌∙◌, ap}
+use Rattle.std.proofs.lemmas.List.{map-append}
+use Rattle.std.proofs.lemmas.List.Elements.{filter-append}
+use Rattle.au_annot.specs.Triples.{is_none}
+use Rattle.au_algebra.specs.Bounded.{RangeRow, present}
+use Rattle.au_blocks.specs.Blocks.{Choices}
+use Rattle.au_encode.specs.Encode.{encode, encode_row}
+use Rattle.au_translate.specs.Translate.{block_row, bounded_blocks}
+
+pub encoded_apart : (xs ys : List Choices) → encode (bounded_blocks (xs ++ ys)) ≡ encode (bounded_blocks xs) ++ encode (bounded_blocks ys)
+encoded_apart xs ys =
+    ap (λ rows. encode (present rows)) (map-append block_row xs ys)
+    ∙ ap encode (filter-append (λ (r : RangeRow). not (is_none r.annot)) (map block_row xs) (map block_row ys))
+    ∙ map-append encode_row (bounded_blocks xs) (bounded_blocks ys)
