@@ -7,4 +7,5 @@ mod Guessing
 pub mod Alternatives
 pub mod BlockRelation
 pub mod BoundedAnswer
+pub mod ShownCells
 mod Misread
