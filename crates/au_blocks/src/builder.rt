@@ -47,6 +47,7 @@ impl BlockBuilder {
         ensures { OnOk result (self.new ≡ with_row self.old marked alternative) }
     {
         let place = self.rows.len();
+        make_room(&mut self.rows)?;
         self.rows.push(alternative)?;
         if marked {
             self.marked = self.marked.more();
@@ -86,4 +87,14 @@ impl BlockBuilder {
         }
         Ok(Block::of(self.rows, !self.absent.is_never(), self.guess))
     }
+}
+
+// Makes room for one alternative more, and for no further one where there are fewer than two: most blocks have one or two.
+fn make_room(rows: &mut Vec<Alternative>) -> Result<(), NoMemory>
+    ensures { rows.new.items ≡ rows.old.items }
+{
+    if rows.len() < 2 {
+        rows.reserve_exact(1)?;
+    }
+    Ok(())
 }

@@ -7,8 +7,9 @@ ghost use Rattle.au_blocks.specs.Inferring.{column_kind as column_kind_of, holds
 use crate::fields::cell_text;
 use crate::format::Format;
 use crate::row_faults::role;
+use crate::spellings::is_numeral;
 use au_csv::Rec;
-use au_value::{Kind, NoMemory, read_numeral};
+use au_value::{Kind, NoMemory};
 use std::alloc::Global;
 
 // The kinds of columns with these written kinds, over the records below the header.
@@ -78,5 +79,5 @@ fn holds_numeral(format: Format, place: usize, record: &Rec) -> bool
     if !is_alternative(format, record) {
         return true;
     }
-    read_numeral(cell_text(format, record, place).as_bytes()).is_some()
+    is_numeral(cell_text(format, record, place))
 }

@@ -1,7 +1,9 @@
 //! What the fields of a table file write.
 ghost use Rattle.std.specs.Prelude.{◌≡◌, ◌≤◌, ◌^◌, IfSome, option_map};
 ghost use Rattle.au_value.specs.declared.value.Value.{Value};
+ghost use Rattle.au_value.specs.Numeral.{numeral_value};
 ghost use Rattle.au_value.specs.Order.{kind_of};
+ghost use Rattle.au_blocks.specs.Inferring.{is_numeral as is_numeral_of};
 ghost use Rattle.au_blocks.specs.Spellings.{count_written as count_written_of, copies_written, cut_dots, flag_written as flag_written_of, is_count as is_count_of, number_written as number_written_of, ordered_copies, ordered_range as ordered_range_of, part_texts, parts as parts_of, range_of, range_written as range_written_of, three};
 
 use crate::times::Times;
@@ -15,7 +17,7 @@ pub(crate) fn number_written(kind: Kind, field: &str) -> Option<i128>
     ensures { result ≡ number_written_of kind field.now }
 {
     match kind {
-        Kind::Int => read_numeral(field.as_bytes()),
+        Kind::Int => whole_number(field),
         Kind::Dec(scale) => {
             if 1 <= scale && scale <= 9 {
                 read_decimal(field.as_bytes(), scale)
@@ -25,6 +27,29 @@ pub(crate) fn number_written(kind: Kind, field: &str) -> Option<i128>
         }
         Kind::Text | Kind::Flag => None,
     }
+}
+
+// The number of a numeral. Few digits are read as a number of 64 bits, which takes a part of the time.
+fn whole_number(field: &str) -> Option<i128>
+    ensures { result ≡ numeral_value field.now }
+{
+    if !is_count(field) {
+        return read_numeral(field.as_bytes());
+    }
+    match u64::from_str_radix(field, 10) {
+        Ok(number) => Some(number as i128),
+        Err(_) => None,
+    }
+}
+
+// Whether a field is a numeral. Few digits are one, whatever their number.
+pub(crate) fn is_numeral(field: &str) -> bool
+    ensures { result ≡ is_numeral_of field.now }
+{
+    if is_count(field) {
+        return true;
+    }
+    read_numeral(field.as_bytes()).is_some()
 }
 
 // The flag that a field writes.

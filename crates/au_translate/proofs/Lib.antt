@@ -7,5 +7,6 @@ mod Guessing
 pub mod Alternatives
 pub mod BlockRelation
 pub mod BoundedAnswer
+pub mod ShownCells
 mod Misread
 mod BlockPieces

@@ -1,8 +1,8 @@
 //! Block tables as relations: with bounds over all worlds, and as they are in the guess world.
 //!
-//! [`bounded`] makes a row of ranges with a triple of each block, [`encoded`] the same rows as plain rows,
-//! [`encoded_blocks`] those of some of a table's blocks, and [`guessed`] the rows of the guess world, each with its number
-//! of copies. [`bounded_answer_holds`] is the law on whole queries over such tables: the bounded answer bounds the ordinary
+//! [`bounded`] makes a row of ranges with a triple of each block, and [`encoded`] the same rows as plain rows;
+//! [`bounded_rows`] and [`encoded_blocks`] make those of some of a table's blocks. [`guessed`] gives the rows of the guess
+//! world, each with its number of copies. [`bounded_answer_holds`] is the law on whole queries over such tables: the bounded answer bounds the ordinary
 //! answer in every world, and its guesses are the ordinary answer in the guess world.
 //!
 //! ```text
@@ -24,5 +24,5 @@ mod theorems;
 pub use encoding_pieces::encoded_by;
 pub use encodings::{encoded, encoded_blocks};
 pub use guesses::guessed;
-pub use relations::bounded;
+pub use relations::{bounded, bounded_rows};
 pub use theorems::bounded_answer_holds;

@@ -1,23 +1,11 @@
 -- The alternatives fit some kinds, and the row that is shown is one of them.
-use Rattle.std.proofs.Common.{◌≡◌, ◌<◌, ℕ, List, ap, length, pos, unwrap_or, true, arith, refl, sym, subst}
+use Rattle.std.proofs.Common.{◌≡◌, ◌<◌, ap, length, pos, unwrap_or, refl, sym, subst}
 use Rattle.std.specs.Prelude.{Some, slice_get}
-use Rattle.std.specs.List.{AllByRecursion, list_all}
 use Rattle.std.proofs.lemmas.Option.{slice_get_read}
-use Rattle.au_value.specs.declared.kinds.Kind.{Kind}
 use Rattle.au_value.specs.declared.value.Value.TheVariants.{Int}
 use Rattle.au_value.specs.Ranges.{certain}
-use Rattle.au_blocks.specs.Blocks.{Choices}
-use Rattle.au_blocks.specs.Tables.{fits_kinds}
-use Rattle.au_translate.specs.Translate.{shown}
-use Rattle.au_translate.proofs.Alternatives.{fits_long, passes_at, all_wide}
+use Rattle.au_translate.proofs.ShownCells.{wide}
 use Rattle.au_translate.proofs.encodings.encoded_row.Goals as goal
-
--- each alternative has a cell where the shown one has
-wide : (ks : List Kind) (b : Choices) → list_all (λ a. fits_kinds ks a.cells) b.alternatives ≡ true → slice_get b.alternatives (unwrap_or b.guess 0) ≡ Some (shown b) → (at : ℕ) → at < length (shown b).cells
-    → AllByRecursion (λ a. at < length a.cells) b.alternatives
-wide ks b fit place at low =
-    let long = fits_long ks (shown b).cells (passes_at (λ a. fits_kinds ks a.cells) b.alternatives fit (unwrap_or b.guess 0) (shown b) place) in
-    all_wide ks b.alternatives fit at (omega (arith, long, low))
 
 pub ends-requires-clause-wide : goal.ends-requires-clause-wide
 ends-requires-clause-wide c =

@@ -1,0 +1,40 @@
+-- The cells of a block's row: each alternative has one in each column, and the ends of a column are those of a range.
+use Rattle.std.specs.Prelude.{◌≡◌, ℕ, zero, suc, ◌+◌, ◌<◌, true, List, [], ◌∷◌, length, slice_get, unwrap_or, Some}
+use Rattle.std.specs.List.{AllByRecursion, AllZip, list_all}
+use Rattle.std.proofs.Common.{arith, subst}
+use Rattle.au_value.specs.declared.kinds.Kind.{Kind}
+use Rattle.au_value.specs.Ranges.{Span, IsRange, IsRangeOf, guesses}
+use Rattle.au_blocks.specs.Blocks.{Candidate, Choices}
+use Rattle.au_blocks.specs.Tables.{fits_kinds}
+use Rattle.au_translate.specs.Translate.{shown, span_in}
+use Rattle.au_translate.proofs.Alternatives.{all_wide, fits_long, passes_at, spans_from, spans_ranges}
+
+-- there is an alternative, where one of them is shown
+some_shown : {X : Type 0} (xs : List X) (i : ℕ) (x : X) → slice_get xs i ≡ Some x → 0 < length xs
+some_shown [] i x h = cc
+some_shown (y ∷ xs) i x h = omega arith
+
+-- each alternative has a cell where the shown one has
+pub wide : (ks : List Kind) (b : Choices) → list_all (λ a. fits_kinds ks a.cells) b.alternatives ≡ true → slice_get b.alternatives (unwrap_or b.guess 0) ≡ Some (shown b) → (at : ℕ) → at < length (shown b).cells
+    → AllByRecursion (λ a. at < length a.cells) b.alternatives
+wide ks b fit place at low =
+    let long = fits_long ks (shown b).cells (passes_at (λ a. fits_kinds ks a.cells) b.alternatives fit (unwrap_or b.guess 0) (shown b) place) in
+    all_wide ks b.alternatives fit at (omega (arith, long, low))
+
+-- one of some ranges that were made from a column on
+range_from : (alternatives : List Candidate) (ks : List Kind) (cs : List Span) (j i n : ℕ) (u : Span) → n ≡ j + i → AllZip IsRangeOf ks (spans_from alternatives j (guesses cs)) → slice_get cs i ≡ Some u
+    → IsRange (span_in alternatives n u.sg)
+range_from alternatives ks [] j i n u place are at = cc
+range_from alternatives [] (c ∷ cs) j i n u place are at = absurd are
+range_from alternatives (k ∷ ks) (c ∷ cs) j zero n u place are at =
+    let same : c ≡ u = cc in
+    let here : j ≡ n = omega (arith, place) in
+    subst (λ m. IsRange (span_in alternatives m u.sg)) here (subst (λ r. IsRange (span_in alternatives j r.sg)) same are.0.range)
+range_from alternatives (k ∷ ks) (c ∷ cs) j (suc i) n u place are at = range_from alternatives ks cs (j + 1) i n u (omega (arith, place)) are.1 at
+
+-- the ends in a column with the guess of the cell that is shown there
+pub shown_range : (ks : List Kind) (b : Choices) → list_all (λ a. fits_kinds ks a.cells) b.alternatives ≡ true → slice_get b.alternatives (unwrap_or b.guess 0) ≡ Some (shown b) → (at : ℕ) (u : Span)
+    → slice_get (shown b).cells at ≡ Some u → IsRange (span_in b.alternatives at u.sg)
+shown_range ks b fit place at u found =
+    range_from b.alternatives ks (shown b).cells 0 at at u (omega arith)
+    (spans_ranges b.alternatives (unwrap_or b.guess 0) (shown b) place ks (some_shown b.alternatives (unwrap_or b.guess 0) (shown b) place) fit) found
