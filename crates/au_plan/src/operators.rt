@@ -1,14 +1,23 @@
 //! Physical plans, made one operator at a time.
-ghost use Rattle.std.specs.Prelude.{◌≡◌, IfOk};
+ghost use Rattle.std.specs.Prelude.{◌≡◌, IfOk, Ok};
 ghost use Rattle.au_plain.specs.PTerms.{pterm};
 ghost use Rattle.au_plan.specs.Made.{MadeOf, MadeOfTwo};
-ghost use Rattle.au_physical.specs.Physicals.{physical_tree};
 ghost use Rattle.au_physical.specs.Physicals as tree;
 
-use au_physical::{Bounds, Physical};
-use au_plain::{PAgg, PExpr};
+use au_physical::Physical;
+use au_plain::{PAgg, PExpr, beside, both};
 use au_value::NoMemory;
 use std::alloc::Global;
+
+/// What was made, in a box, or the fault that hindered it.
+pub(crate) fn boxed<A: Drop>(alloc: Global, of: Result<A, NoMemory>) -> Result<Box<A>, NoMemory>
+    ensures { IfOk result (λ b. of ≡ Ok b.value) }
+{
+    match of {
+        Ok(of) => Ok(Box::new(alloc, of)?),
+        Err(fault) => Err(fault),
+    }
+}
 
 /// The rows of what was made, with a column added.
 pub(crate) fn extend(
@@ -18,7 +27,7 @@ pub(crate) fn extend(
 ) -> Result<Physical, NoMemory>
     ensures { MadeOf (tree.Extend (pterm column)) of result }
 {
-    let of = Box::new(alloc, of?)?;
+    let (of, column) = beside(boxed(alloc, of), column)?;
     Ok(Physical::Extend(column, of))
 }
 
@@ -30,7 +39,7 @@ pub(crate) fn keep(
 ) -> Result<Physical, NoMemory>
     ensures { MadeOf (tree.Keep places.items) of result }
 {
-    let of = Box::new(alloc, of?)?;
+    let (of, places) = beside(boxed(alloc, of), places)?;
     Ok(Physical::Keep(places, of))
 }
 
@@ -42,7 +51,7 @@ pub(crate) fn filter(
 ) -> Result<Physical, NoMemory>
     ensures { MadeOf (tree.Filter (pterm test)) of result }
 {
-    let of = Box::new(alloc, of?)?;
+    let (of, test) = beside(boxed(alloc, of), test)?;
     Ok(Physical::Filter(test, of))
 }
 
@@ -55,7 +64,7 @@ pub(crate) fn group(
 ) -> Result<Physical, NoMemory>
     ensures { MadeOf (tree.Group keys.items aggs.items) of result }
 {
-    let of = Box::new(alloc, of?)?;
+    let (of, (keys, aggs)) = beside(boxed(alloc, of), (keys, aggs))?;
     Ok(Physical::Group(keys, aggs, of))
 }
 
@@ -67,51 +76,6 @@ pub(crate) fn union(
 ) -> Result<Physical, NoMemory>
     ensures { MadeOfTwo (λ l r p. p ≡ tree.Union l r) left right result }
 {
-    let left = Box::new(alloc, left?)?;
-    let right = Box::new(alloc, right?)?;
+    let (left, right) = both(boxed(alloc, left), boxed(alloc, right))?;
     Ok(Physical::Union(left, right))
-}
-
-/// All pairs of rows for which the test holds.
-pub(crate) fn nested(
-    alloc: Global,
-    test: PExpr,
-    left: Physical,
-    right: Physical,
-) -> Result<Physical, NoMemory>
-    ensures { IfOk result (λ p. physical_tree p ≡ tree.Nested (pterm test) (physical_tree left) (physical_tree right)) }
-{
-    let left = Box::new(alloc, left)?;
-    let right = Box::new(alloc, right)?;
-    Ok(Physical::Nested(test, left, right))
-}
-
-/// The pairs of rows that are equal at these places and for which the test holds.
-pub(crate) fn hash(
-    alloc: Global,
-    places: Vec<(usize, usize)>,
-    test: PExpr,
-    left: Physical,
-    right: Physical,
-) -> Result<Physical, NoMemory>
-    ensures { IfOk result (λ p. physical_tree p ≡ tree.Hash places.items (pterm test) (physical_tree left) (physical_tree right)) }
-{
-    let left = Box::new(alloc, left)?;
-    let right = Box::new(alloc, right)?;
-    Ok(Physical::Hash(places, test, left, right))
-}
-
-/// The pairs of rows whose ranges overlap and for which the test holds.
-pub(crate) fn overlap(
-    alloc: Global,
-    bounds: Bounds,
-    test: PExpr,
-    left: Physical,
-    right: Physical,
-) -> Result<Physical, NoMemory>
-    ensures { IfOk result (λ p. physical_tree p ≡ tree.Overlap bounds (pterm test) (physical_tree left) (physical_tree right)) }
-{
-    let left = Box::new(alloc, left)?;
-    let right = Box::new(alloc, right)?;
-    Ok(Physical::Overlap(bounds, test, left, right))
 }
