@@ -2,6 +2,7 @@
 use Rattle.std.specs.Prelude.{◌≡◌, ◌<◌, List, get_or, length, true}
 use Rattle.std.proofs.Common.{◌∙◌, ap, subst, sym}
 use Rattle.std.proofs.lemmas.List.{get_or_read}
+use Rattle.au_value.specs.declared.value.Value.{Value}
 use Rattle.au_algebra.specs.Lists.{same_row}
 use Rattle.au_plain.specs.Meaning.{kept}
 use Rattle.au_algebra.proofs.RowKeys.{Key}
