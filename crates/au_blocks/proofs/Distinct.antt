@@ -1,5 +1,5 @@
 -- The distinct labels, and what is gathered under each, one record after another.
-use Rattle.std.proofs.Common.{◌≡◌, ℕ, Bool, true, false, cond, ◌||◌, List, [], ◌∷◌, ◌++◌, inl, inr, refl, ap, ◌∙◌, subst}
+use Rattle.std.proofs.Common.{◌≡◌, Bool, true, false, cond, ◌||◌, List, [], ◌∷◌, ◌++◌, inl, inr, refl, ap, ◌∙◌, subst}
 use Rattle.std.specs.Prelude.{not, filter, bytes_eq}
 use Rattle.std.specs.List.{list_any}
 use Rattle.std.specs.Cmp.Lexicographic.{nat_list_eq_equiv}
