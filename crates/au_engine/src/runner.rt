@@ -81,7 +81,7 @@ impl<'a, R: Threads + Sync, G: Gate + Sync> Runner<'a, R, G> {
         columns: &[Column],
         blocks: &[Block],
     ) -> Result<Vec<PRow>, NoMemory>
-        requires { IsBlockTable (table_of columns.now blocks.now) }
+        requires table { IsBlockTable (table_of columns.now blocks.now) }
         ensures rows { IfOk result (λ rows. rows_of rows ≡ encode (bounded_blocks blocks.now)) }
         ensures fit { IfOk result (λ rows. FitRows (rows_of rows)) }
     {

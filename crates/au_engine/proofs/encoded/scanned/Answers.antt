@@ -7,8 +7,8 @@ use Rattle.au_exec.specs.Outcomes.{rows_of}
 use Rattle.au_engine.specs.Stages.{AddsTable}
 use Rattle.au_engine.proofs.encoded.scanned.Goals as goal
 
-pub encoded-rows-requires : goal.encoded-rows-requires
-encoded-rows-requires g c κs within = subst IsBlockTable (λ i. table (sym c.columns-columns.ensures.of i) (sym c.blocks-blocks.ensures.of i)) c.columns-columns.ensures.is_table
+pub encoded-requires-clause-table : goal.encoded-requires-clause-table
+encoded-requires-clause-table g c κs within = subst IsBlockTable (λ i. table (sym c.columns-columns.ensures.of i) (sym c.blocks-blocks.ensures.of i)) c.columns-columns.ensures.is_table
 
 pub put_encoded-requires-clause-table : goal.put_encoded-requires-clause-table
 put_encoded-requires-clause-table g c = subst IsBlockTable (λ i. table (sym c.columns-columns.ensures.of i) (sym c.blocks-blocks.ensures.of i)) c.columns-columns.ensures.is_table
