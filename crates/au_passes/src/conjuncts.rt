@@ -3,7 +3,7 @@ ghost use Rattle.std.specs.Prelude.{◌≡◌, ◌++◌, [], IfOk, OnOk, map, op
 ghost use Rattle.au_plain.specs.PTerms.{pterm};
 ghost use Rattle.au_passes.specs.Conditions.{and_all, and_more as more, condition, conjuncts};
 
-use au_plain::PExpr;
+use au_plain::{PExpr, and};
 use au_value::{NoMemory, Value};
 use std::alloc::Global;
 
@@ -39,9 +39,7 @@ fn and_more(alloc: Global, so_far: Option<PExpr>, e: PExpr) -> Result<PExpr, NoM
     let Some(before) = so_far else {
         return Ok(e);
     };
-    let left = Box::new(alloc, before)?;
-    let right = Box::new(alloc, e)?;
-    Ok(PExpr::And(left, right))
+    and(alloc, before, e)
 }
 
 // TRUE, where there is no conjunct.

@@ -10,7 +10,7 @@ ghost use Rattle.au_passes.specs.Reading.{agg_column, at_least_one, chosen, mark
 
 use crate::reads::{chosen_aggs, count, mark_aggs, mark_one, marked, places_read, push_ranks};
 use crate::renumber::{all_found, renumber, renumber_aggs};
-use au_plain::{PAgg, PExpr, Plan, width_of};
+use au_plain::{PAgg, PExpr, Plan, beside, both, width_of};
 use au_value::NoMemory;
 use std::alloc::Global;
 
@@ -65,7 +65,7 @@ fn added(a: usize, b: usize) -> Result<usize, NoMemory>
 pub(crate) fn whole(alloc: Global, plan: Plan, width: usize) -> Result<Narrow, NoMemory>
     ensures { IfOk result (λ n. (plan_tree n.plan ≡ plan_tree plan) × (n.found.items ≡ range_with_len 0 width) × (n.count ≡ width)) }
 {
-    let found = up_to(alloc, width)?;
+    let (found, plan) = beside(up_to(alloc, width), plan)?;
     Ok(Narrow {
         plan,
         found,
@@ -88,29 +88,29 @@ fn up_to(alloc: Global, n: usize) -> Result<Vec<usize>, NoMemory>
 pub(crate) fn extend(alloc: Global, column: PExpr, below: Narrow) -> Result<Narrow, NoMemory>
     ensures { IfOk result (λ n. (plan_tree n.plan ≡ tree.Extend (renumbered below.found.items (pterm column)) (plan_tree below.plan)) × (n.found.items ≡ below.found.items ++ below.count ∷ []) × (n.count ≡ below.count + 1)) }
 {
-    let Narrow {
-        plan,
-        mut found,
-        count,
-    } = below;
+    let Narrow { plan, found, count } = below;
     let mut column = column;
     renumber(&mut column, &found);
-    found.push(count)?;
-    let count = added(count, 1)?;
-    let plan = Plan::Extend(column, Box::new(alloc, plan)?);
+    let plan = au_plain::extend(alloc, column, plan);
+    let places = both(one_more(found, count), added(count, 1));
+    let (plan, (found, count)) = both(plan, places)?;
     Ok(Narrow { plan, found, count })
+}
+
+// The places with another one behind them.
+fn one_more(mut found: Vec<usize>, place: usize) -> Result<Vec<usize>, NoMemory>
+    ensures { IfOk result (λ v. v.items ≡ found.items ++ place ∷ []) }
+{
+    found.push(place)?;
+    Ok(found)
 }
 
 /// The plan without a column that is not read.
 pub(crate) fn leave_out(below: Narrow) -> Result<Narrow, NoMemory>
     ensures { IfOk result (λ n. (plan_tree n.plan ≡ plan_tree below.plan) × (n.found.items ≡ below.found.items ++ 0 ∷ []) × (n.count ≡ below.count)) }
 {
-    let Narrow {
-        plan,
-        mut found,
-        count,
-    } = below;
-    found.push(0)?;
+    let Narrow { plan, found, count } = below;
+    let (found, plan) = beside(one_more(found, 0), plan)?;
     Ok(Narrow { plan, found, count })
 }
 
@@ -121,7 +121,7 @@ pub(crate) fn filter(alloc: Global, test: PExpr, below: Narrow) -> Result<Narrow
     let Narrow { plan, found, count } = below;
     let mut test = test;
     renumber(&mut test, &found);
-    let plan = Plan::Filter(test, Box::new(alloc, plan)?);
+    let (plan, found) = beside(au_plain::filter(alloc, test, plan), found)?;
     Ok(Narrow { plan, found, count })
 }
 
@@ -167,11 +167,19 @@ pub(crate) fn keep(alloc: Global, wanted: &[usize], below: Narrow) -> Result<Pla
     ensures { IfOk result (λ q. IsKept (map (slice_index below.found.items) wanted.now) (plan_tree below.plan) (plan_tree q)) }
 {
     let Narrow { plan, found, count } = below;
-    let places = all_found(alloc, &found, wanted)?;
+    let (places, plan) = beside(all_found(alloc, &found, wanted), plan)?;
+    kept(alloc, places, plan, count)
+}
+
+// The columns of these places of a plan with so many columns, without a Keep where they are all of them, in order.
+fn kept(alloc: Global, places: Vec<usize>, plan: Plan, count: usize) -> Result<Plan, NoMemory>
+    requires { count ≡ plan_width (plan_tree plan) }
+    ensures { IfOk result (λ q. IsKept places.items (plan_tree plan) (plan_tree q)) }
+{
     if are_all(&places, count) {
         Ok(plan)
     } else {
-        Ok(Plan::Keep(places, Box::new(alloc, plan)?))
+        au_plain::keep(alloc, places, plan)
     }
 }
 
@@ -232,13 +240,8 @@ pub(crate) fn join(
 {
     let mut test = test;
     renumber(&mut test, &found);
-    let left = Box::new(alloc, left)?;
-    let right = Box::new(alloc, right)?;
-    Ok(Narrow {
-        plan: Plan::Join(test, left, right),
-        found,
-        count,
-    })
+    let (plan, found) = beside(au_plain::join(alloc, test, left, right), found)?;
+    Ok(Narrow { plan, found, count })
 }
 
 /// Which columns of both sides of a union are read: one at least, if there is one. The right side has so many columns.
@@ -278,13 +281,8 @@ pub(crate) fn union(
 ) -> Result<Narrow, NoMemory>
     ensures { IfOk result (λ n. (plan_tree n.plan ≡ tree.Union (plan_tree left) (plan_tree right)) × (n.found.items ≡ found.items) × (n.count ≡ count)) }
 {
-    let left = Box::new(alloc, left)?;
-    let right = Box::new(alloc, right)?;
-    Ok(Narrow {
-        plan: Plan::Union(left, right),
-        found,
-        count,
-    })
+    let (plan, found) = beside(au_plain::union(alloc, left, right), found)?;
+    Ok(Narrow { plan, found, count })
 }
 
 /// Which aggregates of a grouping are read: without keys one at least, if there is one.
@@ -338,24 +336,15 @@ pub(crate) fn group(
 ) -> Result<Narrow, NoMemory>
     ensures { IfOk result (λ n. (plan_tree n.plan ≡ tree.Group (map (slice_index below.found.items) keys.now) (map (renumbered_agg below.found.items) read.aggs.items) (plan_tree below.plan)) × (n.found.items ≡ read.found.items) × (n.count ≡ length keys.now + length read.aggs.items)) }
 {
-    let count = added(keys.len(), read.aggs.len())?;
-    let keys = all_found(alloc, &below.found, keys)?;
-    let aggs = renumber_aggs(alloc, &below.found, &read.aggs)?;
-    let plan = group_over(alloc, keys, aggs, below)?;
-    Ok(Narrow {
+    let Narrow {
         plan,
-        found: read.found,
-        count,
-    })
-}
-
-fn group_over(
-    alloc: Global,
-    keys: Vec<usize>,
-    aggs: Vec<PAgg>,
-    below: Narrow,
-) -> Result<Plan, NoMemory>
-    ensures { IfOk result (λ p. plan_tree p ≡ tree.Group keys.items aggs.items (plan_tree below.plan)) }
-{
-    Ok(Plan::Group(keys, aggs, Box::new(alloc, below.plan)?))
+        found: places,
+        ..
+    } = below;
+    let count = added(keys.len(), read.aggs.len());
+    let aggs = renumber_aggs(alloc, &places, &read.aggs);
+    let lists = both(all_found(alloc, &places, keys), aggs);
+    let (((keys, aggs), count), plan) = beside(both(lists, count), plan)?;
+    let (plan, found) = beside(au_plain::group(alloc, keys, aggs, plan), read.found)?;
+    Ok(Narrow { plan, found, count })
 }

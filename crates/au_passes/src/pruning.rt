@@ -1,5 +1,5 @@
 //! Plans without the columns that nobody reads.
-ghost use Rattle.std.specs.Prelude.{◌≡◌, ◌<◌, IfOk, length};
+ghost use Rattle.std.specs.Prelude.{◌≡◌, ◌<◌, IfOk, length, replicate, true};
 ghost use Rattle.au_plain.specs.Plans.{plan_tree};
 ghost use Rattle.au_passes.specs.Keeps.{Keeps};
 ghost use Rattle.au_passes.specs.Pruning.{HasColumns, Narrowed, Narrows};
@@ -11,7 +11,7 @@ use crate::narrow::{
     keep_columns, kept_columns, leave_out, union, union_sides, whole, width,
 };
 use crate::reads::{all_read, marked, places_read, reads_last, with_reads, without_last};
-use au_plain::Plan;
+use au_plain::{Plan, beside, both};
 use au_value::NoMemory;
 use std::alloc::Global;
 
@@ -24,10 +24,25 @@ pub fn prune(alloc: Global, plan: Plan) -> Result<Plan, NoMemory>
     ensures same { IfOk result (λ q. Keeps (plan_tree plan) (plan_tree q)) }
     ensures columns { IfOk result (λ q. HasColumns (plan_tree plan) → HasColumns (plan_tree q)) }
 {
-    let width = width(&plan)?;
-    let marks = all_read(alloc, width)?;
-    let pruned = narrow_to(alloc, plan, marks)?;
+    let all = all_marked(alloc, plan)?;
+    let pruned = narrow_to(alloc, all.0, all.1)?;
     Ok(pruned)
+}
+
+// The plan, and a mark on each of its columns.
+fn all_marked(alloc: Global, plan: Plan) -> Result<(Plan, Vec<bool>), NoMemory>
+    ensures { IfOk result (λ r. (r.0 ≡ plan) × (r.1.items ≡ replicate (plan_width (plan_tree plan)) true)) }
+{
+    let marks = marks_of(alloc, &plan);
+    let (marks, plan) = beside(marks, plan)?;
+    Ok((plan, marks))
+}
+
+fn marks_of(alloc: Global, plan: &Plan) -> Result<Vec<bool>, NoMemory>
+    ensures { IfOk result (λ v. v.items ≡ replicate (plan_width (plan_tree plan.now)) true) }
+{
+    let width = width(plan)?;
+    all_read(alloc, width)
 }
 
 // The plan of the marked columns alone, in their order.
@@ -38,9 +53,9 @@ fn narrow_to(alloc: Global, plan: Plan, marks: Vec<bool>) -> Result<Plan, NoMemo
     ensures width { IfOk result (λ q. plan_width (plan_tree q) ≡ length (read_places marks.items)) }
     ensures columns { IfOk result (λ q. 0 < length (read_places marks.items) → HasColumns (plan_tree plan) → HasColumns (plan_tree q)) }
 {
-    let wanted = marked(alloc, &marks)?;
-    let below = narrow(alloc, plan, marks)?;
-    keep(alloc, &wanted, below)
+    let made = both(marked(alloc, &marks), narrow(alloc, plan, marks))?;
+    let below = made.1;
+    keep(alloc, &made.0, below)
 }
 
 // A plan of the marked columns, and of others that it gives as easily.
@@ -56,41 +71,44 @@ fn narrow(alloc: Global, plan: Plan, marks: Vec<bool>) -> Result<Narrow, NoMemor
         Plan::Extend(e, of) => {
             if reads_last(&marks) {
                 let marks = with_reads(&e, without_last(marks));
-                extend(alloc, e, narrow(alloc, Box::into_inner(of), marks)?)
+                let made = beside(narrow(alloc, Box::into_inner(of), marks), e)?;
+                extend(alloc, made.1, made.0)
             } else {
-                leave_out(narrow(alloc, Box::into_inner(of), without_last(marks))?)
+                let below = narrow(alloc, Box::into_inner(of), without_last(marks));
+                let made = beside(below, e)?;
+                leave_out(made.0)
             }
         }
         Plan::Filter(e, of) => {
             let marks = with_reads(&e, marks);
-            filter(alloc, e, narrow(alloc, Box::into_inner(of), marks)?)
+            let made = beside(narrow(alloc, Box::into_inner(of), marks), e)?;
+            filter(alloc, made.1, made.0)
         }
         Plan::Keep(places, of) => {
             let read = kept_columns(alloc, &places, marks)?;
             let marks = places_read(alloc, width(&of)?, &read.wanted)?;
-            keep_columns(alloc, read, narrow(alloc, Box::into_inner(of), marks)?)
+            let made = beside(narrow(alloc, Box::into_inner(of), marks), read)?;
+            keep_columns(alloc, made.1, made.0)
         }
         Plan::Join(e, left, right) => {
             let sides = join_sides(alloc, width(&left)?, &with_reads(&e, marks))?;
-            let left = narrow_to(alloc, Box::into_inner(left), sides.left)?;
-            let right = narrow_to(alloc, Box::into_inner(right), sides.right)?;
-            join(alloc, e, left, right, sides.found, sides.count)
+            let left = narrow_to(alloc, Box::into_inner(left), sides.left);
+            let right = narrow_to(alloc, Box::into_inner(right), sides.right);
+            let made = beside(both(left, right), e)?;
+            join(alloc, made.1, made.0.0, made.0.1, sides.found, sides.count)
         }
         Plan::Union(left, right) => {
             let sides = union_sides(alloc, width(&right)?, &marks)?;
-            let left = narrow_to(alloc, Box::into_inner(left), sides.left)?;
-            let right = narrow_to(alloc, Box::into_inner(right), sides.right)?;
-            union(alloc, left, right, sides.found, sides.count)
+            let left = narrow_to(alloc, Box::into_inner(left), sides.left);
+            let right = narrow_to(alloc, Box::into_inner(right), sides.right);
+            let made = both(left, right)?;
+            union(alloc, made.0, made.1, sides.found, sides.count)
         }
         Plan::Group(keys, aggs, of) => {
             let read = group_columns(alloc, &keys, &aggs, &marks)?;
             let marks = group_reads(alloc, width(&of)?, &keys, &read.aggs)?;
-            group(
-                alloc,
-                &keys,
-                read,
-                narrow(alloc, Box::into_inner(of), marks)?,
-            )
+            let made = beside(narrow(alloc, Box::into_inner(of), marks), read)?;
+            group(alloc, &keys, made.1, made.0)
         }
     }
 }

@@ -27,7 +27,7 @@ use crate::columns::{
     is_without_arithmetic,
 };
 use crate::conjuncts::{condition_of, push_conjuncts};
-use au_plain::{PExpr, Plan, copy_expr, extend, group, join, keep, union, width_of};
+use au_plain::{PExpr, Plan, beside, both, copy_expr, extend, group, join, keep, union, width_of};
 use au_value::NoMemory;
 use std::alloc::Global;
 
@@ -41,7 +41,7 @@ pub fn push(alloc: Global, plan: Plan) -> Result<Plan, NoMemory>
     ensures plan { IfOk result (λ q. plan_tree q ≡ pushed (plan_tree plan)) }
     ensures keeps { IfOk result (λ q. Keeps (plan_tree plan) (plan_tree q)) }
 {
-    let width = columns_of(&plan)?;
+    let (width, plan) = beside(columns_of(&plan), plan)?;
     let made = strengthen(alloc, plan, width, Vec::new(alloc))?;
     Ok(made)
 }
@@ -107,21 +107,19 @@ fn strengthen(alloc: Global, plan: Plan, width: usize, tests: Vec<PExpr>) -> Res
             let more = columns_of(&right)?;
             let first = width.saturating_sub(more);
             let sides = sides_of(alloc, first, tests, condition)?;
-            let a = strengthen(alloc, left, first, sides.left)?;
-            let b = strengthen(alloc, right, more, sides.right)?;
-            join(alloc, condition_of(alloc, sides.both)?, a, b)
+            let a = strengthen(alloc, left, first, sides.left);
+            let b = strengthen(alloc, right, more, sides.right);
+            let made = both(condition_of(alloc, sides.both), both(a, b))?;
+            join(alloc, made.0, made.1.0, made.1.1)
         }
         Plan::Union(left, right) => {
             let right = Box::into_inner(right);
             let columns = columns_of(&right)?;
-            let a = strengthen(
-                alloc,
-                Box::into_inner(left),
-                width,
-                copies_of(alloc, &tests)?,
-            )?;
-            let b = strengthen(alloc, right, columns, tests)?;
-            union(alloc, a, b)
+            let copies = copies_of(alloc, &tests)?;
+            let a = strengthen(alloc, Box::into_inner(left), width, copies);
+            let b = strengthen(alloc, right, columns, tests);
+            let made = both(a, b)?;
+            union(alloc, made.0, made.1)
         }
         Plan::Group(keys, aggs, of) => {
             let of = Box::into_inner(of);
@@ -146,8 +144,8 @@ fn filter_by(alloc: Global, tests: Vec<PExpr>, plan: Plan) -> Result<Plan, NoMem
     if tests.is_empty() {
         return Ok(plan);
     }
-    let condition = condition_of(alloc, tests)?;
-    Ok(Plan::Filter(condition, Box::new(alloc, plan)?))
+    let (condition, plan) = beside(condition_of(alloc, tests), plan)?;
+    au_plain::filter(alloc, condition, plan)
 }
 
 // The tests that read columns of these places alone, and the others, each in their order.
