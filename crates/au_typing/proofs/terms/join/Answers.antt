@@ -1,5 +1,5 @@
 use Rattle.au_typing.specs.Joined.{JoinsOperands}
-use Rattle.au_typing.specs.Shapes.{operator_of}
+use Rattle.au_parse.specs.Levels.{operator_of}
 use Rattle.au_typing.proofs.Together.{of_two}
 use Rattle.au_typing.proofs.terms.join.Goals as goal
 
