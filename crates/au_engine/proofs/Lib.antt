@@ -36,3 +36,4 @@ pub mod WritableRows
 pub mod ReadValues
 pub mod GuessCounts
 pub mod EncodedGuesses
+mod ScanRows

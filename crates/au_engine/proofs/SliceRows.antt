@@ -7,6 +7,7 @@ use Rattle.std.proofs.lemmas.List.{append-nil, map-append}
 use Rattle.std.proofs.lemmas.List.Concat.{flat_map-append}
 use Rattle.std.proofs.lemmas.List.Elements.{filter-append}
 use Rattle.std.proofs.lemmas.List.Folds.{list_all-append}
+use Rattle.std.proofs.lemmas.List.Sorted.{IsPermutation-append_comm}
 use Rattle.std.proofs.lemmas.Option.{none-some}
 use Rattle.au_value.specs.declared.kinds.Kind.{Kind}
 use Rattle.au_value.specs.declared.kinds.Kind.TheVariants.{Flag}
@@ -24,6 +25,7 @@ use Rattle.au_algebra.specs.Trees.{Tree, Table, Select, Project, Product, Union,
 use Rattle.au_algebra.specs.Typing.{items_kinds, kinds_if, kinds_of}
 use Rattle.au_algebra.proofs.Gathering.{front_fits, normal_behind, normal_twice}
 use Rattle.au_algebra.proofs.Items.{some_is}
+use Rattle.au_algebra.proofs.Runs.{normal_shuffled}
 use Rattle.au_blocks.specs.declared.column.Column.{Column}
 use Rattle.au_blocks.specs.Blocks.{Choices, IsBlock}
 use Rattle.au_blocks.specs.Tables.{IsBlockTable, fits_kinds, column_kinds, table}
@@ -155,6 +157,10 @@ no_rows (Difference a b) is = absurd (true≢false (sym is))
 no_rows (Distinct q) is = absurd (true≢false (sym is))
 no_rows (Group keys aggs q) is = absurd (true≢false (sym is))
 no_rows (Total aggs q) is = absurd (true≢false (sym is))
+
+-- rows before others do not bring a sum back into the range
+pub back_fits : (xs ys : Bounded) → triples_fit (normal (xs ++ ys)) ≡ true → triples_fit (normal ys) ≡ true
+back_fits xs ys f = front_fits ys xs (ap triples_fit (normal_shuffled (xs ++ ys) (ys ++ xs) (IsPermutation-append_comm xs ys)) ∙ f)
 
 -- ---- what was gathered before a slice, and behind it
 

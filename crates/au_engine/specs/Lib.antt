@@ -8,3 +8,4 @@ pub mod PlanAnswers
 pub mod Slicing
 pub mod Stages
 pub mod EncodedTables
+pub mod Scans

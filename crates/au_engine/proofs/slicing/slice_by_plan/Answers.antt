@@ -9,7 +9,7 @@ use Rattle.au_engine.specs.Slicing.{over_one}
 use Rattle.au_engine.specs.Stages.{AddsTree}
 use Rattle.au_engine.proofs.PlanSteps.{tree_runs}
 use Rattle.au_engine.proofs.SliceRuns.{slice_found, slice_passes}
-use Rattle.au_engine.proofs.slicing.slice_of.Goals as goal
+use Rattle.au_engine.proofs.slicing.slice_by_plan.Goals as goal
 
 pub side_of-requires-clause-runs : goal.side_of-requires-clause-runs
 side_of-requires-clause-runs g c κs within =
