@@ -1,6 +1,6 @@
 -- Digits of a number of copies are those of a number that std reads, and of a numeral.
 use Rattle.std.proofs.Common.{◌≡◌, ℕ, ◌^◌, ◌<◌, ◌≤◌, true, false, List, [], ◌∷◌, length, refl, sym, arith}
-use Rattle.std.specs.Prelude.{◌==◌, nat_le, ℤ, pos, Some}
+use Rattle.std.specs.Prelude.{◌==◌, nat_le, pos, Some}
 use Rattle.std.specs.Char.{is_ascii_digit}
 use Rattle.std.specs.Str.Parse.{IsNumeral, digits_value, without_leading_plus}
 use Rattle.std.proofs.lemmas.Bool.{and_from, and_parts, ltb-true, true≢false}

@@ -9,6 +9,7 @@ pub mod GatherStep
 pub mod Gathering
 pub mod InferredKinds
 pub mod LabelKeys
+pub mod MarkedColumns
 pub mod Places
 pub mod RowValues
 pub mod WellFormed

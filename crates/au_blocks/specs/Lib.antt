@@ -13,3 +13,4 @@ pub mod Cells
 pub mod Faults
 pub mod Gathered
 pub mod Labels
+pub mod Marks

@@ -1,17 +1,15 @@
 -- All columns of a table give its rows as they are.
 use Rattle.std.specs.Prelude.{◌≡◌, ℕ, zero, suc, ◌+◌, ◌≤◌, ◌==◌, false, List, [], ◌∷◌, length, map}
-use Rattle.std.proofs.Common.{arith, refl, sym, ◌∙◌, ap, subst}
+use Rattle.std.proofs.Common.{arith, refl, sym, ◌∙◌, ap}
 use Rattle.au_value.specs.declared.kinds.Kind.{Kind}
-use Rattle.au_value.specs.Ranges.{Span}
+use Rattle.au_value.specs.Ranges.{IsRangeOf, Span}
 use Rattle.au_expr.specs.Terms.{Column}
 use Rattle.au_expr.specs.OnRanges.{range_of}
 use Rattle.au_algebra.specs.Bounded.{Bounded, project}
 use Rattle.au_algebra.specs.Laws.{IsRelation}
 use Rattle.au_algebra.specs.Trees.{Tree}
-use Rattle.au_blocks.specs.Blocks.{Choices}
 use Rattle.au_blocks.specs.Tables.{BlockTable, IsBlockTable, column_kinds}
 use Rattle.au_encode.proofs.Decoded.{cells_length}
-use Rattle.au_value.specs.Ranges.{IsRangeOf}
 use Rattle.au_translate.specs.Translate.{bounded_table}
 use Rattle.au_translate.proofs.BlockRelation.{table_relation}
 use Rattle.au_engine.specs.Scans.{IsScan, columns_from}

@@ -1,6 +1,6 @@
 -- Thirteen digits write a number of 64 bits, which is that of the numeral.
 use Rattle.std.proofs.Common.{sym, ◌∙◌}
-use Rattle.au_blocks.proofs.Counts.{count_fits, count_number}
+use Rattle.au_blocks.proofs.Counts.{count_fits}
 use Rattle.au_blocks.proofs.spellings.whole_number.Goals as goal
 
 pub returns-in-Err : goal.returns-in-Err

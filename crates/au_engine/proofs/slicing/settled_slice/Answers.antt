@@ -1,5 +1,5 @@
 -- The normal form of the slice's rows, whose sums are numbers of the slice.
-use Rattle.std.proofs.Common.{◌≡◌, [], Err, ap, sym, ◌∙◌}
+use Rattle.std.proofs.Common.{◌≡◌, Err, ap, sym, ◌∙◌}
 use Rattle.std.proofs.lemmas.Bool.{true≢false}
 use Rattle.au_expr.specs.declared.fault.EvalFault.TheVariants.{Overflow}
 use Rattle.au_expr.proofs.Fits.{fit_parts}
