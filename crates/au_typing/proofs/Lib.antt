@@ -19,3 +19,5 @@ mod KeyKinds
 mod FromKinds
 mod SelectKinds
 pub mod QueryKinds
+mod Together
+mod AllTerms

@@ -9,3 +9,4 @@ pub mod Shapes
 pub mod Results
 pub mod Laws
 pub mod Judged
+pub mod Joined

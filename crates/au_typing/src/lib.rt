@@ -13,6 +13,7 @@
 
 mod fault;
 mod outputs;
+mod results;
 mod scales;
 mod schema;
 mod scope;

@@ -2,7 +2,7 @@
 ghost use Rattle.std.specs.Prelude.{◌≡◌, ◌++◌, [], Contains, IfErr, IfOk, IfSome, IfNone, OnOk, flat_map, length, map, nat_lt, option_map};
 ghost use Rattle.std.specs.List.{list_any};
 ghost use Rattle.std.specs.Str.{str_eq_ignore_ascii_case};
-ghost use Rattle.au_algebra.specs.Trees.{tree};
+ghost use Rattle.au_algebra.specs.Trees.{Project, tree};
 ghost use Rattle.au_expr.specs.Terms.{term, Column as column};
 ghost use Rattle.au_typing.specs.Items.{item_written, items_faults};
 ghost use Rattle.au_typing.specs.Scopes.{name_faults};
@@ -14,6 +14,7 @@ ghost use Rattle.au_typing.specs.Selects.{alias_faults, distinct_if, is_grouped,
 
 use crate::fault::TypingFault;
 use crate::outputs::{Outputs, put_item};
+use crate::results::{both, together};
 use crate::scope::{Field, Scope, column, same_word};
 use crate::setting::{Gathered, Groups, Setting};
 use crate::shape::{Shape, shape_of};
@@ -125,8 +126,8 @@ fn joined_to(alloc: Global, before: Option<Query>, query: Query) -> Result<Query
 {
     match before {
         Some(left) => {
-            let left = Box::new(alloc, left)?;
-            Ok(Query::Product(left, Box::new(alloc, query)?))
+            let (left, right) = both(Box::new(alloc, left), Box::new(alloc, query))?;
+            Ok(Query::Product(left, right))
         }
         None => Ok(query),
     }
@@ -270,6 +271,20 @@ fn key_columns(alloc: Global, keys: &[usize]) -> Result<Vec<Expr>, NoMemory>
     Ok(columns)
 }
 
+// The columns of the keys over a tree, and the arguments behind them.
+fn projected(
+    alloc: Global,
+    keys: &[usize],
+    others: Vec<Expr>,
+    query: Query,
+) -> Result<Box<Query>, NoMemory>
+    ensures { IfOk result (λ q. tree q.value ≡ Project (map column keys.now ++ map term others.items) (tree query)) }
+{
+    let (columns, query) = together(arguments(alloc, keys, others), query)?;
+    let (query, columns) = together(Box::new(alloc, query), columns)?;
+    Ok(Box::new(alloc, Query::Project(columns, query))?)
+}
+
 // The groups of a tree: its keys and the arguments of the aggregates, and the aggregates of these.
 fn grouped(
     alloc: Global,
@@ -279,13 +294,14 @@ fn grouped(
 ) -> Result<Query, NoMemory>
     ensures { IfOk result (λ q. tree q ≡ groups_tree groups.by (length groups.keys.items) gathered.aggs.items (map column groups.keys.items ++ map term gathered.arguments.items) (tree query)) }
 {
+    let by = groups.by;
     let keys = groups.keys.len();
-    let columns = arguments(alloc, groups.keys.as_slice(), gathered.arguments)?;
-    let rows = Box::new(alloc, Query::Project(columns, Box::new(alloc, query)?))?;
-    if groups.by {
-        Ok(Query::Group(keys, gathered.aggs, rows))
+    let rows = projected(alloc, groups.keys.as_slice(), gathered.arguments, query);
+    let (rows, aggs) = together(rows, gathered.aggs)?;
+    if by {
+        Ok(Query::Group(keys, aggs, rows))
     } else {
-        Ok(Query::Total(gathered.aggs, rows))
+        Ok(Query::Total(aggs, rows))
     }
 }
 
@@ -366,19 +382,15 @@ fn all_terms(
 ) -> Result<ClauseTerms, TypingFault>
     ensures { result ≡ all_terms filter items having gathered outputs }
 {
-    match filter {
-        Ok(filter) => match items {
-            Ok(()) => match having {
-                Ok(having) => Ok(ClauseTerms {
-                    filter,
-                    having,
-                    gathered,
-                    outputs,
-                }),
-                Err(fault) => Err(fault),
-            },
-            Err(fault) => Err(fault),
-        },
+    let first = both(filter, items);
+    let terms = both(first, having);
+    match together(terms, (gathered, outputs)) {
+        Ok(held) => Ok(ClauseTerms {
+            filter: held.0.0.0,
+            having: held.0.1,
+            gathered: held.1.0,
+            outputs: held.1.1,
+        }),
         Err(fault) => Err(fault),
     }
 }
@@ -447,7 +459,9 @@ fn body(
 ) -> Result<Query, NoMemory>
     ensures { IfOk result (λ q. tree q ≡ held_body setting (option_map term filter) (option_map term having) gathered (tree query)) }
 {
-    let rows = selected(alloc, filter, query)?;
+    let others = (setting, (having, gathered));
+    let (rows, others) = together(selected(alloc, filter, query), others)?;
+    let (setting, (having, gathered)) = others;
     match setting {
         Setting::Rows => Ok(rows),
         Setting::Groups(groups) => {
@@ -497,7 +511,7 @@ pub(crate) fn select(
     let joins = is_join(from.as_slice());
     match clauses_over(alloc, part, from.as_slice()) {
         Ok((setting, terms)) => {
-            let rows = product(alloc, from)?;
+            let (rows, (setting, terms)) = together(product(alloc, from), (setting, terms))?;
             Ok(part_of(alloc, part.distinct, joins, setting, terms, rows)?)
         }
         Err(fault) => Err(fault),

@@ -4,9 +4,10 @@ ghost use Rattle.au_expr.specs.Terms.{term, Case, Literal};
 ghost use Rattle.au_parse.specs.Levels.{arms_tree};
 ghost use Rattle.au_parse.specs.Tree.{Tree};
 ghost use Rattle.au_parse.specs.Views.{term_tree};
+ghost use Rattle.au_typing.specs.Joined.{ChoosesParts, JoinsOperands, OfPair, OfTriple};
 ghost use Rattle.au_typing.specs.Results.{Answers, CaseAnswers, Chooses, EndsCase, Joins, Signs, Takes, scope_view, setting_view};
 ghost use Rattle.au_typing.specs.Shapes.{if_arms, operator_of, signed_kind, signed_term, argument_given};
-ghost use Rattle.au_typing.specs.Scales.{scale};
+ghost use Rattle.au_typing.specs.Scales.{rescaled, scale};
 ghost use Rattle.au_typing.specs.Scopes.{Scope as ScopeOf, field_kind};
 ghost use Rattle.au_typing.specs.declared.setting.Gathered.{Gathered as GatheredOf};
 ghost use Rattle.au_typing.specs.declared.fault.TypingFault.TheVariants as fault;
@@ -15,6 +16,7 @@ ghost use Rattle.au_value.specs.declared.value.Value.TheVariants as value;
 ghost use Rattle.au_typing.specs.Terms.{aggregate_faults, aggregate_kind, column_term, key_of, counts, is_extreme, names_column, operand, operated, operation as operation_of, operator_kind, place_faults, term_kind, when_kind};
 
 use crate::fault::TypingFault;
+use crate::results::{both, together};
 use crate::scales::{common_kind, number_if, product_kind, rescaled, sum_kind};
 use crate::scope::{Scope, column};
 use crate::setting::{Gathered, Setting};
@@ -104,8 +106,7 @@ fn operator_kind(operation: Operation, left: Kind, right: Kind) -> Option<Kind>
 fn joined(alloc: Global, operation: Operation, left: Expr, right: Expr) -> Result<Expr, NoMemory>
     ensures { IfOk result (λ e. term e ≡ operation_of (operator_of operation) (term left) (term right)) }
 {
-    let left = Box::new(alloc, left)?;
-    let right = Box::new(alloc, right)?;
+    let (left, right) = both(Box::new(alloc, left), Box::new(alloc, right))?;
     match operation {
         Operation::Add => Ok(Expr::Add(left, right)),
         Operation::Subtract => Ok(Expr::Subtract(left, right)),
@@ -147,8 +148,9 @@ fn operated(
     ensures { IfOk result (λ e. term e ≡ operated (operator_of operation) (Some j) (Some k) (term left) (term right)) }
 {
     let to = common_kind(j, k);
-    let left = operand(alloc, operation, j, to, left)?;
-    let right = operand(alloc, operation, k, to, right)?;
+    let left = operand(alloc, operation, j, to, left);
+    let right = operand(alloc, operation, k, to, right);
+    let (left, right) = both(left, right)?;
     joined(alloc, operation, left, right)
 }
 
@@ -188,10 +190,26 @@ fn when_kind(condition: Kind, value: Kind, rest: Kind) -> Option<Kind>
 fn chosen(alloc: Global, condition: Expr, value: Expr, rest: Expr) -> Result<Expr, NoMemory>
     ensures { IfOk result (λ e. term e ≡ Case (term condition) (term value) (term rest)) }
 {
-    let condition = Box::new(alloc, condition)?;
-    let value = Box::new(alloc, value)?;
-    let rest = Box::new(alloc, rest)?;
+    let branches = both(Box::new(alloc, value), Box::new(alloc, rest));
+    let (condition, (value, rest)) = both(Box::new(alloc, condition), branches)?;
     Ok(Expr::Case(condition, value, rest))
+}
+
+// The same where the value is brought from its own kind to another.
+fn brought(
+    alloc: Global,
+    own: Kind,
+    to: Option<Kind>,
+    condition: Expr,
+    value: Expr,
+    rest: Expr,
+) -> Result<Expr, NoMemory>
+    requires { scale to ≤ 9 }
+    ensures { IfOk result (λ e. term e ≡ Case (term condition) (rescaled (Some own) to (term value)) (term rest)) }
+{
+    let others = (condition, rest);
+    let (value, (condition, rest)) = together(rescaled(alloc, own, to, value), others)?;
+    chosen(alloc, condition, value, rest)
 }
 
 // The kind that an aggregate gives, where its argument fits.
@@ -285,20 +303,30 @@ fn argument_of(word: AggWord, argument: Expr) -> Expr
 /// The expression of a term and its kind, or a fault.
 pub(crate) type Answer = Result<(Expr, Kind), TypingFault>;
 
+// The answers of two operands made that of their operator, where both are at hand.
+fn join_both(
+    alloc: Global,
+    at: usize,
+    operation: Operation,
+    sides: Result<((Expr, Kind), (Expr, Kind)), TypingFault>,
+) -> Answer
+    ensures { OfPair (JoinsOperands (operator_of operation) at) sides result }
+{
+    match sides {
+        Ok(((a, j), (b, k))) => match operator_kind(operation, j, k) {
+            Some(kind) => Ok((operated(alloc, operation, j, k, a, b)?, kind)),
+            None => Err(TypingFault::KindMismatch(at)),
+        },
+        Err(fault) => Err(fault),
+    }
+}
+
 // The answers of two operands made that of their operator.
 fn join(alloc: Global, at: usize, operation: Operation, left: Answer, right: Answer) -> Answer
     ensures { Joins (operator_of operation) at left right result }
 {
-    match left {
-        Ok((a, j)) => match right {
-            Ok((b, k)) => match operator_kind(operation, j, k) {
-                Some(kind) => Ok((operated(alloc, operation, j, k, a, b)?, kind)),
-                None => Err(TypingFault::KindMismatch(at)),
-            },
-            Err(fault) => Err(fault),
-        },
-        Err(fault) => Err(fault),
-    }
+    let sides = both(left, right);
+    join_both(alloc, at, operation, sides)
 }
 
 // The answer of an operand made that of its sign or NOT.
@@ -325,6 +353,25 @@ fn last_branch(alloc: Global, to: Option<Kind>, value: Answer) -> Answer
     }
 }
 
+// The answers of a condition, a value and what follows made that of a WHEN part, where all are at hand.
+fn choose_all(
+    alloc: Global,
+    at: usize,
+    to: Option<Kind>,
+    parts: Result<(((Expr, Kind), (Expr, Kind)), (Expr, Kind)), TypingFault>,
+) -> Answer
+    requires { scale to ≤ 9 }
+    ensures { OfTriple (ChoosesParts at to) parts result }
+{
+    match parts {
+        Ok((((c, i), (v, j)), (r, k))) => match when_kind(i, j, k) {
+            Some(kind) => Ok((brought(alloc, j, to, c, v, r)?, kind)),
+            None => Err(TypingFault::KindMismatch(at)),
+        },
+        Err(fault) => Err(fault),
+    }
+}
+
 // The answers of a condition, a value and what follows made that of a WHEN part.
 fn choose(
     alloc: Global,
@@ -337,22 +384,9 @@ fn choose(
     requires { scale to ≤ 9 }
     ensures { Chooses at to condition value rest result }
 {
-    match condition {
-        Ok((c, i)) => match value {
-            Ok((v, j)) => match rest {
-                Ok((r, k)) => match when_kind(i, j, k) {
-                    Some(kind) => {
-                        let value = rescaled(alloc, j, to, v)?;
-                        Ok((chosen(alloc, c, value, r)?, kind))
-                    }
-                    None => Err(TypingFault::KindMismatch(at)),
-                },
-                Err(fault) => Err(fault),
-            },
-            Err(fault) => Err(fault),
-        },
-        Err(fault) => Err(fault),
-    }
+    let first = both(condition, value);
+    let parts = both(first, rest);
+    choose_all(alloc, at, to, parts)
 }
 
 // The answer of an argument made that of its aggregate, which is put behind those that are gathered.

@@ -8,11 +8,12 @@ ghost use Rattle.au_value.specs.Order.{data_kind};
 ghost use Rattle.au_parse.specs.Tree.{SetWord};
 ghost use Rattle.au_parse.specs.Views.{statement_tree};
 ghost use Rattle.au_parse.specs.Whole.{WholeQuery};
-ghost use Rattle.au_typing.specs.Queries.{IsWellTyped, brought_from, defects, is_narrower, kinds_fit, kinds_of, kinds_of_columns, names_of, relations, set_columns, set_typing, side_tree, sides_faults, table_kinds, table_of, table_typing, tree_of, typing};
+ghost use Rattle.au_typing.specs.Queries.{IsWellTyped, brought_from, defects, is_narrower, kinds_fit, kinds_of, kinds_of_columns, names_of, relations, set_columns, set_tree, set_typing, side_tree, sides_faults, table_kinds, table_of, table_typing, tree_of, typing};
 ghost use Rattle.au_typing.specs.Judged.{Brings, FewDigits, Judges, JudgesSides, Shows, source_faults, source_item};
 ghost use Rattle.au_typing.specs.Results.{Refuses, from_view, part_typing};
 
 use crate::fault::TypingFault;
+use crate::results::{both, together};
 use crate::scales::{common_kind, rescaled, scale};
 use crate::schema::Schema;
 use crate::scope::same_word;
@@ -173,34 +174,57 @@ fn side(alloc: Global, columns: &[Column], own: &[Column], query: Query) -> Resu
     ensures { IfOk result (λ q. tree q ≡ side_tree columns.now own.now (tree query)) }
 {
     if is_narrower(own, columns) {
-        let exprs = brought(alloc, own, columns)?;
+        let (exprs, query) = together(brought(alloc, own, columns), query)?;
         Ok(Query::Project(exprs, Box::new(alloc, query)?))
     } else {
         Ok(query)
     }
 }
 
-// The sides of a set word, brought to the kinds of its columns.
-fn bring(alloc: Global, at: usize, left: Part, right: Part) -> Result<Fitted, TypingFault>
-    ensures { Brings at (part_typing left) (part_typing right) result }
+// The columns of a set, where its sides fit.
+fn fitted_columns(
+    alloc: Global,
+    at: usize,
+    left: &[Column],
+    right: &[Column],
+) -> Result<Vec<Column>, TypingFault>
+    ensures fit { IfOk result (λ _. sides_faults at left.now right.now ≡ []) }
+    ensures columns { IfOk result (λ v. v.items ≡ set_columns left.now right.now) }
+    ensures few { IfOk result (λ v. FewDigits v.items) }
+    ensures fault { IfErr result (Refuses (sides_faults at left.now right.now)) }
 {
-    let Part {
-        query: a,
-        columns: own,
-        joins: first,
-    } = left;
-    let Part {
-        query: b,
-        columns: other,
-        joins: second,
-    } = right;
-    if let Some(fault) = sides_fault(at, own.as_slice(), other.as_slice()) {
-        return Err(fault);
+    match sides_fault(at, left, right) {
+        Some(fault) => Err(fault),
+        None => Ok(set_columns(alloc, left, right)?),
     }
-    let columns = set_columns(alloc, own.as_slice(), other.as_slice())?;
-    let left = side(alloc, columns.as_slice(), own.as_slice(), a)?;
-    let right = side(alloc, columns.as_slice(), other.as_slice(), b)?;
-    let joins = first || second;
+}
+
+// What is a side of a set of these columns.
+fn side_of(alloc: Global, columns: &[Column], part: Part) -> Result<Query, NoMemory>
+    requires { FewDigits columns.now }
+    ensures { IfOk result (λ q. tree q ≡ side_tree columns.now part.columns.items (tree part.query)) }
+{
+    let own = part.columns;
+    side(alloc, columns, own.as_slice(), part.query)
+}
+
+// Two sides, brought to the kinds of these columns.
+fn bring_to(
+    alloc: Global,
+    columns: Vec<Column>,
+    joins: bool,
+    left: Part,
+    right: Part,
+) -> Result<Fitted, NoMemory>
+    requires { FewDigits columns.items }
+    ensures columns { IfOk result (λ f. f.columns.items ≡ columns.items) }
+    ensures left { IfOk result (λ f. tree f.left ≡ side_tree columns.items left.columns.items (tree left.query)) }
+    ensures right { IfOk result (λ f. tree f.right ≡ side_tree columns.items right.columns.items (tree right.query)) }
+    ensures joins { IfOk result (λ f. f.joins ≡ joins) }
+{
+    let left = side_of(alloc, columns.as_slice(), left);
+    let right = side_of(alloc, columns.as_slice(), right);
+    let ((left, right), columns) = together(both(left, right), columns)?;
     Ok(Fitted {
         left,
         right,
@@ -209,19 +233,48 @@ fn bring(alloc: Global, at: usize, left: Part, right: Part) -> Result<Fitted, Ty
     })
 }
 
+// The sides of a set word, brought to the kinds of its columns.
+fn bring(alloc: Global, at: usize, left: Part, right: Part) -> Result<Fitted, TypingFault>
+    ensures { Brings at (part_typing left) (part_typing right) result }
+{
+    let joins = left.joins || right.joins;
+    let columns = fitted_columns(alloc, at, left.columns.as_slice(), right.columns.as_slice());
+    match together(columns, (left, right)) {
+        Ok((columns, (left, right))) => Ok(bring_to(alloc, columns, joins, left, right)?),
+        Err(fault) => Err(fault),
+    }
+}
+
+// The rows of two trees, each once where not all are wanted.
+fn united(alloc: Global, all: bool, left: Query, right: Query) -> Result<Query, NoMemory>
+    ensures { IfOk result (λ q. tree q ≡ set_tree SetWord.union all (tree left) (tree right)) }
+{
+    let (left, right) = both(Box::new(alloc, left), Box::new(alloc, right))?;
+    distinct_if(alloc, !all, Query::Union(left, right))
+}
+
+// The rows of a tree less those of another one, each once where not all are wanted.
+fn lessened(alloc: Global, all: bool, left: Query, right: Query) -> Result<Query, NoMemory>
+    ensures { IfOk result (λ q. tree q ≡ set_tree SetWord.except all (tree left) (tree right)) }
+{
+    let (left, right) = together(distinct_if(alloc, !all, left), right)?;
+    let (left, right) = both(Box::new(alloc, left), Box::new(alloc, right))?;
+    Ok(Query::Difference(left, right))
+}
+
 // UNION of two sides.
 fn union(alloc: Global, all: bool, at: usize, left: Part, right: Part) -> Result<Part, TypingFault>
     ensures { Judges (set_typing SetWord.union all at (part_typing left) (part_typing right)) result }
 {
     match bring(alloc, at, left, right) {
         Ok(sides) => {
-            let a = Box::new(alloc, sides.left)?;
-            let b = Box::new(alloc, sides.right)?;
-            let query = distinct_if(alloc, !all, Query::Union(a, b))?;
+            let joins = sides.joins;
+            let query = united(alloc, all, sides.left, sides.right);
+            let (query, columns) = together(query, sides.columns)?;
             Ok(Part {
                 query,
-                columns: sides.columns,
-                joins: sides.joins,
+                columns,
+                joins,
             })
         }
         Err(fault) => Err(fault),
@@ -234,12 +287,13 @@ fn except(alloc: Global, all: bool, at: usize, left: Part, right: Part) -> Resul
 {
     match bring(alloc, at, left, right) {
         Ok(sides) => {
-            let a = Box::new(alloc, distinct_if(alloc, !all, sides.left)?)?;
-            let b = Box::new(alloc, sides.right)?;
+            let joins = sides.joins;
+            let query = lessened(alloc, all, sides.left, sides.right);
+            let (query, columns) = together(query, sides.columns)?;
             Ok(Part {
-                query: Query::Difference(a, b),
-                columns: sides.columns,
-                joins: sides.joins,
+                query,
+                columns,
+                joins,
             })
         }
         Err(fault) => Err(fault),
@@ -334,10 +388,9 @@ fn visible(at: usize, name: &Word, part: Result<Part, TypingFault>) -> Result<Fr
 }
 
 // The names and the kinds of columns.
-fn with_columns(alloc: Global, query: Query, columns: Vec<Column>) -> Result<Typed, NoMemory>
-    ensures tree { IfOk result (λ t. tree t.query ≡ tree query) }
-    ensures names { IfOk result (λ t. t.names.items ≡ map (λ c. c.name) columns.items) }
-    ensures kinds { IfOk result (λ t. t.kinds.items ≡ kinds_of_columns columns.items) }
+fn names_and_kinds(alloc: Global, columns: Vec<Column>) -> Result<(Vec<Word>, Vec<Kind>), NoMemory>
+    ensures names { IfOk result (λ r. r.0.items ≡ map (λ c. c.name) columns.items) }
+    ensures kinds { IfOk result (λ r. r.1.items ≡ kinds_of_columns columns.items) }
 {
     let mut names = Vec::new(alloc);
     let mut kinds = Vec::new(alloc);
@@ -345,6 +398,16 @@ fn with_columns(alloc: Global, query: Query, columns: Vec<Column>) -> Result<Typ
         names.push(column.name)?;
         kinds.push(column.kind)?;
     }
+    Ok((names, kinds))
+}
+
+// A tree with the names and the kinds of its columns.
+fn with_columns(alloc: Global, query: Query, columns: Vec<Column>) -> Result<Typed, NoMemory>
+    ensures tree { IfOk result (λ t. tree t.query ≡ tree query) }
+    ensures names { IfOk result (λ t. t.names.items ≡ map (λ c. c.name) columns.items) }
+    ensures kinds { IfOk result (λ t. t.kinds.items ≡ kinds_of_columns columns.items) }
+{
+    let ((names, kinds), query) = together(names_and_kinds(alloc, columns), query)?;
     Ok(Typed {
         query,
         names,
