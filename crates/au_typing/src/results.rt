@@ -3,7 +3,7 @@
 //! A function that holds an owned value past a `?` or an early return drops it there, and the proof of each such drop is
 //! long. These calls hold the values in its place.
 ghost use Rattle.std.specs.Prelude.{◌≡◌, IfErr, IfOk, Err, Ok};
-ghost use Rattle.au_typing.specs.Joined.{both};
+ghost use Rattle.au_typing.specs.Joined.{both_results};
 
 /// Both values, if both could be made; else the first fault.
 pub(crate) fn both<A: Drop, B: Drop, E: Drop>(
@@ -11,7 +11,7 @@ pub(crate) fn both<A: Drop, B: Drop, E: Drop>(
     second: Result<B, E>,
 ) -> Result<(A, B), E>
     ensures values { IfOk result (λ r. (first ≡ Ok r.0) × (second ≡ Ok r.1)) }
-    ensures all { result ≡ both first second }
+    ensures all { result ≡ both_results first second }
 {
     match first {
         Ok(a) => match second {
