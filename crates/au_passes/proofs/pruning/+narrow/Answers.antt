@@ -139,8 +139,8 @@ narrow-returns-in_ok-made-in-Extend-clause-narrowed t c =
     IfOk-weaker c.extend.result _ _ (λ n f.
     extend_gives (plan_tree c.args.plan) (plan_tree c.into_inner.result) (pterm c.in-Extend.e) c.args.marks.items is c.requires
     c.without_last.result.items c.with_reads-marks.result.items (plan_tree below.plan) (plan_tree n.plan) below.found.items n.found.items below.count
-    c.without_last.ensures c.with_reads-marks.ensures (IfOk-at_ok _ made.ensures.0 c.narrow.ensures.narrowed) (IfOk-at_ok _ made.ensures.0 c.narrow.ensures.count)
-    (f.0 ∙ ap (λ x. Extend (renumbered below.found.items (pterm x)) (plan_tree below.plan)) made.ensures.1) f.1) c.extend.ensures
+    c.without_last.ensures c.with_reads-marks.ensures (IfOk-at_ok _ made.ensures.values.0 c.narrow.ensures.narrowed) (IfOk-at_ok _ made.ensures.values.0 c.narrow.ensures.count)
+    (f.0 ∙ ap (λ x. Extend (renumbered below.found.items (pterm x)) (plan_tree below.plan)) made.ensures.values.1) f.1) c.extend.ensures
 
 pub narrow-returns-in_ok-made-in-Extend-2-clause-narrowed : goal.narrow-returns-in_ok-made-in-Extend-2-clause-narrowed
 narrow-returns-in_ok-made-in-Extend-2-clause-narrowed t c =
@@ -151,7 +151,7 @@ narrow-returns-in_ok-made-in-Extend-2-clause-narrowed t c =
     IfOk-weaker c.leave_out.result _ _ (λ n f.
     unread_gives (plan_tree c.args.plan) (plan_tree c.into_inner-else-reads_last.result) (pterm c.in-Extend.e) c.args.marks.items is c.requires
     c.without_last-else-reads_last.result.items (plan_tree below.plan) (plan_tree n.plan) below.found.items n.found.items unread
-    c.without_last-else-reads_last.ensures (IfOk-at_ok _ made.ensures.0 c.narrow-below.ensures.narrowed) f.0 f.1) c.leave_out.ensures
+    c.without_last-else-reads_last.ensures (IfOk-at_ok _ made.ensures.values.0 c.narrow-below.ensures.narrowed) f.0 f.1) c.leave_out.ensures
 
 pub narrow-returns-in_ok-made-in-Filter-clause-narrowed : goal.narrow-returns-in_ok-made-in-Filter-clause-narrowed
 narrow-returns-in_ok-made-in-Filter-clause-narrowed t c =
@@ -161,8 +161,8 @@ narrow-returns-in_ok-made-in-Filter-clause-narrowed t c =
     IfOk-weaker c.filter.result _ _ (λ n f.
     filter_gives (plan_tree c.args.plan) (plan_tree c.into_inner-in-Filter.result) (pterm c.in-Filter.e) c.args.marks.items
     c.with_reads-marks-in-Filter.result.items is c.requires c.with_reads-marks-in-Filter.ensures (plan_tree below.plan) (plan_tree n.plan)
-    below.found.items n.found.items (IfOk-at_ok _ made.ensures.0 c.narrow-in-Filter.ensures.narrowed)
-    (f.0 ∙ ap (λ x. Filter (renumbered below.found.items (pterm x)) (plan_tree below.plan)) made.ensures.1) f.1) c.filter.ensures
+    below.found.items n.found.items (IfOk-at_ok _ made.ensures.values.0 c.narrow-in-Filter.ensures.narrowed)
+    (f.0 ∙ ap (λ x. Filter (renumbered below.found.items (pterm x)) (plan_tree below.plan)) made.ensures.values.1) f.1) c.filter.ensures
 
 pub narrow-returns-in_ok-made-in-Keep-clause-narrowed : goal.narrow-returns-in_ok-made-in-Keep-clause-narrowed
 narrow-returns-in_ok-made-in-Keep-clause-narrowed t c =
@@ -177,9 +177,9 @@ narrow-returns-in_ok-made-in-Keep-clause-narrowed t c =
     IfOk-weaker c.keep_columns.result _ _ (λ n f.
     keep_gives (plan_tree c.args.plan) (plan_tree c.into_inner-in-Keep.result) c.in-Keep.places.items c.args.marks.items c.in_ok-marks-in-Keep.marks.items
     read.wanted.items w is c.requires wide m (plan_tree below.plan) (plan_tree n.plan) below.found.items read.found.items n.found.items
-    wanted c.in_ok-read-in-Keep.ensures.1 (IfOk-at_ok _ made.ensures.0 c.narrow-in-Keep.ensures.narrowed)
-    (subst (λ (r : Columns). IsKept (map (slice_index below.found.items) r.wanted.items) (plan_tree below.plan) (plan_tree n.plan)) made.ensures.1 f.0)
-    (f.1 ∙ ap (λ r. r.found.items) made.ensures.1)) c.keep_columns.ensures
+    wanted c.in_ok-read-in-Keep.ensures.1 (IfOk-at_ok _ made.ensures.values.0 c.narrow-in-Keep.ensures.narrowed)
+    (subst (λ (r : Columns). IsKept (map (slice_index below.found.items) r.wanted.items) (plan_tree below.plan) (plan_tree n.plan)) made.ensures.values.1 f.0)
+    (f.1 ∙ ap (λ r. r.found.items) made.ensures.values.1)) c.keep_columns.ensures
 
 pub narrow-returns-in_ok-made-in-Keep-clause-count : goal.narrow-returns-in_ok-made-in-Keep-clause-count
 narrow-returns-in_ok-made-in-Keep-clause-count t c =
@@ -197,7 +197,7 @@ narrow-returns-in_ok-made-in-Join-clause-narrowed t c =
     let wide = c.in_ok-width-in-Join.ensures ∙ ap (λ b. plan_width (plan_tree b)) (c.deref-in-Join.ensures ∙ sym c.into_inner-in-Join.ensures) in
     let sides = c.in_ok-sides-in-Join.sides in
     let made = c.in_ok-made-in-Join in
-    let ways = IfOk-at_ok _ made.ensures.0 c.both.ensures in
+    let ways = IfOk-at_ok _ made.ensures.values.0 c.both.ensures in
     let left = c.narrow_to-left.ensures in
     let right = c.narrow_to-right.ensures in
     IfOk-weaker c.join.result _ _ (λ n f.
@@ -207,13 +207,13 @@ narrow-returns-in_ok-made-in-Join-clause-narrowed t c =
     c.in_ok-sides-in-Join.ensures.marks.0 c.in_ok-sides-in-Join.ensures.marks.1 c.in_ok-sides-in-Join.ensures.found.0
     (IfOk-at_ok _ ways.0 left.narrows) (IfOk-at_ok _ ways.0 left.width) (IfOk-at_ok _ ways.0 left.columns)
     (IfOk-at_ok _ ways.1 right.narrows) (IfOk-at_ok _ ways.1 right.width) (IfOk-at_ok _ ways.1 right.columns)
-    (f.0 ∙ ap (λ x. Join (renumbered sides.found.items (pterm x)) (plan_tree made.made.0.0) (plan_tree made.made.0.1)) made.ensures.1) f.1) c.join.ensures
+    (f.0 ∙ ap (λ x. Join (renumbered sides.found.items (pterm x)) (plan_tree made.made.0.0) (plan_tree made.made.0.1)) made.ensures.values.1) f.1) c.join.ensures
 
 pub narrow-returns-in_ok-made-in-Join-clause-count : goal.narrow-returns-in_ok-made-in-Join-clause-count
 narrow-returns-in_ok-made-in-Join-clause-count t c =
     let sides = c.in_ok-sides-in-Join.sides in
     let made = c.in_ok-made-in-Join in
-    let ways = IfOk-at_ok _ made.ensures.0 c.both.ensures in
+    let ways = IfOk-at_ok _ made.ensures.values.0 c.both.ensures in
     IfOk-weaker c.join.result _ _ (λ n f.
     join_counts sides.left.items sides.right.items (renumbered sides.found.items (pterm made.made.1)) (plan_tree made.made.0.0)
     (plan_tree made.made.0.1) (plan_tree n.plan) sides.count n.count c.in_ok-sides-in-Join.ensures.found.1
@@ -264,9 +264,9 @@ narrow-returns-in_ok-made-in-Group-clause-narrowed t c =
     IfOk-weaker c.group.result _ _ (λ n f.
     group_gives (plan_tree c.args.plan) (plan_tree c.into_inner-in-Group.result) c.in-Group.keys.items c.in-Group.aggs.items read.aggs.items
     c.args.marks.items c.in_ok-marks-in-Group.marks.items w is c.requires wide m (plan_tree below.plan) (plan_tree n.plan) below.found.items
-    read.found.items n.found.items chosen_are found_are (IfOk-at_ok _ made.ensures.0 c.narrow-in-Group.ensures.narrowed)
-    (f.0 ∙ (λ i. Group (map (slice_index below.found.items) (c.deref-in-Group-7.ensures.value i)) (map (renumbered_agg below.found.items) (made.ensures.1 i).aggs.items) (plan_tree below.plan)))
-    (f.1 ∙ ap (λ r. r.found.items) made.ensures.1)) c.group.ensures
+    read.found.items n.found.items chosen_are found_are (IfOk-at_ok _ made.ensures.values.0 c.narrow-in-Group.ensures.narrowed)
+    (f.0 ∙ (λ i. Group (map (slice_index below.found.items) (c.deref-in-Group-7.ensures.value i)) (map (renumbered_agg below.found.items) (made.ensures.values.1 i).aggs.items) (plan_tree below.plan)))
+    (f.1 ∙ ap (λ r. r.found.items) made.ensures.values.1)) c.group.ensures
 
 pub narrow_to-returns-clause-narrows : goal.narrow_to-returns-clause-narrows
 narrow_to-returns-clause-narrows t c =
