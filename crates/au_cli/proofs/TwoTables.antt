@@ -8,7 +8,8 @@ use Rattle.au_engine.specs.Answers.{Named}
 use Rattle.au_cli.specs.declared.files.Purpose.TheVariants as purpose
 use Rattle.au_cli.specs.declared.outcome.Outcome.{Outcome}
 use Rattle.au_cli.specs.declared.outcome.Outcome.TheVariants as outcome
-use Rattle.au_cli.specs.Files.{Text, file_bytes, file_table, size_of, table_or_defect, tables_from}
+use Rattle.au_value.specs.Texts.{Text}
+use Rattle.au_cli.specs.Files.{file_bytes, file_table, size_of, table_or_defect, tables_from}
 use Rattle.au_cli.specs.FileCauses.{BytesCause, FileCause, FilesCause, ReadCause}
 use Rattle.au_cli.specs.TwoFiles.{BothTables, NamesRead, NamesTable}
 use Rattle.au_cli.proofs.FileTables.{bytes_cause, read_cause, size_read, table_read}

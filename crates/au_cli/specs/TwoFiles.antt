@@ -7,7 +7,8 @@ use Rattle.au_cli.specs.declared.files.Purpose.{Purpose}
 use Rattle.au_cli.specs.declared.outcome.Outcome.{Outcome}
 use Rattle.au_cli.specs.declared.outcome.Outcome.TheVariants as outcome
 use Rattle.au_cli.specs.FileCauses.{BytesCause}
-use Rattle.au_cli.specs.Files.{Text, table_or_defect}
+use Rattle.au_value.specs.Texts.{Text}
+use Rattle.au_cli.specs.Files.{table_or_defect}
 
 -- the table of a file's bytes under its name, or why there is none
 abbrev pub NamesTable : Purpose → ℕ → Text → List ℕ → Result Named Outcome → Type 0

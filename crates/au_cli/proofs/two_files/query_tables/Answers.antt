@@ -3,7 +3,8 @@ use Rattle.std.proofs.Common.{◌≡◌, ◌∷◌, [], List, Ok, IfSome, ap, ma
 use Rattle.std.specs.Prelude.{IfErr, IfOk}
 use Rattle.au_words.specs.CommandLine.{seen_table}
 use Rattle.au_cli.specs.FileCauses.{FilesCause}
-use Rattle.au_cli.specs.Files.{Text, tables_from}
+use Rattle.au_value.specs.Texts.{Text}
+use Rattle.au_cli.specs.Files.{tables_from}
 use Rattle.au_cli.specs.declared.files.Purpose.TheVariants as purpose
 use Rattle.au_cli.proofs.two_files.query_tables.Goals as goal
 
