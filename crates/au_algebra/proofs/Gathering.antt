@@ -5,9 +5,10 @@ use Rattle.std.proofs.Common.{arith, refl, sym, ◌∙◌, ap, subst, inl, inr}
 use Rattle.std.proofs.lemmas.Bool.{cases_Bool, true≢false}
 use borrow.Author.Tests.{leb-true, le-leb}
 use Rattle.au_value.specs.Ranges.{Span}
-use Rattle.au_annot.specs.Triples.{Counts, counts, none, plus, total}
+use Rattle.au_value.specs.Numeral.{is_i128}
+use Rattle.au_annot.specs.Triples.{Counts, counts, none, plus, total_counts}
 use Rattle.au_algebra.specs.Bounded.{RangeRow, Bounded, same_ranges, normal}
-use Rattle.au_algebra.specs.Fits.{in_range, triples_fit}
+use Rattle.au_algebra.specs.Fits.{triples_fit}
 use Rattle.au_algebra.proofs.KeptByMerging.{same_ranges_refl}
 use Rattle.au_algebra.proofs.Tallies.{tally, summed, tally_same, tally_other}
 use Rattle.au_algebra.proofs.Rising.{rising_is}
@@ -22,33 +23,33 @@ none_first t =
     let m : t.most ≡ 0 + t.most = omega arith in
     λ i. counts (l i) (g i) (m i)
 
-total_append : (ts us : List Counts) → total (ts ++ us) ≡ plus (total ts) (total us)
-total_append [] us = none_first (total us)
+total_append : (ts us : List Counts) → total_counts (ts ++ us) ≡ plus (total_counts ts) (total_counts us)
+total_append [] us = none_first (total_counts us)
 total_append (t ∷ ts) us =
     let rest = total_append ts us in
-    let l : t.least + (total (ts ++ us)).least ≡ (t.least + (total ts).least) + (total us).least = omega (arith, ap (λ c. c.least) rest) in
-    let g : t.guess + (total (ts ++ us)).guess ≡ (t.guess + (total ts).guess) + (total us).guess = omega (arith, ap (λ c. c.guess) rest) in
-    let m : t.most + (total (ts ++ us)).most ≡ (t.most + (total ts).most) + (total us).most = omega (arith, ap (λ c. c.most) rest) in
+    let l : t.least + (total_counts (ts ++ us)).least ≡ (t.least + (total_counts ts).least) + (total_counts us).least = omega (arith, ap (λ c. c.least) rest) in
+    let g : t.guess + (total_counts (ts ++ us)).guess ≡ (t.guess + (total_counts ts).guess) + (total_counts us).guess = omega (arith, ap (λ c. c.guess) rest) in
+    let m : t.most + (total_counts (ts ++ us)).most ≡ (t.most + (total_counts ts).most) + (total_counts us).most = omega (arith, ap (λ c. c.most) rest) in
     λ i. counts (l i) (g i) (m i)
 
-alone : (t : Counts) → t ≡ total (t ∷ [])
+alone : (t : Counts) → t ≡ total_counts (t ∷ [])
 alone t =
     let l : t.least ≡ t.least + 0 = omega arith in
     let g : t.guess ≡ t.guess + 0 = omega arith in
     let m : t.most ≡ t.most + 0 = omega arith in
     λ i. counts (l i) (g i) (m i)
 
-total_summed : (ts : List Counts) → total ts ≡ total (summed ts)
+total_summed : (ts : List Counts) → total_counts ts ≡ total_counts (summed ts)
 total_summed [] = refl
-total_summed (t ∷ ts) = alone (total (t ∷ ts))
+total_summed (t ∷ ts) = alone (total_counts (t ∷ ts))
 
 summed_twice : (ts : List Counts) → summed ts ≡ summed (summed ts)
 summed_twice [] = refl
-summed_twice (t ∷ ts) = ap (λ c. c ∷ []) (alone (total (t ∷ ts)))
+summed_twice (t ∷ ts) = ap (λ c. c ∷ []) (alone (total_counts (t ∷ ts)))
 
 summed_append : (ts us : List Counts) → summed (ts ++ us) ≡ summed (summed ts ++ summed us)
 summed_append [] us = summed_twice us
-summed_append (t ∷ ts) us = ap (λ c. c ∷ []) (total_append (t ∷ ts) us ∙ ap (plus (total (t ∷ ts))) (total_summed us))
+summed_append (t ∷ ts) us = ap (λ c. c ∷ []) (total_append (t ∷ ts) us ∙ ap (plus (total_counts (t ∷ ts))) (total_summed us))
 
 -- ---- the normal form of two pieces
 
@@ -96,7 +97,7 @@ normal_behind xs ys = normal_append (normal xs) ys xs ys (normal_twice xs) refl
 
 -- whether each component lies in the range
 abbrev inside : Counts → Bool
-inside t = in_range (pos t.least) && (in_range (pos t.guess) && in_range (pos t.most))
+inside t = is_i128 (pos t.least) && (is_i128 (pos t.guess) && is_i128 (pos t.most))
 
 abbrev AllInside : List Counts → Type 0
 AllInside ts = AllByRecursion (λ t. inside t ≡ true) ts
@@ -116,7 +117,7 @@ join_first false b c d h k = absurd (true≢false (sym h))
 tallies_inside : (rows : Bounded) → triples_fit rows ≡ true → (k : List Span) → AllInside (tally k rows)
 tallies_inside [] h k = tt
 tallies_inside (r ∷ rows) h k =
-    let p = split_first (in_range (pos r.annot.least)) (in_range (pos r.annot.guess)) (in_range (pos r.annot.most)) (triples_fit rows) h in
+    let p = split_first (is_i128 (pos r.annot.least)) (is_i128 (pos r.annot.guess)) (is_i128 (pos r.annot.most)) (triples_fit rows) h in
     elim (cases_Bool (same_ranges k r.cells)) [
       | inl t ↦ subst AllInside (sym (tally_same k r rows t)) (p.0, tallies_inside rows p.1 k)
       | inr f ↦ subst AllInside (sym (tally_other k r rows f)) (tallies_inside rows p.1 k)
@@ -132,10 +133,10 @@ inside_fits : (rows : Bounded) → ((k : List Span) → AllInside (tally k rows)
 inside_fits [] h = refl
 inside_fits (r ∷ rows) h =
     let own : AllInside (r.annot ∷ tally r.cells rows) = subst AllInside (tally_same r.cells r rows (same_ranges_refl r.cells)) (h r.cells) in
-    join_first (in_range (pos r.annot.least)) (in_range (pos r.annot.guess)) (in_range (pos r.annot.most)) (triples_fit rows) own.0
+    join_first (is_i128 (pos r.annot.least)) (is_i128 (pos r.annot.guess)) (is_i128 (pos r.annot.most)) (triples_fit rows) own.0
     (inside_fits rows (rest_inside r rows h))
 
-less_inside : (m n : ℕ) → m ≤ n → in_range (pos n) ≡ true → in_range (pos m) ≡ true
+less_inside : (m n : ℕ) → m ≤ n → is_i128 (pos n) ≡ true → is_i128 (pos m) ≡ true
 less_inside m n l h = let le = leb-true n (2 ^ 127 - 1) h in le-leb m (2 ^ 127 - 1) (omega (arith, le, l))
 
 and_both : (a b : Bool) → (a && b) ≡ true → (a ≡ true) × (b ≡ true)
@@ -144,8 +145,8 @@ and_both false b h = absurd (true≢false (sym h))
 
 part_inside : (a b : Counts) → inside (plus a b) ≡ true → inside a ≡ true
 part_inside a b h =
-    let p = and_both (in_range (pos (a.least + b.least))) (in_range (pos (a.guess + b.guess)) && in_range (pos (a.most + b.most))) h in
-    let q = and_both (in_range (pos (a.guess + b.guess))) (in_range (pos (a.most + b.most))) p.1 in
+    let p = and_both (is_i128 (pos (a.least + b.least))) (is_i128 (pos (a.guess + b.guess)) && is_i128 (pos (a.most + b.most))) h in
+    let q = and_both (is_i128 (pos (a.guess + b.guess))) (is_i128 (pos (a.most + b.most))) p.1 in
     let l = less_inside a.least (a.least + b.least) (omega arith) p.0 in
     let g = less_inside a.guess (a.guess + b.guess) (omega arith) q.0 in
     let m = less_inside a.most (a.most + b.most) (omega arith) q.1 in
@@ -154,7 +155,7 @@ part_inside a b h =
 sum_inside : (ts us : List Counts) → AllInside (summed (ts ++ us)) → AllInside (summed ts)
 sum_inside [] us h = tt
 sum_inside (t ∷ ts) us h =
-    (part_inside (total (t ∷ ts)) (total us) (subst (λ c. inside c ≡ true) (total_append (t ∷ ts) us) h.0), tt)
+    (part_inside (total_counts (t ∷ ts)) (total_counts us) (subst (λ c. inside c ≡ true) (total_append (t ∷ ts) us) h.0), tt)
 
 -- rows behind others do not bring a sum back into the range
 pub front_fits : (xs ys : Bounded) → triples_fit (normal (xs ++ ys)) ≡ true → triples_fit (normal xs) ≡ true

@@ -7,7 +7,7 @@ use Rattle.std.specs.Ordering.{is_le, is_gt}
 use Rattle.std.proofs.Common.{refl, sym, ◌∙◌, ap, inl, inr}
 use Rattle.std.proofs.lemmas.Bool.{cases_Bool, true≢false, false_from_ne_true}
 use Rattle.au_value.specs.Ranges.{Span}
-use Rattle.au_annot.specs.Triples.{Counts, total}
+use Rattle.au_annot.specs.Triples.{Counts, total_counts}
 use Rattle.au_algebra.specs.Entries.{entry}
 use Rattle.au_algebra.specs.Lists.{distinct}
 use Rattle.au_algebra.specs.Bounded.{RangeRow, Bounded, same_ranges, ranges_order, merge_equal, insert_row, sorted, normal}
@@ -159,9 +159,9 @@ mapped_if m false k c cs rest e = e
 module _ (rows : Bounded) where
   -- the row of some ranges
   abbrev at : List Span → RangeRow
-  at cells = entry cells (total (tally cells rows))
+  at cells = entry cells (total_counts (tally cells rows))
 
-  tally_mapped : (k : List Span) (ks : List (List Span)) → tally k (map at ks) ≡ map (λ c. total (tally c rows)) (filter (same_ranges k) ks)
+  tally_mapped : (k : List Span) (ks : List (List Span)) → tally k (map at ks) ≡ map (λ c. total_counts (tally c rows)) (filter (same_ranges k) ks)
   tally_mapped k [] = refl
   tally_mapped k (c ∷ ks) =
       mapped_if at (same_ranges k c) k c (filter (same_ranges k) ks) (filter (λ r. same_ranges k r.cells) (map at ks)) (tally_mapped k ks)
@@ -175,7 +175,7 @@ filter_cells k [] = refl
 filter_cells k (r ∷ rows) =
     cells_if (same_ranges k r.cells) r (filter (same_ranges k) (map (λ s. s.cells) rows)) (filter (λ s. same_ranges k s.cells) rows) (filter_cells k rows)
 
-once_summed : (k : List Span) (sums : List Span → Counts) (found : Bounded) → AllByRecursion (λ r. same_ranges k r.cells ≡ true) found → sums k ≡ total (map (λ r. r.annot) found) → map sums (once (map (λ r. r.cells) found)) ≡ summed (map (λ r. r.annot) found)
+once_summed : (k : List Span) (sums : List Span → Counts) (found : Bounded) → AllByRecursion (λ r. same_ranges k r.cells ≡ true) found → sums k ≡ total_counts (map (λ r. r.annot) found) → map sums (once (map (λ r. r.cells) found)) ≡ summed (map (λ r. r.annot) found)
 unfolding once
 once_summed k sums [] h e = refl
 once_summed k sums (r ∷ found) h e = ap (λ t. t ∷ []) (ap sums (sym (same_ranges_is k r.cells h.0)) ∙ e)
@@ -183,7 +183,7 @@ once_summed k sums (r ∷ found) h e = ap (λ t. t ∷ []) (ap sums (sym (same_r
 -- merged rows have the sum of the triples of the rows with their ranges
 tally_merged : (k : List Span) (rows : Bounded) → tally k (merge_equal rows) ≡ summed (tally k rows)
 tally_merged k rows =
-    let sums : List Span → Counts = λ c. total (tally c rows) in
+    let sums : List Span → Counts = λ c. total_counts (tally c rows) in
     tally_mapped rows k (distinct same_ranges (map (λ r. r.cells) rows))
     ∙ ap (map sums) (once_distinct k (map (λ r. r.cells) rows))
     ∙ ap (λ cs. map sums (once cs)) (filter_cells k rows)

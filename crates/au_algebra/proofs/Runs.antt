@@ -8,7 +8,7 @@ use Rattle.std.specs.Ordering.{is_eq, is_gt, is_lt}
 use Rattle.std.proofs.Common.{arith, refl, sym, ◌∙◌, ap, subst, inl, inr, add-one}
 use Rattle.std.proofs.lemmas.Bool.{cases_Bool}
 use Rattle.au_value.specs.Ranges.{Span}
-use Rattle.au_annot.specs.Triples.{Counts, counts, plus, total}
+use Rattle.au_annot.specs.Triples.{Counts, counts, plus, total_counts}
 use Rattle.au_algebra.specs.Entries.{entry}
 use Rattle.au_algebra.specs.Bounded.{RangeRow, Bounded, same_ranges, ranges_order, normal}
 use Rattle.au_algebra.proofs.Each.{all_from}
@@ -133,7 +133,7 @@ alone t =
 
 joined_sum : (t u : Counts) (ts : List Counts) → summed (plus t u ∷ ts) ≡ summed (t ∷ u ∷ ts)
 joined_sum t u ts =
-    let rest = total ts in
+    let rest = total_counts ts in
     let l : (t.least + u.least) + rest.least ≡ t.least + (u.least + rest.least) = omega arith in
     let g : (t.guess + u.guess) + rest.guess ≡ t.guess + (u.guess + rest.guess) = omega arith in
     let m : (t.most + u.most) + rest.most ≡ t.most + (u.most + rest.most) = omega arith in

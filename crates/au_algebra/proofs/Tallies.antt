@@ -5,7 +5,7 @@ use Rattle.std.proofs.Common.{arith, refl, sym, ◌∙◌, ap}
 use Rattle.std.proofs.lemmas.List.Sums.{sum_by-cons}
 use Rattle.std.proofs.lemmas.List.Sorted.{sum_by-IsPermutation}
 use Rattle.au_value.specs.Ranges.{Span}
-use Rattle.au_annot.specs.Triples.{Counts, counts, total}
+use Rattle.au_annot.specs.Triples.{Counts, counts, total_counts}
 use Rattle.au_algebra.specs.Bounded.{RangeRow, Bounded, same_ranges}
 
 -- the triples of the rows with these ranges
@@ -15,7 +15,7 @@ tally cells rows = map (λ r. r.annot) (filter (λ r. same_ranges cells r.cells)
 -- several triples in one, and none of none
 abbrev pub summed : List Counts → List Counts
 summed [] = []
-summed (t ∷ ts) = total (t ∷ ts) ∷ []
+summed (t ∷ ts) = total_counts (t ∷ ts) ∷ []
 
 -- a row with these ranges comes first
 pub tally_same : (k : List Span) (r : RangeRow) (rows : Bounded) → same_ranges k r.cells ≡ true → tally k (r ∷ rows) ≡ r.annot ∷ tally k rows
@@ -50,15 +50,15 @@ tally_sum f k [] = refl
 tally_sum f k (r ∷ rows) =
     omega (arith, tally_if f (same_ranges k r.cells) r (filter (λ s. same_ranges k s.cells) rows), sum_by-cons (added f k) r rows, tally_sum f k rows)
 
-least_sum : (ts : List Counts) → (total ts).least ≡ sum_by (λ t. t.least) ts
+least_sum : (ts : List Counts) → (total_counts ts).least ≡ sum_by (λ t. t.least) ts
 least_sum [] = refl
 least_sum (t ∷ ts) = omega (arith, sum_by-cons (λ u. u.least) t ts, least_sum ts)
 
-guess_sum : (ts : List Counts) → (total ts).guess ≡ sum_by (λ t. t.guess) ts
+guess_sum : (ts : List Counts) → (total_counts ts).guess ≡ sum_by (λ t. t.guess) ts
 guess_sum [] = refl
 guess_sum (t ∷ ts) = omega (arith, sum_by-cons (λ u. u.guess) t ts, guess_sum ts)
 
-most_sum : (ts : List Counts) → (total ts).most ≡ sum_by (λ t. t.most) ts
+most_sum : (ts : List Counts) → (total_counts ts).most ≡ sum_by (λ t. t.most) ts
 most_sum [] = refl
 most_sum (t ∷ ts) = omega (arith, sum_by-cons (λ u. u.most) t ts, most_sum ts)
 
@@ -66,7 +66,7 @@ length_sum : (ts : List Counts) → length ts ≡ sum_by (λ t. 1) ts
 length_sum [] = refl
 length_sum (t ∷ ts) = omega (arith, sum_by-cons (λ u. 1) t ts, length_sum ts)
 
-summed_by : (ts us : List Counts) → length ts ≡ length us → total ts ≡ total us → summed ts ≡ summed us
+summed_by : (ts us : List Counts) → length ts ≡ length us → total_counts ts ≡ total_counts us → summed ts ≡ summed us
 summed_by [] [] n e = refl
 summed_by [] (u ∷ us) n e = absurd (omega (arith, n))
 summed_by (t ∷ ts) [] n e = absurd (omega (arith, n))

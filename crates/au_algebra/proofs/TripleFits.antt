@@ -3,11 +3,12 @@ use Rattle.std.specs.Prelude.{◌≡◌, ℕ, ◌+◌, ◌-◌, ◌^◌, ◌<◌
 use Rattle.std.specs.List.{AllByRecursion}
 use Rattle.std.proofs.Common.{arith, refl, sym, ◌∙◌, ap, append_assoc, append-nil, inl, inr}
 use Rattle.std.proofs.lemmas.Bool.{false_from_ne_true, true≢false, cases_lt}
+use Rattle.au_value.specs.Numeral.{is_i128}
 use borrow.Author.Tests.{leb-true, le-leb, lt-ltb}
 use Rattle.au_annot.specs.Triples.{Counts, IsTriple, plus, in_range as counts_in_range}
 use Rattle.au_algebra.specs.Entries.{entry}
 use Rattle.au_algebra.specs.Bounded.{RangeRow, Bounded}
-use Rattle.au_algebra.specs.Fits.{in_range, triples_fit}
+use Rattle.au_algebra.specs.Fits.{triples_fit}
 use Rattle.au_algebra.proofs.Runs.{joins, finished, carried, runs_from}
 
 -- the triple is in order, and its greatest count is in the range
@@ -15,11 +16,11 @@ pub record IsInRange (r : RangeRow) : Type 0 where
   pub triple : IsTriple r.annot
   pub most : r.annot.most < 2 ^ 127
 
-in_range_count : (n : ℕ) → n < 2 ^ 127 → in_range (pos n) ≡ true
+in_range_count : (n : ℕ) → n < 2 ^ 127 → is_i128 (pos n) ≡ true
 in_range_count n h = let le : n ≤ 2 ^ 127 - 1 = omega arith in le-leb n (2 ^ 127 - 1) le
 
-out_of_range : (n : ℕ) → 2 ^ 127 ≤ n → in_range (pos n) ≡ false
-out_of_range n h = false_from_ne_true (in_range (pos n)) (λ t. let le = leb-true n (2 ^ 127 - 1) t in absurd (omega (arith, le, h)))
+out_of_range : (n : ℕ) → 2 ^ 127 ≤ n → is_i128 (pos n) ≡ false
+out_of_range n h = false_from_ne_true (is_i128 (pos n)) (λ t. let le = leb-true n (2 ^ 127 - 1) t in absurd (omega (arith, le, h)))
 
 -- one row more that lies in the range
 pub fits_more : (r : RangeRow) (rows : Bounded) → IsInRange r → triples_fit rows ≡ true → triples_fit (r ∷ rows) ≡ true
@@ -43,8 +44,8 @@ and_none false b = refl
 pub fails_here : (r : RangeRow) (rows : Bounded) → 2 ^ 127 ≤ r.annot.most → triples_fit (r ∷ rows) ≡ false
 fails_here r rows h =
     let m = out_of_range r.annot.most h in
-    (λ i. in_range (pos r.annot.least) && (in_range (pos r.annot.guess) && (m i && triples_fit rows)))
-    ∙ and_none (in_range (pos r.annot.least)) (in_range (pos r.annot.guess))
+    (λ i. is_i128 (pos r.annot.least) && (is_i128 (pos r.annot.guess) && (m i && triples_fit rows)))
+    ∙ and_none (is_i128 (pos r.annot.least)) (is_i128 (pos r.annot.guess))
 
 and_three : (a b c d : Bool) → d ≡ false → (a && (b && (c && d))) ≡ false
 and_three true true true d h = h
@@ -56,7 +57,7 @@ and_three false b c d h = refl
 pub fails_behind : (done rows : Bounded) → triples_fit rows ≡ false → triples_fit (done ++ rows) ≡ false
 fails_behind [] rows h = h
 fails_behind (r ∷ done) rows h =
-    and_three (in_range (pos r.annot.least)) (in_range (pos r.annot.guess)) (in_range (pos r.annot.most)) (triples_fit (done ++ rows)) (fails_behind done rows h)
+    and_three (is_i128 (pos r.annot.least)) (is_i128 (pos r.annot.guess)) (is_i128 (pos r.annot.most)) (triples_fit (done ++ rows)) (fails_behind done rows h)
 
 -- sums only rise, so what follows does not bring a row back into the range
 pub runs_fail : (r : RangeRow) (rows : Bounded) → 2 ^ 127 ≤ r.annot.most → triples_fit (runs_from r rows) ≡ false

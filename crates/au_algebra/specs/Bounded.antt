@@ -9,7 +9,7 @@ use Rattle.au_value.specs.declared.value.Value.{Value}
 use Rattle.au_value.specs.declared.value.Value.TheVariants.{Int}
 use Rattle.au_value.specs.Order.{order}
 use Rattle.au_value.specs.Ranges.{Span, range, certain, all_overlap, all_certain, all_certainly_equal, hulls, guesses, lower_ends, upper_ends}
-use Rattle.au_annot.specs.Triples.{Counts, counts, times, one, total as total_counts, is_none}
+use Rattle.au_annot.specs.Triples.{Counts, counts, times, one, total_counts, is_none}
 use Rattle.au_expr.specs.Terms.{Term}
 use Rattle.au_expr.specs.Ordinary.{is_true, number}
 use Rattle.au_expr.specs.OnRanges.{range_of}
@@ -107,8 +107,8 @@ pub record Grouped : Type 0 where
   pub is_guessed : Bool
 
 -- the range in a column, and 0 past the last
-abbrev pub column : ℕ → RangeRow → Span
-column c r = unwrap_or (slice_get r.cells c) (certain (Int (pos 0)))
+abbrev pub range_at : ℕ → RangeRow → Span
+range_at c r = unwrap_or (slice_get r.cells c) (certain (Int (pos 0)))
 
 -- how many copies a member has in each group of a world at least
 abbrev pub sure : Grouped → RangeRow → ℕ
@@ -117,16 +117,16 @@ sure g r = if g.is_certain_member r then r.annot.least else 0
 -- the least and the greatest that a member adds to a sum
 abbrev pub lower_term : Grouped → ℕ → RangeRow → ℤ
 lower_term g c r =
-    let lo = number (column c r).lo in
+    let lo = number (range_at c r).lo in
     if int_lt lo (pos 0) then pos r.annot.most *ℤ lo else pos (sure g r) *ℤ lo
 
 abbrev pub upper_term : Grouped → ℕ → RangeRow → ℤ
 upper_term g c r =
-    let hi = number (column c r).hi in
+    let hi = number (range_at c r).hi in
     if int_lt hi (pos 0) then pos (sure g r) *ℤ hi else pos r.annot.most *ℤ hi
 
 abbrev pub guess_term : ℕ → RangeRow → ℤ
-guess_term c r = pos r.annot.guess *ℤ number (column c r).sg
+guess_term c r = pos r.annot.guess *ℤ number (range_at c r).sg
 
 -- a range whose guess is its lo where the group is not guessed
 abbrev pub guess_if : Bool → Span → Span
@@ -154,19 +154,19 @@ aggregate g (Sum c) =
 aggregate g (Min c) =
     guess_if g.is_guessed
     (range
-    (least (map (λ r. (column c r).lo) g.members))
-    (least (map (λ r. (column c r).sg) (guessed_there g)))
+    (least (map (λ r. (range_at c r).lo) g.members))
+    (least (map (λ r. (range_at c r).sg) (guessed_there g)))
     (or_else (surely_there g)
-    (least (map (λ r. (column c r).hi) (surely_there g)))
-    (greatest (map (λ r. (column c r).hi) g.members))))
+    (least (map (λ r. (range_at c r).hi) (surely_there g)))
+    (greatest (map (λ r. (range_at c r).hi) g.members))))
 aggregate g (Max c) =
     guess_if g.is_guessed
     (range
     (or_else (surely_there g)
-    (greatest (map (λ r. (column c r).lo) (surely_there g)))
-    (least (map (λ r. (column c r).lo) g.members)))
-    (greatest (map (λ r. (column c r).sg) (guessed_there g)))
-    (greatest (map (λ r. (column c r).hi) g.members)))
+    (greatest (map (λ r. (range_at c r).lo) (surely_there g)))
+    (least (map (λ r. (range_at c r).lo) g.members)))
+    (greatest (map (λ r. (range_at c r).sg) (guessed_there g)))
+    (greatest (map (λ r. (range_at c r).hi) g.members)))
 
 -- 1 where some row passes
 abbrev pub some_of : (RangeRow → Bool) → Bounded → ℕ

@@ -1,8 +1,9 @@
 -- The numbers of a bounded answer,
 -- and whether each lies in the range of 128 bits.
-use Rattle.std.specs.Prelude.{◌-◌, ◌^◌, Bool, false, ◌&&◌, List, [], ◌∷◌, ◌++◌, map, take, filter, flat_map, sum_by, ℤ, pos, negsuc, nat_abs, int_le, if◌then◌else◌}
+use Rattle.std.specs.Prelude.{Bool, false, List, [], ◌∷◌, ◌++◌, map, take, filter, flat_map, sum_by, ℤ, pos, nat_abs, if◌then◌else◌}
 use Rattle.std.specs.List.{list_all}
 use Rattle.au_value.specs.Ranges.{Span, certain, all_overlap, all_certainly_equal, guesses}
+use Rattle.au_value.specs.Numeral.{is_i128}
 use Rattle.au_annot.specs.Triples.{counts}
 use Rattle.au_expr.specs.Numbers.{expr_numbers}
 use Rattle.au_algebra.specs.declared.query.Agg.{Agg}
@@ -37,8 +38,8 @@ agg_numbers g (Min c) = []
 agg_numbers g (Max c) = []
 
 -- the numbers of an operator's own work, given the relations that it works on
-abbrev pub group_numbers : (List Span → List Span) → List Agg → Bounded → List ℤ
-group_numbers keys aggs rows =
+abbrev pub grouping_numbers : (List Span → List Span) → List Agg → Bounded → List ℤ
+grouping_numbers keys aggs rows =
     flat_map (λ guess. flat_map (agg_numbers (grouped keys rows guess)) aggs) (guessed_keys keys rows)
 
 -- the numbers of the parts of a tree, and of its own triples
@@ -57,7 +58,7 @@ numbers (Difference a b) ts =
     ++ (flat_map (difference_sums (bounded b ts)) (combine (bounded a ts)) ++ triple_numbers (bounded (Difference a b) ts))))
 numbers (Distinct q) ts = numbers q ts ++ triple_numbers (bounded (Distinct q) ts)
 numbers (Group keys aggs q) ts =
-    numbers q ts ++ (group_numbers (take keys) aggs (bounded q ts) ++ triple_numbers (bounded (Group keys aggs q) ts))
+    numbers q ts ++ (grouping_numbers (take keys) aggs (bounded q ts) ++ triple_numbers (bounded (Group keys aggs q) ts))
 numbers (Total aggs q) ts = numbers q ts ++ flat_map (agg_numbers (all_rows (bounded q ts))) aggs
 
 -- the numbers of the answer, with those of the combined rows where that is asked for, and of the normal form
@@ -66,16 +67,12 @@ answer_numbers combined q ts =
     let rows = if combined then combine (bounded q ts) else bounded q ts in
     numbers q ts ++ (triple_numbers rows ++ triple_numbers (normal rows))
 
--- whether a number lies between -2^127 and 2^127 - 1
-abbrev pub in_range : ℤ → Bool
-in_range n = int_le (negsuc (2 ^ 127 - 1)) n && int_le n (pos (2 ^ 127 - 1))
-
 -- whether the triples of a relation lie in the range
 abbrev pub triples_fit : Bounded → Bool
-triples_fit rows = list_all in_range (triple_numbers rows)
+triples_fit rows = list_all is_i128 (triple_numbers rows)
 
 abbrev pub fits : Bool → Tree → List Bounded → Bool
-fits combined q ts = list_all in_range (answer_numbers combined q ts)
+fits combined q ts = list_all is_i128 (answer_numbers combined q ts)
 
 -- each counted row as ranges of one value, with its count as least, guess and most
 abbrev pub certain_rows : List CountedRow → Bounded

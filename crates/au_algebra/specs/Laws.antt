@@ -13,7 +13,7 @@ use Rattle.au_algebra.specs.Typing.{kinds_of, IsTyped}
 use Rattle.au_algebra.specs.Ordinary.{Rows, answer}
 use Rattle.au_algebra.specs.Bounded.{RangeRow, Bounded, bounded, combine, normal, bounded_answer}
 use Rattle.au_algebra.specs.Distribution.{Bounds, guess_count}
-use Rattle.au_algebra.specs.Positive.{is_positive, guessed_rows, numbers, positive}
+use Rattle.au_algebra.specs.Positive.{is_positive, guessed_rows, counting_annotations, positive}
 
 -- a row of ranges of these kinds, of which a copy is possible
 pub record IsRangeRow (ks : List Kind) (r : RangeRow) : Type 0 where
@@ -64,4 +64,4 @@ abbrev pub PositiveGuesses : Type 0
 PositiveGuesses =
     (q : Tree) (kinds : List (List Kind)) (ts : List Bounded) →
     IsTrue (is_positive q) → IsTyped kinds q → AllZip IsRelation kinds ts →
-    guessed_rows (bounded q ts) ≡ positive ordinary numbers q (map guessed_rows ts)
+    guessed_rows (bounded q ts) ≡ positive ordinary counting_annotations q (map guessed_rows ts)

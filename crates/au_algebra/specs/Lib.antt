@@ -9,8 +9,8 @@ pub mod Bounded
 pub mod Fits
 pub mod Distribution
 pub mod Positive
-pub mod Products
 pub mod Laws
+pub mod Products
 -- What the contracts of inner calls and the proofs speak of.
-pub mod Ends
 pub mod Keys
+pub mod Ends

@@ -67,9 +67,9 @@ abbrev pub triples : Annotations Span Counts
 triples = record { zero = none; one = one; plus = plus; times = times; is_zero = is_none; weight = weight }
 
 -- counts as annotations of values
-abbrev pub numbers : Annotations Value ℕ
-numbers = record { zero = 0; one = 1; plus = λ m n. m + n; times = λ m n. m * n; is_zero = λ n. n == 0; weight = truth }
+abbrev pub counting_annotations : Annotations Value ℕ
+counting_annotations = record { zero = 0; one = 1; plus = λ m n. m + n; times = λ m n. m * n; is_zero = λ n. n == 0; weight = truth }
 
 -- the guessed rows with their counts, those with none left out
 abbrev pub guessed_rows : Bounded → List CountedRow
-guessed_rows rows = present ordinary numbers (map (λ r. entry (guesses r.cells) r.annot.guess) rows)
+guessed_rows rows = present ordinary counting_annotations (map (λ r. entry (guesses r.cells) r.annot.guess) rows)

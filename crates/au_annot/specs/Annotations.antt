@@ -29,7 +29,7 @@ abbrev pub IsLeast : {A : Type 0} → (A → A → Bool) → A → Type 0
 IsLeast {A} at_most zero = (a : A) → IsTrue (at_most zero a)
 
 -- the range holds zero and one, and what is at most an annotation in it
-pub record IsRange {A : Type 0} (at_most : A → A → Bool) (zero one : A) (in_range : A → Bool) : Type 0 where
+pub record IsRangeTest {A : Type 0} (at_most : A → A → Bool) (zero one : A) (in_range : A → Bool) : Type 0 where
   pub zero_within : IsTrue (in_range zero)
   pub one_within : IsTrue (in_range one)
   pub downward : (a b : A) → IsTrue (at_most a b) → IsTrue (in_range b) → IsTrue (in_range a)
@@ -40,6 +40,6 @@ IsMonus {A} at_most plus monus =
     (a b c : A) → IsTrue (at_most (monus a b) c) ↔ IsTrue (at_most a (plus b c))
 
 -- the sum of several annotations
-abbrev pub sum_of : {A : Type 0} → A → (A → A → A) → List A → A
-sum_of zero plus [] = zero
-sum_of zero plus (x ∷ xs) = plus x (sum_of zero plus xs)
+abbrev pub annotation_sum : {A : Type 0} → A → (A → A → A) → List A → A
+annotation_sum zero plus [] = zero
+annotation_sum zero plus (x ∷ xs) = plus x (annotation_sum zero plus xs)

@@ -3,8 +3,8 @@
 use Rattle.std.specs.Prelude.{◌+◌, ◌-◌, ◌*◌, nat_le, refl}
 use Rattle.std.proofs.Common.{sym, ◌∙◌, le_refl, le_trans, le_antisymm, lt_of_le_of_lt, zero-le, add-le-add, mul-le-mul, add_assoc, add_comm, add-zero, mul_assoc, mul_comm, mul-one, mul-zero, mul-add, sub-eq-zero_of_le, le-leb, leb-true, lt-ltb, ltb-true}
 use Rattle.std.proofs.Math.Nat.{sub-add-eq, le_of_sub-eq-zero}
-use Rattle.au_annot.specs.Annotations.{IsPartialOrder, IsCommutativeSemiring, KeepsOrder, IsLeast, IsRange, IsMonus}
-use Rattle.au_annot.specs.Counts.{fits}
+use Rattle.au_annot.specs.Annotations.{IsPartialOrder, IsCommutativeSemiring, KeepsOrder, IsLeast, IsRangeTest, IsMonus}
+use Rattle.au_annot.specs.Counts.{count_fits}
 
 -- the order of numbers
 pub count_order : IsPartialOrder nat_le
@@ -40,7 +40,7 @@ pub count_zero_least : IsLeast nat_le 0
 count_zero_least a = le-leb 0 a zero-le
 
 -- the numbers below 2^127 hold 0, 1, and what is at most one of them
-pub count_range : IsRange nat_le 0 1 fits
+pub count_range : IsRangeTest nat_le 0 1 count_fits
 count_range = record {
   zero_within = refl;
   one_within = refl;

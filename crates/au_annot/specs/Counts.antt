@@ -3,5 +3,5 @@
 use Rattle.std.specs.Prelude.{ℕ, ◌^◌, Bool, nat_lt}
 
 -- whether a count exceeds 2^127-1 in no way
-abbrev pub fits : ℕ → Bool
-fits n = nat_lt n (2 ^ 127)
+abbrev pub count_fits : ℕ → Bool
+count_fits n = nat_lt n (2 ^ 127)

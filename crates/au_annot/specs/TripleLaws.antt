@@ -3,9 +3,9 @@
 use Rattle.std.specs.Prelude.{◌≡◌, ℕ, ◌+◌, ◌*◌, Bool, true, false, ◌&&◌, IsTrue, nat_le, refl}
 use Rattle.std.proofs.Common.{sym, ap, ◌∙◌}
 use Rattle.std.proofs.lemmas.Bool.{true≢false}
-use Rattle.au_annot.specs.Annotations.{IsPartialOrder, IsCommutativeSemiring, KeepsOrder, IsLeast, IsRange}
+use Rattle.au_annot.specs.Annotations.{IsPartialOrder, IsCommutativeSemiring, KeepsOrder, IsLeast, IsRangeTest}
 use Rattle.au_annot.specs.CountLaws.{count_order, count_semiring, count_plus_keeps, count_times_keeps, count_zero_least, count_range}
-use Rattle.au_annot.specs.Counts.{fits}
+use Rattle.au_annot.specs.Counts.{count_fits}
 use Rattle.au_annot.specs.Triples.{Counts, counts, plus, times, none, one, at_most, in_range}
 
 -- the three parts of a conjunction of three tests
@@ -108,13 +108,13 @@ pub triple_zero_least : IsLeast at_most none
 triple_zero_least a = all_below none a (count_zero_least a.least) (count_zero_least a.guess) (count_zero_least a.most)
 
 -- the triples of numbers below 2^127 hold those of no and of one copy, and what is at most one of them
-pub triple_range : IsRange at_most none one in_range
+pub triple_range : IsRangeTest at_most none one in_range
 triple_range = record {
   zero_within = refl;
   one_within = refl;
   downward = λ a b h g.
-      all_three (fits a.least) (fits a.guess) (fits a.most)
-      (count_range.downward a.least b.least (least_below a b h) (first_of (fits b.least) (fits b.guess) (fits b.most) g))
-      (count_range.downward a.guess b.guess (guess_below a b h) (second_of (fits b.least) (fits b.guess) (fits b.most) g))
-      (count_range.downward a.most b.most (most_below a b h) (third_of (fits b.least) (fits b.guess) (fits b.most) g));
+      all_three (count_fits a.least) (count_fits a.guess) (count_fits a.most)
+      (count_range.downward a.least b.least (least_below a b h) (first_of (count_fits b.least) (count_fits b.guess) (count_fits b.most) g))
+      (count_range.downward a.guess b.guess (guess_below a b h) (second_of (count_fits b.least) (count_fits b.guess) (count_fits b.most) g))
+      (count_range.downward a.most b.most (most_below a b h) (third_of (count_fits b.least) (count_fits b.guess) (count_fits b.most) g));
 }

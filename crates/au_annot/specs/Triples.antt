@@ -1,7 +1,7 @@
 -- A triple says how often a tuple occurs at least, in the selected-guess world, and at most, over all possible worlds
 -- (Feng, Huber, Glavic, Kennedy, SIGMOD 2021). Sum, product and order go component by component.
 use Rattle.std.specs.Prelude.{ℕ, ◌+◌, ◌*◌, ◌≤◌, Bool, ◌&&◌, List, [], ◌∷◌, ◌==◌, nat_le}
-use Rattle.au_annot.specs.Counts.{fits}
+use Rattle.au_annot.specs.Counts.{count_fits}
 
 -- how often a tuple occurs at least, in the selected-guess world, and at most
 pub record Counts : Type 0 where
@@ -37,12 +37,12 @@ at_most a b = nat_le a.least b.least && nat_le a.guess b.guess && nat_le a.most 
 
 -- whether no component exceeds 2^127-1
 abbrev pub in_range : Counts → Bool
-in_range t = fits t.least && fits t.guess && fits t.most
+in_range t = count_fits t.least && count_fits t.guess && count_fits t.most
 
 -- the sum of several triples
-abbrev pub total : List Counts → Counts
-total [] = none
-total (t ∷ ts) = plus t (total ts)
+abbrev pub total_counts : List Counts → Counts
+total_counts [] = none
+total_counts (t ∷ ts) = plus t (total_counts ts)
 
 -- whether no copy is possible
 abbrev pub is_none : Counts → Bool

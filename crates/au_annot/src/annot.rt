@@ -1,6 +1,6 @@
 //! What an annotation is: a commutative semiring with a partial order.
 ghost use Rattle.std.specs.Prelude.{◌≡◌, Bool, IsTrue, IsFalse, IsErr, IfOk, ◌↔◌};
-ghost use Rattle.au_annot.specs.Annotations.{IsPartialOrder, IsCommutativeSemiring, KeepsOrder, IsLeast, IsRange, IsMonus};
+ghost use Rattle.au_annot.specs.Annotations.{IsPartialOrder, IsCommutativeSemiring, KeepsOrder, IsLeast, IsRangeTest, IsMonus};
 
 use au_value::Overflow;
 
@@ -58,7 +58,7 @@ pub trait Annot: Copy {
 
     ghost zero_least: { IsLeast at_most zero };
 
-    ghost range: { IsRange at_most zero one in_range };
+    ghost range: { IsRangeTest at_most zero one in_range };
 }
 
 /// Annotations with a difference that stops at zero.

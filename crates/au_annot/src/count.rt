@@ -1,6 +1,6 @@
 //! How often a tuple occurs.
 ghost use Rattle.std.specs.Prelude.{◌≡◌, ℕ, ◌+◌, ◌-◌, ◌*◌, ◌<◌, ◌^◌, ◌≤◌, IsNone, IfSome, ◌↔◌, nat_le};
-ghost use Rattle.au_annot.specs.Counts.{fits};
+ghost use Rattle.au_annot.specs.Counts.{count_fits};
 ghost use Rattle.au_annot.specs.CountLaws.{count_order, count_semiring, count_plus_keeps, count_times_keeps, count_zero_least, count_range, count_monus};
 
 use crate::annot::{Annot, Monus};
@@ -58,7 +58,7 @@ impl Annot for Count {
 
     ghost at_most = { nat_le };
 
-    ghost in_range = { fits };
+    ghost in_range = { count_fits };
 
     ghost IsValid = { λ _. Unit {0} };
 

@@ -9,7 +9,7 @@ use Rattle.std.proofs.lemmas.List.Elements.{filter-append}
 use Rattle.std.proofs.lemmas.Slice.Eq.{bytes_eq-Decides}
 use Rattle.indexmap.specs.IndexSet.{insert_key}
 use Rattle.au_value.specs.Texts.{Text}
-use Rattle.au_blocks.specs.Entries.{distinct}
+use Rattle.au_blocks.specs.Entries.{distinct_labels}
 
 -- a text is equal to itself, and the other way round
 pub itself : (x : Text) → bytes_eq x x ≡ true
@@ -45,12 +45,12 @@ none-others x (y ∷ xs) =
     ]
 
 -- the distinct texts are those of the list
-pub any-distinct : (z : Text) (xs : List Text) → list_any (bytes_eq z) (distinct xs) ≡ list_any (bytes_eq z) xs
+pub any-distinct : (z : Text) (xs : List Text) → list_any (bytes_eq z) (distinct_labels xs) ≡ list_any (bytes_eq z) xs
 any-distinct z [] = refl
 any-distinct z (x ∷ xs) =
     elim (cases_Bool (bytes_eq z x)) [
       | inl here ↦ rw here refl
-      | inr here ↦ rw here (any-others x z (distinct xs) (turned x z ∙ here) ∙ any-distinct z xs)
+      | inr here ↦ rw here (any-others x z (distinct_labels xs) (turned x z ∙ here) ∙ any-distinct z xs)
     ]
 
 -- a text more
@@ -69,14 +69,14 @@ others-same x y xs here =
       | false ↦ filter-append (λ z. not (bytes_eq x z)) xs (y ∷ []) ∙ rw here (append-nil (others x xs))
     ]
 
-pub distinct-push : (xs : List Text) (y : Text) → distinct (xs ++ y ∷ []) ≡ insert_key bytes_eq (distinct xs) y
+pub distinct-push : (xs : List Text) (y : Text) → distinct_labels (xs ++ y ∷ []) ≡ insert_key bytes_eq (distinct_labels xs) y
 distinct-push [] y = refl
 distinct-push (x ∷ xs) y =
     elim (cases_Bool (bytes_eq x y)) [
-      | inl here ↦ rw (distinct-push xs y, others-same x y (distinct xs) here, turned y x, here) refl
+      | inl here ↦ rw (distinct-push xs y, others-same x y (distinct_labels xs) here, turned y x, here) refl
       | inr here ↦
-          rw (distinct-push xs y, others-insert x y (distinct xs) here, turned y x, here)
-          (elim (list_any (bytes_eq y) (others x (distinct xs))) as (λ b. x ∷ cond b (others x (distinct xs)) (others x (distinct xs) ++ y ∷ []) ≡ cond b (x ∷ others x (distinct xs)) (x ∷ others x (distinct xs) ++ y ∷ [])) [
+          rw (distinct-push xs y, others-insert x y (distinct_labels xs) here, turned y x, here)
+          (elim (list_any (bytes_eq y) (others x (distinct_labels xs))) as (λ b. x ∷ cond b (others x (distinct_labels xs)) (others x (distinct_labels xs) ++ y ∷ []) ≡ cond b (x ∷ others x (distinct_labels xs)) (x ∷ others x (distinct_labels xs) ++ y ∷ [])) [
             | true ↦ refl
             | false ↦ refl
           ])
@@ -108,6 +108,6 @@ apart-filter p (one {x} {xs} h t) =
       | false ↦ apart-filter p t
     ]
 
-pub apart-distinct : (xs : List Text) → Apart (distinct xs)
+pub apart-distinct : (xs : List Text) → Apart (distinct_labels xs)
 apart-distinct [] = none
-apart-distinct (x ∷ xs) = one (none-others x (distinct xs)) (apart-filter (λ y. not (bytes_eq x y)) (apart-distinct xs))
+apart-distinct (x ∷ xs) = one (none-others x (distinct_labels xs)) (apart-filter (λ y. not (bytes_eq x y)) (apart-distinct xs))

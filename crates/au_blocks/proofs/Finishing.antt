@@ -8,7 +8,7 @@ use Rattle.au_csv.specs.Texts.{Record}
 use Rattle.au_blocks.specs.declared.faults.TableFault.{TableFault}
 use Rattle.au_blocks.specs.declared.format.Format.TheVariants as format
 use Rattle.au_blocks.specs.Blocks.{Choices}
-use Rattle.au_blocks.specs.Entries.{Entry, blocks_of}
+use Rattle.au_blocks.specs.Entries.{BlockEntry, entry_blocks}
 use Rattle.au_blocks.specs.Defects.{block_defects, blocks_defects}
 use Rattle.au_blocks.specs.Read.{block_of, first, unless}
 use Rattle.au_blocks.specs.Gathered.{Gathered, gathered, finished, after, and_after, all_finished}
@@ -46,14 +46,14 @@ unless-cons (x ∷ xs) [] b bs = refl
 unless-cons (x ∷ xs) (y ∷ ys) b bs = refl
 
 -- all blocks of the entries, or the first defect of one
-finished-from : (kinds : List Kind) (n : ℕ) (blocks : List (List Entry))
+finished-from : (kinds : List Kind) (n : ℕ) (blocks : List (List BlockEntry))
     → all_finished n (map (gathered kinds) blocks) ≡ unless (first (flat_map block_defects (enumerate_from n blocks))) (map (block_of kinds) blocks)
 finished-from kinds n [] = refl
 finished-from kinds n (es ∷ blocks) =
     rw (finished-gathered kinds es n, finished-from kinds (n + 1) blocks)
     (unless-cons (block_defects (n, es)) (flat_map block_defects (enumerate_from (n + 1) blocks)) (block_of kinds es) (map (block_of kinds) blocks))
 
-pub finished-blocks : (kinds : List Kind) (blocks : List (List Entry)) → all_finished 0 (map (gathered kinds) blocks) ≡ unless (first (blocks_defects blocks)) (map (block_of kinds) blocks)
+pub finished-blocks : (kinds : List Kind) (blocks : List (List BlockEntry)) → all_finished 0 (map (gathered kinds) blocks) ≡ unless (first (blocks_defects blocks)) (map (block_of kinds) blocks)
 finished-blocks kinds blocks = finished-from kinds 0 blocks
 
 -- a fault of the whole is its first defect
@@ -62,9 +62,9 @@ unless-err None t e is = cc
 unless-err (Some x) t e is = cc
 
 -- the blocks of a plain table have no defect
-plain-from : (n : ℕ) (rows : List Record) → first (flat_map block_defects (enumerate_from n (blocks_of format.Plain rows))) ≡ None
+plain-from : (n : ℕ) (rows : List Record) → first (flat_map block_defects (enumerate_from n (entry_blocks format.Plain rows))) ≡ None
 plain-from n [] = refl
 plain-from n (r ∷ rows) = plain-from (n + 1) rows
 
-pub plain-blocks : (rows : List Record) → first (blocks_defects (blocks_of format.Plain rows)) ≡ None
+pub plain-blocks : (rows : List Record) → first (blocks_defects (entry_blocks format.Plain rows)) ≡ None
 plain-blocks rows = plain-from 0 rows

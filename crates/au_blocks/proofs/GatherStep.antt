@@ -10,7 +10,7 @@ use Rattle.au_value.specs.declared.kinds.Kind.{Kind}
 use Rattle.au_csv.specs.Texts.{Record}
 use Rattle.au_blocks.specs.declared.format.Format.{Format}
 use Rattle.au_blocks.specs.Headers.{has_blocks}
-use Rattle.au_blocks.specs.Entries.{Entry, entry_of, entries_of, label_of, labelled, distinct, blocks_of}
+use Rattle.au_blocks.specs.Entries.{BlockEntry, block_entry_of, entries_of, label_of, labelled, distinct_labels, entry_blocks}
 use Rattle.au_blocks.specs.Gathered.{Gathered, gathered, nothing, with_entry}
 use Rattle.au_blocks.proofs.Gathering.{gathered-push}
 use Rattle.au_blocks.proofs.Places.{absent-place, known-place}
@@ -69,13 +69,13 @@ labelled-absent l (r ∷ rows) absent =
 abbrev pub under : Format → List Kind → List Record → Text → Gathered
 under f kinds rows label = gathered kinds (entries_of f (labelled label rows))
 
-under-same : (f : Format) (kinds : List Kind) (rows : List Record) (r : Record) (e : Entry) → entry_of f r ≡ Some e
+under-same : (f : Format) (kinds : List Kind) (rows : List Record) (r : Record) (e : BlockEntry) → block_entry_of f r ≡ Some e
     → under f kinds (rows ++ r ∷ []) (label_of r) ≡ with_entry kinds (under f kinds rows (label_of r)) e
 under-same f kinds rows r e is =
     let records : labelled (label_of r) (rows ++ r ∷ []) ≡ labelled (label_of r) rows ++ r ∷ [] =
     rw (itself (label_of r)) at (filter-append (λ (x : Record). bytes_eq (label_of r) (label_of x)) rows (r ∷ [])) in
     let entries : entries_of f (labelled (label_of r) (rows ++ r ∷ [])) ≡ entries_of f (labelled (label_of r) rows) ++ e ∷ [] =
-    ap (entries_of f) records ∙ filter_map-append (entry_of f) (labelled (label_of r) rows) (r ∷ []) ∙ ap (λ o. entries_of f (labelled (label_of r) rows) ++ cons_option o []) is in
+    ap (entries_of f) records ∙ filter_map-append (block_entry_of f) (labelled (label_of r) rows) (r ∷ []) ∙ ap (λ o. entries_of f (labelled (label_of r) rows) ++ cons_option o []) is in
     ap (gathered kinds) entries ∙ gathered-push kinds (entries_of f (labelled (label_of r) rows)) e
 
 under-other : (f : Format) (kinds : List Kind) (rows : List Record) (r : Record) (m : Text) → bytes_eq (label_of r) m ≡ false
@@ -88,7 +88,7 @@ under-other f kinds rows r m apart =
 
 -- the labels of the records so far, and what is gathered under each
 abbrev pub labels : List Record → List Text
-labels rows = distinct (map label_of rows)
+labels rows = distinct_labels (map label_of rows)
 
 abbrev pub builders : Format → List Kind → List Record → List Gathered
 builders f kinds rows = map (under f kinds rows) (labels rows)
@@ -98,9 +98,9 @@ abbrev pub with_builder : List Gathered → Bool → List Gathered
 with_builder gs known = gs ++ cond known [] (nothing ∷ [])
 
 pub labels-push : (rows : List Record) (r : Record) → labels (rows ++ r ∷ []) ≡ insert_key bytes_eq (labels rows) (label_of r)
-labels-push rows r = ap distinct (map-append label_of rows (r ∷ [])) ∙ distinct-push (map label_of rows) (label_of r)
+labels-push rows r = ap distinct_labels (map-append label_of rows (r ∷ [])) ∙ distinct-push (map label_of rows) (label_of r)
 
-step-known : (f : Format) (kinds : List Kind) (rows : List Record) (r : Record) (e : Entry) → entry_of f r ≡ Some e → list_any (bytes_eq (label_of r)) (labels rows) ≡ true
+step-known : (f : Format) (kinds : List Kind) (rows : List Record) (r : Record) (e : BlockEntry) → block_entry_of f r ≡ Some e → list_any (bytes_eq (label_of r)) (labels rows) ≡ true
     → set (builders f kinds rows) (position_or_len (bytes_eq (label_of r)) (labels rows)) (with_entry kinds (get_or (builders f kinds rows) (position_or_len (bytes_eq (label_of r)) (labels rows)) nothing) e)
     ≡ map (under f kinds (rows ++ r ∷ [])) (labels rows)
 step-known f kinds rows r e is known =
@@ -110,7 +110,7 @@ step-known f kinds rows r e is known =
     rw (get-label G H l (under-other f kinds rows r) (labels rows) nothing known, ← under-same f kinds rows r e is)
     (set-label G H l (under-other f kinds rows r) (labels rows) (apart-distinct (map label_of rows)) known)
 
-step-new : (f : Format) (kinds : List Kind) (rows : List Record) (r : Record) (e : Entry) → entry_of f r ≡ Some e → list_any (bytes_eq (label_of r)) (labels rows) ≡ false
+step-new : (f : Format) (kinds : List Kind) (rows : List Record) (r : Record) (e : BlockEntry) → block_entry_of f r ≡ Some e → list_any (bytes_eq (label_of r)) (labels rows) ≡ false
     → set (builders f kinds rows ++ nothing ∷ []) (position_or_len (bytes_eq (label_of r)) (labels rows)) (with_entry kinds (get_or (builders f kinds rows ++ nothing ∷ []) (position_or_len (bytes_eq (label_of r)) (labels rows)) nothing) e)
     ≡ map (under f kinds (rows ++ r ∷ [])) (labels rows ++ label_of r ∷ [])
 step-new f kinds rows r e is new =
@@ -128,7 +128,7 @@ step-new f kinds rows r e is new =
     ∙ sym (map-append H (labels rows) (l ∷ [])))
 
 -- a record more: its label's builder has one entry more
-pub builders-push : (f : Format) (kinds : List Kind) (rows : List Record) (r : Record) (e : Entry) → entry_of f r ≡ Some e
+pub builders-push : (f : Format) (kinds : List Kind) (rows : List Record) (r : Record) (e : BlockEntry) → block_entry_of f r ≡ Some e
     → (gs : List Gathered) → gs ≡ with_builder (builders f kinds rows) (list_any (bytes_eq (label_of r)) (labels rows))
     → set gs (position_or_len (bytes_eq (label_of r)) (labels rows)) (with_entry kinds (get_or gs (position_or_len (bytes_eq (label_of r)) (labels rows)) nothing) e) ≡ builders f kinds (rows ++ r ∷ [])
 builders-push f kinds rows r e is gs are =
@@ -157,7 +157,7 @@ place-within f kinds rows l gs are =
     ]
 
 -- what is gathered under each label is what each block's entries amount to
-pub builders-blocks : (f : Format) (kinds : List Kind) (rows : List Record) → has_blocks f ≡ true → builders f kinds rows ≡ map (gathered kinds) (blocks_of f rows)
+pub builders-blocks : (f : Format) (kinds : List Kind) (rows : List Record) → has_blocks f ≡ true → builders f kinds rows ≡ map (gathered kinds) (entry_blocks f rows)
 builders-blocks f kinds rows is = rw is (map-both (labels rows)) where
   map-both : (ls : List Text) → map (under f kinds rows) ls ≡ map (gathered kinds) (map (λ label. entries_of f (labelled label rows)) ls)
   map-both [] = refl

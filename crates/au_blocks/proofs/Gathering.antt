@@ -9,7 +9,7 @@ use Rattle.std.proofs.lemmas.List.Folds.{position_or_len_push, sum_by-zero}
 use Rattle.std.proofs.lemmas.List.Sums.{sum_by_push, prefix_len-le-length}
 use Rattle.std.proofs.lemmas.Bool.{cases_Bool, lt-ltb, le-ltb, ne_eqb, eqb-true}
 use Rattle.au_value.specs.declared.kinds.Kind.{Kind}
-use Rattle.au_blocks.specs.Entries.{Entry, is_marked, is_absent, alternatives}
+use Rattle.au_blocks.specs.Entries.{BlockEntry, is_marked, is_absent, alternatives}
 use Rattle.au_blocks.specs.Gathered.{seen_of, more, is_never, is_again, Gathered, gathered, gathered_defect, finished, with_entry, with_row, with_absence}
 use Rattle.au_blocks.specs.Defects.{block_defects, where_true}
 use Rattle.au_blocks.specs.Read.{candidate_of, block_of, first, unless}
@@ -22,7 +22,7 @@ more-times zero = refl
 more-times (suc zero) = refl
 more-times (suc (suc n)) = let e : suc (suc (suc n)) ≡ suc (suc n) + 1 = omega arith in subst (λ k. seen_of k ≡ more (seen_of (suc (suc n)))) e refl
 
-times-push : (p : Entry → Bool) (entries : List Entry) (e : Entry) → seen_of (count_by p (entries ++ e ∷ [])) ≡ cond (p e) (more (seen_of (count_by p entries))) (seen_of (count_by p entries))
+times-push : (p : BlockEntry → Bool) (entries : List BlockEntry) (e : BlockEntry) → seen_of (count_by p (entries ++ e ∷ [])) ≡ cond (p e) (more (seen_of (count_by p entries))) (seen_of (count_by p entries))
 times-push p entries e =
     rw (sum_by_push (λ x. cond (p x) 1 0) entries e)
     (elim (p e) as (λ b. seen_of (count_by p entries + cond b 1 0) ≡ cond b (more (seen_of (count_by p entries))) (seen_of (count_by p entries))) [
@@ -62,16 +62,16 @@ same-gathered : (a b : Gathered) → a.rows ≡ b.rows → a.marked ≡ b.marked
 same-gathered a b rows marked absent guess = λ i. record { rows = rows i; marked = marked i; absent = absent i; guess = guess i }
 
 -- the alternatives, one entry more
-alternatives-push : (entries : List Entry) (e : Entry) → alternatives (entries ++ e ∷ []) ≡ alternatives entries ++ cond (not (is_absent e.role)) (e ∷ []) []
+alternatives-push : (entries : List BlockEntry) (e : BlockEntry) → alternatives (entries ++ e ∷ []) ≡ alternatives entries ++ cond (not (is_absent e.role)) (e ∷ []) []
 alternatives-push entries e = filter-append (λ x. not (is_absent x.role)) entries (e ∷ [])
 
 -- one alternative more
-gathered-row : (kinds : List Kind) (entries : List Entry) (e : Entry) → is_absent e.role ≡ false
+gathered-row : (kinds : List Kind) (entries : List BlockEntry) (e : BlockEntry) → is_absent e.role ≡ false
     → gathered kinds (entries ++ e ∷ []) ≡ with_row (gathered kinds entries) (is_marked e.role) (candidate_of kinds e)
 gathered-row kinds entries e here =
     let alts : alternatives (entries ++ e ∷ []) ≡ alternatives entries ++ e ∷ [] = rw here at (alternatives-push entries e) in
     let g = candidate_of kinds in
-    let m = λ (x : Entry). is_marked x.role in
+    let m = λ (x : BlockEntry). is_marked x.role in
     same-gathered (gathered kinds (entries ++ e ∷ [])) (with_row (gathered kinds entries) (is_marked e.role) (candidate_of kinds e))
     (ap (map g) alts ∙ map-append g (alternatives entries) (e ∷ []))
     (times-push m entries e)
@@ -79,11 +79,11 @@ gathered-row kinds entries e here =
     (ap (position m) alts ∙ position-push m (alternatives entries) e ∙ ap (λ n. option_or (position m (alternatives entries)) (cond (m e) (Some n) None)) (sym (length-map (alternatives entries) g)))
 
 -- one absent record more
-gathered-absence : (kinds : List Kind) (entries : List Entry) (e : Entry) → is_absent e.role ≡ true
+gathered-absence : (kinds : List Kind) (entries : List BlockEntry) (e : BlockEntry) → is_absent e.role ≡ true
     → gathered kinds (entries ++ e ∷ []) ≡ with_absence (gathered kinds entries) (is_marked e.role)
 gathered-absence kinds entries e here =
     let alts : alternatives (entries ++ e ∷ []) ≡ alternatives entries = rw here at (alternatives-push entries e) ∙ append-nil (alternatives entries) in
-    let m = λ (x : Entry). is_marked x.role in
+    let m = λ (x : BlockEntry). is_marked x.role in
     same-gathered (gathered kinds (entries ++ e ∷ [])) (with_absence (gathered kinds entries) (is_marked e.role))
     (ap (map (candidate_of kinds)) alts)
     (times-push m entries e)
@@ -91,7 +91,7 @@ gathered-absence kinds entries e here =
     (ap (position m) alts)
 
 -- one entry more
-pub gathered-push : (kinds : List Kind) (entries : List Entry) (e : Entry) → gathered kinds (entries ++ e ∷ []) ≡ with_entry kinds (gathered kinds entries) e
+pub gathered-push : (kinds : List Kind) (entries : List BlockEntry) (e : BlockEntry) → gathered kinds (entries ++ e ∷ []) ≡ with_entry kinds (gathered kinds entries) e
 gathered-push kinds entries e =
     elim (cases_Bool (is_absent e.role)) [
       | inl here ↦ rw here (gathered-absence kinds entries e here)
@@ -118,10 +118,10 @@ first-of-four false false true d w x y z = refl
 first-of-four false false false true w x y z = refl
 first-of-four false false false false w x y z = refl
 
-gathered_defect-first : (kinds : List Kind) (entries : List Entry) (n : ℕ) → gathered_defect n (gathered kinds entries) ≡ first (block_defects (n, entries))
+gathered_defect-first : (kinds : List Kind) (entries : List BlockEntry) (n : ℕ) → gathered_defect n (gathered kinds entries) ≡ first (block_defects (n, entries))
 gathered_defect-first kinds entries n =
-    let marks = count_by (λ (x : Entry). is_marked x.role) entries in
-    let absents = count_by (λ (x : Entry). is_absent x.role) entries in
+    let marks = count_by (λ (x : BlockEntry). is_marked x.role) entries in
+    let absents = count_by (λ (x : BlockEntry). is_absent x.role) entries in
     rw (is_again-times marks, is_never-times marks, is_again-times absents, length-map (alternatives entries) (candidate_of kinds))
     (sym (first-of-four (ltb 1 marks) (eqb marks 0) (eqb (length (alternatives entries)) 0) (ltb 1 absents) (fault.TwoGuesses n) (fault.NoGuess n) (fault.OnlyAbsent n) (fault.TwoAbsent n)))
 
@@ -132,14 +132,14 @@ any-none p (x ∷ xs) =
     elim (p x) as (λ b. (b || list_any p xs) ≡ not (eqb (cond b 1 0) 0 && list_all (λ z. eqb (cond (p z) 1 0) 0) xs)) [ true ↦ refl | false ↦ any-none p xs ]
 
 -- whether some entry passes
-pub any-count : (p : Entry → Bool) (entries : List Entry) → list_any p entries ≡ not (eqb (count_by p entries) 0)
-any-count p entries = any-none p entries ∙ ap not (sym (sum_by-zero (λ (x : Entry). cond (p x) 1 0) entries))
+pub any-count : (p : BlockEntry → Bool) (entries : List BlockEntry) → list_any p entries ≡ not (eqb (count_by p entries) 0)
+any-count p entries = any-none p entries ∙ ap not (sym (sum_by-zero (λ (x : BlockEntry). cond (p x) 1 0) entries))
 
-any-times : (p : Entry → Bool) (entries : List Entry) → list_any p entries ≡ not (is_never (seen_of (count_by p entries)))
+any-times : (p : BlockEntry → Bool) (entries : List BlockEntry) → list_any p entries ≡ not (is_never (seen_of (count_by p entries)))
 any-times p entries = any-count p entries ∙ ap not (sym (is_never-times (count_by p entries)))
 
 -- the block that the entries amount to, or its first defect
-pub finished-gathered : (kinds : List Kind) (entries : List Entry) (n : ℕ)
+pub finished-gathered : (kinds : List Kind) (entries : List BlockEntry) (n : ℕ)
     → finished n (gathered kinds entries) ≡ unless (first (block_defects (n, entries))) (block_of kinds entries)
 finished-gathered kinds entries n =
-    rw (gathered_defect-first kinds entries n, any-times (λ (x : Entry). is_absent x.role) entries) refl
+    rw (gathered_defect-first kinds entries n, any-times (λ (x : BlockEntry). is_absent x.role) entries) refl

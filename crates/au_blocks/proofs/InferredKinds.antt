@@ -8,11 +8,11 @@ use Rattle.au_blocks.specs.declared.role.Role.{Role}
 use Rattle.au_blocks.specs.declared.role.Role.TheVariants as role
 use Rattle.au_blocks.specs.Blocks.{Copies}
 use Rattle.au_blocks.specs.Headers.{cells_of}
-use Rattle.au_blocks.specs.Entries.{Entry, entry, field, role_of, copies_in, alternatives, entries_of}
+use Rattle.au_blocks.specs.Entries.{BlockEntry, block_entry, field, role_of, copies_in, alternatives, entries_of}
 use Rattle.au_blocks.specs.Inferring.{is_numeral, inferred, inferred_kind, offers_row, is_alternative, holds_numeral}
 
 -- the fields of a column in the alternatives
-abbrev texts : ℕ → List Entry → List (List ℕ)
+abbrev texts : ℕ → List BlockEntry → List (List ℕ)
 texts k entries = map (λ e. field k e.cells) (alternatives entries)
 
 abbrev nonempty : List (List ℕ) → Bool
@@ -20,16 +20,16 @@ nonempty [] = false
 nonempty (x ∷ xs) = true
 
 -- one record more in front
-all-cons : (k : ℕ) (copies : Copies) (cells : Record) (o : Option Role) (rest : List Entry)
-    → list_all is_numeral (texts k (cons_option (option_map (λ x. entry x copies cells) o) rest)) ≡ ((not (offers_row o) || is_numeral (field k cells)) && list_all is_numeral (texts k rest))
+all-cons : (k : ℕ) (copies : Copies) (cells : Record) (o : Option Role) (rest : List BlockEntry)
+    → list_all is_numeral (texts k (cons_option (option_map (λ x. block_entry x copies cells) o) rest)) ≡ ((not (offers_row o) || is_numeral (field k cells)) && list_all is_numeral (texts k rest))
 all-cons k copies cells None rest = refl
 all-cons k copies cells (Some role.Guess) rest = refl
 all-cons k copies cells (Some role.Alternative) rest = refl
 all-cons k copies cells (Some role.Absent) rest = refl
 all-cons k copies cells (Some role.AbsentGuess) rest = refl
 
-any-cons : (k : ℕ) (copies : Copies) (cells : Record) (o : Option Role) (rest : List Entry)
-    → nonempty (texts k (cons_option (option_map (λ x. entry x copies cells) o) rest)) ≡ (offers_row o || nonempty (texts k rest))
+any-cons : (k : ℕ) (copies : Copies) (cells : Record) (o : Option Role) (rest : List BlockEntry)
+    → nonempty (texts k (cons_option (option_map (λ x. block_entry x copies cells) o) rest)) ≡ (offers_row o || nonempty (texts k rest))
 any-cons k copies cells None rest = refl
 any-cons k copies cells (Some role.Guess) rest = refl
 any-cons k copies cells (Some role.Alternative) rest = refl

@@ -27,9 +27,9 @@ use Rattle.au_blocks.specs.declared.faults.TableFault.TheVariants as fault
 use Rattle.au_blocks.specs.Blocks.{Copies, IsCopies, once, copies_of, Choices, IsBlock, MayMark}
 use Rattle.au_blocks.specs.Tables.{IsBlockTable, table, fits_kinds, is_range_of}
 use Rattle.au_blocks.specs.Headers.{format_of, has_blocks, has_copies, lead, cells_of, cut, kind_named, column_name, column_names, written_kind, written_kinds}
-use Rattle.au_blocks.specs.Spellings.{Parts, parts, three, range_of, number_written, value_written, range_written, field_written, is_count, count_written, ordered_copies, copies_written}
-use Rattle.au_blocks.specs.Entries.{Entry, entry, field, role_of, is_marked, is_absent, has_role, written_copies, copies_in, entry_of, entries_of, alternatives, label_of, labelled, distinct, blocks_of}
-use Rattle.au_blocks.specs.Inferring.{is_numeral, inferred, inferred_kind, column_kind, kinds_of, is_alternative, holds_numeral}
+use Rattle.au_blocks.specs.Spellings.{Parts, parts, three, number_range, number_written, value_written, range_written, field_written, is_count, count_written, ordered_copies, copies_written}
+use Rattle.au_blocks.specs.Entries.{BlockEntry, block_entry, field, role_of, is_marked, is_absent, has_role, written_copies, copies_in, block_entry_of, entries_of, alternatives, label_of, labelled, distinct_labels, entry_blocks}
+use Rattle.au_blocks.specs.Inferring.{is_numeral, inferred, inferred_kind, column_kind, inferred_kinds, is_alternative, holds_numeral}
 use Rattle.au_blocks.specs.Defects.{where_true, is_field, bad_fields, alternative_defects, role_defects, record_defects, rows_defects, block_defects, blocks_defects, schema_defects}
 use Rattle.au_blocks.specs.Read.{cell, row, candidate_of, block_of, columns_of, header_kinds, header_columns, first}
 use Rattle.au_blocks.proofs.Gathering.{any-count}
@@ -91,25 +91,25 @@ certain-fits k v here = rw (here, at_most_refl v) refl
 
 -- a range of numbers in order is one of their kind
 ordered-fits : (a b : Bool) (lo guess hi : ℤ) (d : Span) → at_most (value.Int lo) (value.Int guess) ≡ a → at_most (value.Int guess) (value.Int hi) ≡ b
-    → is_some (range_of lo guess hi) ≡ true → is_range_of kind.Int (unwrap_or (range_of lo guess hi) d) ≡ true
+    → is_some (number_range lo guess hi) ≡ true → is_range_of kind.Int (unwrap_or (number_range lo guess hi) d) ≡ true
 ordered-fits true true lo guess hi d low high some =
-    let e : range_of lo guess hi ≡ Some (range (value.Int lo) (value.Int guess) (value.Int hi)) = rw (low, high) refl in
+    let e : number_range lo guess hi ≡ Some (range (value.Int lo) (value.Int guess) (value.Int hi)) = rw (low, high) refl in
     subst (λ o. is_range_of kind.Int (unwrap_or o d) ≡ true) (sym e) (and_from _ _ low high)
 ordered-fits true false lo guess hi d low high some = let no : false ≡ true = rw (low, high) at some in cc
 ordered-fits false b lo guess hi d low high some = let no : false ≡ true = rw low at some in cc
 
-three-fits : (a b c : Option ℤ) (d : Span) → is_some (three range_of a b c) ≡ true → is_range_of kind.Int (unwrap_or (three range_of a b c) d) ≡ true
+three-fits : (a b c : Option ℤ) (d : Span) → is_some (three number_range a b c) ≡ true → is_range_of kind.Int (unwrap_or (three number_range a b c) d) ≡ true
 three-fits None b c d some = cc
 three-fits (Some x) None c d some = cc
 three-fits (Some x) (Some y) None d some = cc
 three-fits (Some x) (Some y) (Some z) d some = ordered-fits _ _ x y z d refl refl some
 
-parts-fit : (o : Option Parts) (a b c : Parts → Option ℤ) (d : Span) → is_some (option_and_then (λ p. three range_of (a p) (b p) (c p)) o) ≡ true
-    → is_range_of kind.Int (unwrap_or (option_and_then (λ p. three range_of (a p) (b p) (c p)) o) d) ≡ true
+parts-fit : (o : Option Parts) (a b c : Parts → Option ℤ) (d : Span) → is_some (option_and_then (λ p. three number_range (a p) (b p) (c p)) o) ≡ true
+    → is_range_of kind.Int (unwrap_or (option_and_then (λ p. three number_range (a p) (b p) (c p)) o) d) ≡ true
 parts-fit None a b c d some = cc
 parts-fit (Some p) a b c d some = three-fits (a p) (b p) (c p) d some
 
-no-parts : (o : Option Parts) → option_and_then (λ (p : Parts). three range_of None None None) o ≡ None
+no-parts : (o : Option Parts) → option_and_then (λ (p : Parts). three number_range None None None) o ≡ None
 no-parts None = refl
 no-parts (Some p) = refl
 
@@ -202,17 +202,17 @@ cells-fields f texts r n (w ∷ written) (t ∷ cells) same none numerals =
     and_from (is_some (field_written (unwrap_or w (inferred_kind (texts n))) t)) (are_fields (map (λ c. unwrap_or c.1 (inferred_kind (texts c.0))) (enumerate_from (n + 1) written)) cells) head tail
 
 -- whether an entry is absent, or its row fits
-abbrev entry_fits : List Kind → Entry → Bool
+abbrev entry_fits : List Kind → BlockEntry → Bool
 entry_fits kinds e = is_absent e.role || fits_kinds (map data_kind kinds) (row kinds e.cells)
 
-abbrev record_fits : List Kind → Option Entry → Bool
+abbrev record_fits : List Kind → Option BlockEntry → Bool
 record_fits kinds None = true
 record_fits kinds (Some e) = entry_fits kinds e
 
 length-cells : (f : Format) (r : Record) → length (cells_of f r) ≡ length r - lead f
 length-cells f r = length-drop (lead f) r
 
-alternative-fits : (kinds : List Kind) (copies : Copies) (cells : Record) (x : Role) → is_absent x ≡ false → are_fields kinds cells ≡ true → record_fits kinds (Some (entry x copies cells)) ≡ true
+alternative-fits : (kinds : List Kind) (copies : Copies) (cells : Record) (x : Role) → is_absent x ≡ false → are_fields kinds cells ≡ true → record_fits kinds (Some (block_entry x copies cells)) ≡ true
 alternative-fits kinds copies cells x here fields = rw (here, row-fits kinds cells fields) refl
 
 holds-numeral : (a b : Bool) → a ≡ true → (not a || b) ≡ true → b ≡ true
@@ -223,15 +223,15 @@ holds-numeral false b here holds = cc
 module _ (B : Format) (header : Record) (rows : List Record) (sound : first (rows_defects B (length header) (written_kinds (cells_of B header)) rows) ≡ None) where
   role-fits : (i : ℕ) (h : i < length rows) (o : Option Role) → role_of B (get_or rows i []) ≡ o
       → first (role_defects B (1 + i) (written_kinds (cells_of B header)) (get_or rows i []) o) ≡ None → length (get_or rows i []) ≡ length header
-      → record_fits (kinds_of (entries_of B rows) (written_kinds (cells_of B header))) (option_map (λ x. entry x (copies_in B (get_or rows i [])) (cells_of B (get_or rows i []))) o) ≡ true
+      → record_fits (inferred_kinds (entries_of B rows) (written_kinds (cells_of B header))) (option_map (λ x. block_entry x (copies_in B (get_or rows i [])) (cells_of B (get_or rows i []))) o) ≡ true
   role-fits i h None is none same = refl
   role-fits i h (Some x) is none same =
       let r = get_or rows i [] in
       let cells = cells_of B r in
       let W = written_kinds (cells_of B header) in
       let entries = entries_of B rows in
-      let kinds = kinds_of entries W in
-      let texts = λ (k : ℕ). map (λ (e : Entry). field k e.cells) (alternatives entries) in
+      let kinds = inferred_kinds entries W in
+      let texts = λ (k : ℕ). map (λ (e : BlockEntry). field k e.cells) (alternatives entries) in
       elim (cases_Bool (is_absent x)) [
         | inl absent ↦ rw absent refl
         | inr here ↦
@@ -251,10 +251,10 @@ module _ (B : Format) (header : Record) (rows : List Record) (sound : first (row
             alternative-fits kinds (copies_in B r) cells x here (cells-fields B texts (1 + i) 0 W cells long fields numerals)
       ]
 
-  records-fit : list_all (λ r. record_fits (kinds_of (entries_of B rows) (written_kinds (cells_of B header))) (entry_of B r)) rows ≡ true
+  records-fit : list_all (λ r. record_fits (inferred_kinds (entries_of B rows) (written_kinds (cells_of B header))) (block_entry_of B r)) rows ≡ true
   records-fit =
       let W = written_kinds (cells_of B header) in
-      all-by-place (λ r. record_fits (kinds_of (entries_of B rows) W) (entry_of B r)) [] rows
+      all-by-place (λ r. record_fits (inferred_kinds (entries_of B rows) W) (block_entry_of B r)) [] rows
       (λ i h.
       let r = get_or rows i [] in
       let at = scan-item (record_defects B (length header) W) 1 rows sound i [] h in
@@ -263,7 +263,7 @@ module _ (B : Format) (header : Record) (rows : List Record) (sound : first (row
       role-fits i h (role_of B r) refl parts.1 (eqb-true (length r) (length header) width))
 
 -- the rows of the blocks fit where the records do
-alternatives-fit : (kinds : List Kind) (entries : List Entry) → list_all (entry_fits kinds) entries ≡ true
+alternatives-fit : (kinds : List Kind) (entries : List BlockEntry) → list_all (entry_fits kinds) entries ≡ true
     → list_all (λ a. fits_kinds (map data_kind kinds) a.cells) (map (candidate_of kinds) (alternatives entries)) ≡ true
 alternatives-fit kinds [] fit = refl
 alternatives-fit kinds (e ∷ entries) fit =
@@ -275,16 +275,16 @@ alternatives-fit kinds (e ∷ entries) fit =
           rw (here, head) (alternatives-fit kinds entries parts.1)
     ]
 
-entries-fit-if : (kinds : List Kind) (o : Option Entry) (entries : List Entry) → record_fits kinds o ≡ true → list_all (entry_fits kinds) entries ≡ true
+entries-fit-if : (kinds : List Kind) (o : Option BlockEntry) (entries : List BlockEntry) → record_fits kinds o ≡ true → list_all (entry_fits kinds) entries ≡ true
     → list_all (entry_fits kinds) (cons_option o entries) ≡ true
 entries-fit-if kinds None entries here fit = fit
 entries-fit-if kinds (Some e) entries here fit = and_from (entry_fits kinds e) (list_all (entry_fits kinds) entries) here fit
 
-entries-fit : (B : Format) (kinds : List Kind) (rows : List Record) → list_all (λ r. record_fits kinds (entry_of B r)) rows ≡ true → list_all (entry_fits kinds) (entries_of B rows) ≡ true
+entries-fit : (B : Format) (kinds : List Kind) (rows : List Record) → list_all (λ r. record_fits kinds (block_entry_of B r)) rows ≡ true → list_all (entry_fits kinds) (entries_of B rows) ≡ true
 entries-fit B kinds [] fit = refl
 entries-fit B kinds (r ∷ rows) fit =
-    let parts = and_parts (record_fits kinds (entry_of B r)) (list_all (λ x. record_fits kinds (entry_of B x)) rows) fit in
-    entries-fit-if kinds (entry_of B r) (entries_of B rows) parts.0 (entries-fit B kinds rows parts.1)
+    let parts = and_parts (record_fits kinds (block_entry_of B r)) (list_all (λ x. record_fits kinds (block_entry_of B x)) rows) fit in
+    entries-fit-if kinds (block_entry_of B r) (entries_of B rows) parts.0 (entries-fit B kinds rows parts.1)
 
 all-filter : {X : Type 0} (p q : X → Bool) (xs : List X) → list_all p xs ≡ true → list_all p (filter q xs) ≡ true
 all-filter p q [] all = refl
@@ -296,26 +296,26 @@ all-filter p q (x ∷ xs) all =
     ]
 
 -- each block's rows fit
-abbrev blocks_fit : List Kind → List (List Entry) → Bool
+abbrev blocks_fit : List Kind → List (List BlockEntry) → Bool
 blocks_fit kinds blocks = list_all (λ b. list_all (λ a. fits_kinds (map data_kind kinds) a.cells) b.alternatives) (map (block_of kinds) blocks)
 
-labelled-fit : (f : Format) (kinds : List Kind) (rows : List Record) (ls : List (List ℕ)) → list_all (λ r. record_fits kinds (entry_of f r)) rows ≡ true
+labelled-fit : (f : Format) (kinds : List Kind) (rows : List Record) (ls : List (List ℕ)) → list_all (λ r. record_fits kinds (block_entry_of f r)) rows ≡ true
     → blocks_fit kinds (map (λ label. entries_of f (labelled label rows)) ls) ≡ true
 labelled-fit f kinds rows [] fit = refl
 labelled-fit f kinds rows (l ∷ ls) fit =
-    let here = all-filter (λ r. record_fits kinds (entry_of f r)) (λ r. bytes_eq l (label_of r)) rows fit in
+    let here = all-filter (λ r. record_fits kinds (block_entry_of f r)) (λ r. bytes_eq l (label_of r)) rows fit in
     and_from (list_all (λ a. fits_kinds (map data_kind kinds) a.cells) (map (candidate_of kinds) (alternatives (entries_of f (labelled l rows))))) (blocks_fit kinds (map (λ label. entries_of f (labelled label rows)) ls))
     (alternatives-fit kinds (entries_of f (labelled l rows)) (entries-fit f kinds (labelled l rows) here)) (labelled-fit f kinds rows ls fit)
 
-plain-fit : (kinds : List Kind) (rows : List Record) → list_all (λ r. record_fits kinds (entry_of format.Plain r)) rows ≡ true → blocks_fit kinds (blocks_of format.Plain rows) ≡ true
+plain-fit : (kinds : List Kind) (rows : List Record) → list_all (λ r. record_fits kinds (block_entry_of format.Plain r)) rows ≡ true → blocks_fit kinds (entry_blocks format.Plain rows) ≡ true
 plain-fit kinds [] fit = refl
 plain-fit kinds (r ∷ rows) fit =
-    let parts = and_parts (fits_kinds (map data_kind kinds) (row kinds r)) (list_all (λ x. record_fits kinds (entry_of format.Plain x)) rows) fit in
+    let parts = and_parts (fits_kinds (map data_kind kinds) (row kinds r)) (list_all (λ x. record_fits kinds (block_entry_of format.Plain x)) rows) fit in
     rw parts.0 (plain-fit kinds rows parts.1)
 
-rows-fit : (B : Format) (kinds : List Kind) (rows : List Record) → list_all (λ r. record_fits kinds (entry_of B r)) rows ≡ true → blocks_fit kinds (blocks_of B rows) ≡ true
-rows-fit format.Blocks kinds rows fit = labelled-fit format.Blocks kinds rows (distinct (map label_of rows)) fit
-rows-fit format.Copies kinds rows fit = labelled-fit format.Copies kinds rows (distinct (map label_of rows)) fit
+rows-fit : (B : Format) (kinds : List Kind) (rows : List Record) → list_all (λ r. record_fits kinds (block_entry_of B r)) rows ≡ true → blocks_fit kinds (entry_blocks B rows) ≡ true
+rows-fit format.Blocks kinds rows fit = labelled-fit format.Blocks kinds rows (distinct_labels (map label_of rows)) fit
+rows-fit format.Copies kinds rows fit = labelled-fit format.Copies kinds rows (distinct_labels (map label_of rows)) fit
 rows-fit format.Plain kinds rows fit = plain-fit kinds rows fit
 
 -- copies are in order
@@ -364,10 +364,10 @@ record-copies format.Blocks r = once-copies
 record-copies format.Copies r = unwrapped (copies_written (field 2 r)) (written-copies (field 2 r))
 
 -- the copies of entries, and of the alternatives among them
-AreCopies : List Entry → Type 0
+AreCopies : List BlockEntry → Type 0
 AreCopies es = AllByRecursion (λ e. IsCopies e.copies) es
 
-entries-copies-if : (f : Format) (r : Record) (o : Option Role) (es : List Entry) → AreCopies es → AreCopies (cons_option (option_map (λ x. entry x (copies_in f r) (cells_of f r)) o) es)
+entries-copies-if : (f : Format) (r : Record) (o : Option Role) (es : List BlockEntry) → AreCopies es → AreCopies (cons_option (option_map (λ x. block_entry x (copies_in f r) (cells_of f r)) o) es)
 unfolding AreCopies
 entries-copies-if f r None es all = all
 entries-copies-if f r (Some x) es all = (record-copies f r, all)
@@ -377,7 +377,7 @@ unfolding AreCopies
 entries-copies f [] = tt
 entries-copies f (r ∷ rows) = entries-copies-if f r (role_of f r) (entries_of f rows) (entries-copies f rows)
 
-alternatives-copies : (kinds : List Kind) (es : List Entry) → AreCopies es → AllByRecursion (λ a. IsCopies a.copies) (map (candidate_of kinds) (alternatives es))
+alternatives-copies : (kinds : List Kind) (es : List BlockEntry) → AreCopies es → AllByRecursion (λ a. IsCopies a.copies) (map (candidate_of kinds) (alternatives es))
 unfolding AreCopies
 alternatives-copies kinds [] all = tt
 alternatives-copies kinds (e ∷ es) all =
@@ -390,15 +390,15 @@ labelled-copies : (f : Format) (rows : List Record) (ls : List (List ℕ)) → A
 labelled-copies f rows [] = tt
 labelled-copies f rows (l ∷ ls) = (entries-copies f (labelled l rows), labelled-copies f rows ls)
 
-plain-copies : (rows : List Record) → AllByRecursion AreCopies (blocks_of format.Plain rows)
+plain-copies : (rows : List Record) → AllByRecursion AreCopies (entry_blocks format.Plain rows)
 unfolding AreCopies
 plain-copies [] = tt
 plain-copies (r ∷ rows) = ((once-copies, tt), plain-copies rows)
 
-blocks-copies : (f : Format) (rows : List Record) → AllByRecursion AreCopies (blocks_of f rows)
+blocks-copies : (f : Format) (rows : List Record) → AllByRecursion AreCopies (entry_blocks f rows)
 blocks-copies format.Plain rows = plain-copies rows
-blocks-copies format.Blocks rows = labelled-copies format.Blocks rows (distinct (map label_of rows))
-blocks-copies format.Copies rows = labelled-copies format.Copies rows (distinct (map label_of rows))
+blocks-copies format.Blocks rows = labelled-copies format.Blocks rows (distinct_labels (map label_of rows))
+blocks-copies format.Copies rows = labelled-copies format.Copies rows (distinct_labels (map label_of rows))
 
 or_false : (a b : Bool) → (a || b) ≡ false → (a ≡ false) × (b ≡ false)
 or_false true b is = cc
@@ -412,19 +412,19 @@ positive : (n : ℕ) → eqb n 0 ≡ false → 0 < n
 positive zero is = cc
 positive (suc n) is = omega arith
 
-any-of-count : (p : Entry → Bool) (es : List Entry) → eqb (count_by p es) 0 ≡ false → list_any p es ≡ true
+any-of-count : (p : BlockEntry → Bool) (es : List BlockEntry) → eqb (count_by p es) 0 ≡ false → list_any p es ≡ true
 any-of-count p es is = any-count p es ∙ ap not is
 
 -- a block without a defect offers its guess
-marked-absent : (es : List Entry) → list_any (λ e. is_marked e.role) es ≡ true → list_any (λ e. is_marked e.role) (alternatives es) ≡ false → list_any (λ e. is_absent e.role) es ≡ true
+marked-absent : (es : List BlockEntry) → list_any (λ e. is_marked e.role) es ≡ true → list_any (λ e. is_marked e.role) (alternatives es) ≡ false → list_any (λ e. is_absent e.role) es ≡ true
 marked-absent [] marked none = cc
 marked-absent (e ∷ es) marked none =
     elim (cases_Bool (is_absent e.role)) [
       | inl absent ↦ rw absent refl
       | inr here ↦
-          let rest : (is_marked e.role || list_any (λ (x : Entry). is_marked x.role) (alternatives es)) ≡ false = rw here at none in
-          let parts = or_false (is_marked e.role) (list_any (λ (x : Entry). is_marked x.role) (alternatives es)) rest in
-          let later : list_any (λ (x : Entry). is_marked x.role) es ≡ true = rw parts.0 at marked in
+          let rest : (is_marked e.role || list_any (λ (x : BlockEntry). is_marked x.role) (alternatives es)) ≡ false = rw here at none in
+          let parts = or_false (is_marked e.role) (list_any (λ (x : BlockEntry). is_marked x.role) (alternatives es)) rest in
+          let later : list_any (λ (x : BlockEntry). is_marked x.role) es ≡ true = rw parts.0 at marked in
           rw here (marked-absent es later parts.1)
     ]
 
@@ -432,10 +432,10 @@ offers : (o : Option ℕ) (b : Choices) → ((i : ℕ) → o ≡ Some i → i < 
 offers None b low absent = absent refl
 offers (Some i) b low absent = low i refl
 
-block-good : (kinds : List Kind) (es : List Entry) (n : ℕ) → AreCopies es → first (block_defects (n, es)) ≡ None → IsBlock (block_of kinds es)
+block-good : (kinds : List Kind) (es : List BlockEntry) (n : ℕ) → AreCopies es → first (block_defects (n, es)) ≡ None → IsBlock (block_of kinds es)
 block-good kinds es n all none =
-    let m = λ (e : Entry). is_marked e.role in
-    let a = λ (e : Entry). is_absent e.role in
+    let m = λ (e : BlockEntry). is_marked e.role in
+    let a = λ (e : BlockEntry). is_absent e.role in
     let w1 = where_true (ltb 1 (count_by m es)) (fault.TwoGuesses n) in
     let w2 = where_true (eqb (count_by m es) 0) (fault.NoGuess n) in
     let w3 = where_true (eqb (length (alternatives es)) 0) (fault.OnlyAbsent n) in
@@ -452,7 +452,7 @@ block-good kinds es n all none =
     λ i is. rw long (position-low m (alternatives es) i is) in
     record { nonempty = rw long (positive (length (alternatives es)) some); guess = offers (position m (alternatives es)) (block_of kinds es) low absent; copies = alternatives-copies kinds es all }
 
-blocks-good : (kinds : List Kind) (n : ℕ) (blocks : List (List Entry)) → AllByRecursion AreCopies blocks → first (flat_map block_defects (enumerate_from n blocks)) ≡ None → AllByRecursion IsBlock (map (block_of kinds) blocks)
+blocks-good : (kinds : List Kind) (n : ℕ) (blocks : List (List BlockEntry)) → AllByRecursion AreCopies blocks → first (flat_map block_defects (enumerate_from n blocks)) ≡ None → AllByRecursion IsBlock (map (block_of kinds) blocks)
 blocks-good kinds n [] all none = tt
 blocks-good kinds n (es ∷ blocks) all none =
     let parts = first-parts (block_defects (n, es)) (flat_map block_defects (enumerate_from (n + 1) blocks)) none in
@@ -518,8 +518,8 @@ all-mapped p g [] = refl
 all-mapped p g (x ∷ xs) = ap (λ b. p (g x) && b) (all-mapped p g xs)
 
 -- the table of records without a defect is well-formed
-pub well-formed : (header : Record) (rows : List Record) → first (schema_defects header rows) ≡ None → first (blocks_defects (blocks_of (format_of header) rows)) ≡ None
-    → IsBlockTable (table (header_columns header rows) (map (block_of (header_kinds header rows)) (blocks_of (format_of header) rows)))
+pub well-formed : (header : Record) (rows : List Record) → first (schema_defects header rows) ≡ None → first (blocks_defects (entry_blocks (format_of header) rows)) ≡ None
+    → IsBlockTable (table (header_columns header rows) (map (block_of (header_kinds header rows)) (entry_blocks (format_of header) rows)))
 well-formed header rows schema blocks =
     let B = format_of header in
     let columns = header_columns header rows in
@@ -529,8 +529,8 @@ well-formed header rows schema blocks =
     let values : map (λ (c : Column). data_kind c.kind) columns ≡ map data_kind kinds = sym (map-map columns) ∙ ap (map data_kind) (header-kinds header rows) in
     record {
       table = record { rows = rw values fit };
-      kinds = all-mapped is_column_kind (λ (c : Column). c.kind) columns ∙ ap (list_all is_column_kind) (header-kinds header rows) ∙ kinds-are-columns (λ k. map (λ (e : Entry). field k e.cells) (alternatives (entries_of B rows))) 0 (cells_of B header);
-      blocks = blocks-good kinds 0 (blocks_of B rows) (blocks-copies B rows) blocks;
+      kinds = all-mapped is_column_kind (λ (c : Column). c.kind) columns ∙ ap (list_all is_column_kind) (header-kinds header rows) ∙ kinds-are-columns (λ k. map (λ (e : BlockEntry). field k e.cells) (alternatives (entries_of B rows))) 0 (cells_of B header);
+      blocks = blocks-good kinds 0 (entry_blocks B rows) (blocks-copies B rows) blocks;
     }
   where
     map-map : (cs : List Column) → map data_kind (map (λ (c : Column). c.kind) cs) ≡ map (λ (c : Column). data_kind c.kind) cs

@@ -8,7 +8,7 @@ use Rattle.au_csv.specs.Texts.{Record, not_text}
 use Rattle.au_blocks.specs.declared.faults.TableFault.{TableFault}
 use Rattle.au_blocks.specs.declared.faults.TableFault.TheVariants as fault
 use Rattle.au_blocks.specs.Headers.{format_of, has_copies, cells_of, column_names, written_kinds, is_unknown}
-use Rattle.au_blocks.specs.Entries.{Entry, role_of, written_copies, is_marked, is_absent, alternatives, blocks_of}
+use Rattle.au_blocks.specs.Entries.{BlockEntry, role_of, written_copies, is_marked, is_absent, alternatives, entry_blocks}
 use Rattle.au_blocks.specs.declared.format.Format.{Format}
 use Rattle.au_blocks.specs.declared.role.Role.{Role}
 use Rattle.au_blocks.specs.Spellings.{value_written, range_written}
@@ -64,7 +64,7 @@ record_defects f width written r =
     where_true (not (length r.1 == width)) (fault.WrongWidth r.0) ++ role_defects f r.0 written r.1 (role_of f r.1)
 
 -- the defects of a block of these entries
-abbrev pub block_defects : ℕ × List Entry → List TableFault
+abbrev pub block_defects : ℕ × List BlockEntry → List TableFault
 block_defects b =
     where_true (nat_lt 1 (count_by (λ e. is_marked e.role) b.1)) (fault.TwoGuesses b.0)
     ++ where_true (count_by (λ e. is_marked e.role) b.1 == 0) (fault.NoGuess b.0)
@@ -76,7 +76,7 @@ abbrev pub rows_defects : Format → ℕ → List (Option Kind) → List Record 
 rows_defects f width written rows = flat_map (record_defects f width written) (enumerate_from 1 rows)
 
 -- the defects of the blocks, from the first
-abbrev pub blocks_defects : List (List Entry) → List TableFault
+abbrev pub blocks_defects : List (List BlockEntry) → List TableFault
 blocks_defects blocks = flat_map block_defects (enumerate_from 0 blocks)
 
 -- the defects of a header and the records below it, but for their blocks
@@ -88,7 +88,7 @@ schema_defects header rows =
 
 abbrev pub table_defects : List Record → List TableFault
 table_defects [] = fault.NoHeader ∷ []
-table_defects (header ∷ rows) = schema_defects header rows ++ blocks_defects (blocks_of (format_of header) rows)
+table_defects (header ∷ rows) = schema_defects header rows ++ blocks_defects (entry_blocks (format_of header) rows)
 
 -- all defects of these records
 abbrev pub defects : List Record → List TableFault

@@ -37,13 +37,13 @@ is_absent role.Absent = true
 is_absent role.AbsentGuess = true
 
 -- a record's role, copies and cells
-pub record Entry : Type 0 where
+pub record BlockEntry : Type 0 where
   pub role : Role
   pub copies : Copies
   pub cells : Record
 
-abbrev pub entry : Role → Copies → Record → Entry
-entry r copies cells = record { role = r; copies = copies; cells = cells }
+abbrev pub block_entry : Role → Copies → Record → BlockEntry
+block_entry r copies cells = record { role = r; copies = copies; cells = cells }
 
 -- the role of a record, if it has one: in a plain table each is a marked alternative
 abbrev pub role_of : Format → Record → Option Role
@@ -60,14 +60,14 @@ written_copies f r = if has_copies f then copies_written (field 2 r) else Some o
 abbrev pub copies_in : Format → Record → Copies
 copies_in f r = unwrap_or (written_copies f r) once
 
-abbrev pub entry_of : Format → Record → Option Entry
-entry_of f r = option_map (λ x. entry x (copies_in f r) (cells_of f r)) (role_of f r)
+abbrev pub block_entry_of : Format → Record → Option BlockEntry
+block_entry_of f r = option_map (λ x. block_entry x (copies_in f r) (cells_of f r)) (role_of f r)
 
-abbrev pub entries_of : Format → List Record → List Entry
-entries_of f rows = filter_map (entry_of f) rows
+abbrev pub entries_of : Format → List Record → List BlockEntry
+entries_of f rows = filter_map (block_entry_of f) rows
 
 -- the entries that are alternatives
-abbrev pub alternatives : List Entry → List Entry
+abbrev pub alternatives : List BlockEntry → List BlockEntry
 alternatives entries = filter (λ e. not (is_absent e.role)) entries
 
 -- the label of a record
@@ -75,16 +75,16 @@ abbrev pub label_of : Record → List ℕ
 label_of r = field 0 r
 
 -- each text once, in the order in which they come first
-abbrev pub distinct : List (List ℕ) → List (List ℕ)
-distinct [] = []
-distinct (x ∷ xs) = x ∷ filter (λ y. not (bytes_eq x y)) (distinct xs)
+abbrev pub distinct_labels : List (List ℕ) → List (List ℕ)
+distinct_labels [] = []
+distinct_labels (x ∷ xs) = x ∷ filter (λ y. not (bytes_eq x y)) (distinct_labels xs)
 
 -- the records with a label
 abbrev pub labelled : List ℕ → List Record → List Record
 labelled label rows = filter (λ r. bytes_eq label (label_of r)) rows
 
 -- the entries of each block: of the records with each label, or in a plain table of each record alone
-abbrev pub blocks_of : Format → List Record → List (List Entry)
-blocks_of f rows =
-    if has_blocks f then map (λ label. entries_of f (labelled label rows)) (distinct (map label_of rows))
-    else map (λ r. entry role.Guess once r ∷ []) rows
+abbrev pub entry_blocks : Format → List Record → List (List BlockEntry)
+entry_blocks f rows =
+    if has_blocks f then map (λ label. entries_of f (labelled label rows)) (distinct_labels (map label_of rows))
+    else map (λ r. block_entry role.Guess once r ∷ []) rows

@@ -8,7 +8,7 @@ use Rattle.au_blocks.specs.declared.seen.Seen.TheVariants as seen
 use Rattle.au_blocks.specs.declared.faults.TableFault.{TableFault}
 use Rattle.au_blocks.specs.declared.faults.TableFault.TheVariants as fault
 use Rattle.au_blocks.specs.Blocks.{IsCopies, Candidate, Choices, choices}
-use Rattle.au_blocks.specs.Entries.{Entry, is_marked, is_absent, alternatives}
+use Rattle.au_blocks.specs.Entries.{BlockEntry, is_marked, is_absent, alternatives}
 use Rattle.au_blocks.specs.Read.{candidate_of, unless}
 
 -- never, once, or again
@@ -61,11 +61,11 @@ abbrev pub with_absence : Gathered → Bool → Gathered
 with_absence g marked = record { rows = g.rows; marked = if marked then more g.marked else g.marked; absent = more g.absent; guess = g.guess }
 
 -- one entry more
-abbrev pub with_entry : List Kind → Gathered → Entry → Gathered
+abbrev pub with_entry : List Kind → Gathered → BlockEntry → Gathered
 with_entry kinds g e = if is_absent e.role then with_absence g (is_marked e.role) else with_row g (is_marked e.role) (candidate_of kinds e)
 
 -- what these entries amount to
-abbrev pub gathered : List Kind → List Entry → Gathered
+abbrev pub gathered : List Kind → List BlockEntry → Gathered
 gathered kinds entries = record {
   rows = map (candidate_of kinds) (alternatives entries);
   marked = seen_of (count_by (λ e. is_marked e.role) entries);

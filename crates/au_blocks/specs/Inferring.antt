@@ -8,7 +8,7 @@ use Rattle.au_csv.specs.Texts.{Record}
 use Rattle.au_blocks.specs.declared.format.Format.{Format}
 use Rattle.au_blocks.specs.declared.role.Role.{Role}
 use Rattle.au_blocks.specs.Headers.{cells_of}
-use Rattle.au_blocks.specs.Entries.{Entry, field, role_of, is_absent, alternatives}
+use Rattle.au_blocks.specs.Entries.{BlockEntry, field, role_of, is_absent, alternatives}
 
 -- whether a text is a numeral
 abbrev pub is_numeral : List ℕ → Bool
@@ -24,11 +24,11 @@ inferred_kind [] = kind.Text
 inferred_kind (x ∷ xs) = inferred (list_all is_numeral (x ∷ xs))
 
 -- the kind of the column at a place
-abbrev pub column_kind : List Entry → ℕ × Option Kind → Kind
+abbrev pub column_kind : List BlockEntry → ℕ × Option Kind → Kind
 column_kind entries c = unwrap_or c.1 (inferred_kind (map (λ e. field c.0 e.cells) (alternatives entries)))
 
-abbrev pub kinds_of : List Entry → List (Option Kind) → List Kind
-kinds_of entries written = map (column_kind entries) (enumerate_from 0 written)
+abbrev pub inferred_kinds : List BlockEntry → List (Option Kind) → List Kind
+inferred_kinds entries written = map (column_kind entries) (enumerate_from 0 written)
 
 -- whether a record is an alternative
 abbrev pub offers_row : Option Role → Bool

@@ -10,8 +10,8 @@ use Rattle.au_blocks.specs.declared.faults.TableFault.{TableFault}
 use Rattle.au_blocks.specs.Blocks.{Candidate, candidate, Choices, choices}
 use Rattle.au_blocks.specs.Tables.{BlockTable, table}
 use Rattle.au_blocks.specs.Headers.{format_of, cells_of, column_names, written_kinds}
-use Rattle.au_blocks.specs.Entries.{Entry, is_marked, is_absent, entries_of, alternatives, blocks_of}
-use Rattle.au_blocks.specs.Inferring.{kinds_of}
+use Rattle.au_blocks.specs.Entries.{BlockEntry, is_marked, is_absent, entries_of, alternatives, entry_blocks}
+use Rattle.au_blocks.specs.Inferring.{inferred_kinds}
 use Rattle.au_blocks.specs.Defects.{defects}
 use Rattle.au_blocks.specs.Spellings.{field_written}
 
@@ -23,11 +23,11 @@ abbrev pub row : List Kind → Record → List Span
 row kinds cells = map cell (zip kinds cells)
 
 -- the alternative of an entry
-abbrev pub candidate_of : List Kind → Entry → Candidate
+abbrev pub candidate_of : List Kind → BlockEntry → Candidate
 candidate_of kinds e = candidate (row kinds e.cells) e.copies
 
 -- a block: its alternatives in order, whether it may be absent, and which alternative is marked
-abbrev pub block_of : List Kind → List Entry → Choices
+abbrev pub block_of : List Kind → List BlockEntry → Choices
 block_of kinds entries =
     choices (map (candidate_of kinds) (alternatives entries)) (list_any (λ e. is_absent e.role) entries) (position (λ e. is_marked e.role) (alternatives entries))
 
@@ -36,7 +36,7 @@ columns_of names kinds = map (λ c. record { name = c.0; kind = c.1 }) (zip name
 
 -- the columns of a header, over the rows below it
 abbrev pub header_kinds : Record → List Record → List Kind
-header_kinds header rows = kinds_of (entries_of (format_of header) rows) (written_kinds (cells_of (format_of header) header))
+header_kinds header rows = inferred_kinds (entries_of (format_of header) rows) (written_kinds (cells_of (format_of header) header))
 
 abbrev pub header_columns : Record → List Record → List Column
 header_columns header rows = columns_of (column_names (format_of header) (cells_of (format_of header) header)) (header_kinds header rows)
@@ -44,7 +44,7 @@ header_columns header rows = columns_of (column_names (format_of header) (cells_
 -- the table of records that have no defect
 abbrev pub contents : List Record → BlockTable
 contents [] = table [] []
-contents (header ∷ rows) = table (header_columns header rows) (map (block_of (header_kinds header rows)) (blocks_of (format_of header) rows))
+contents (header ∷ rows) = table (header_columns header rows) (map (block_of (header_kinds header rows)) (entry_blocks (format_of header) rows))
 
 -- the first of some defects
 abbrev pub first : List TableFault → Option TableFault

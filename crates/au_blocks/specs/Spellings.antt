@@ -72,13 +72,13 @@ three f None b c = None
 abbrev pub ordered_range : Value → Value → Value → Option Span
 ordered_range lo guess hi = if at_most lo guess && at_most guess hi then Some (range lo guess hi) else None
 
-abbrev pub range_of : ℤ → ℤ → ℤ → Option Span
-range_of lo guess hi = ordered_range (value.Int lo) (value.Int guess) (value.Int hi)
+abbrev pub number_range : ℤ → ℤ → ℤ → Option Span
+number_range lo guess hi = ordered_range (value.Int lo) (value.Int guess) (value.Int hi)
 
 -- the range that a field writes in a column of numbers
 abbrev pub range_written : Kind → List ℕ → Option Span
 range_written k field =
-    option_and_then (λ p. three range_of (number_written k p.first) (number_written k p.second) (number_written k p.third)) (parts field)
+    option_and_then (λ p. three number_range (number_written k p.first) (number_written k p.second) (number_written k p.third)) (parts field)
 
 -- the range of the value that a field writes, or else the range that it writes
 abbrev pub field_written : Kind → List ℕ → Option Span

@@ -4,7 +4,7 @@ ghost use Rattle.std.specs.List.{list_all};
 ghost use Rattle.au_blocks.specs.Defects.{blocks_defects};
 ghost use Rattle.au_blocks.specs.Blocks.{once};
 ghost use Rattle.au_blocks.specs.Headers.{has_blocks};
-ghost use Rattle.au_blocks.specs.Entries.{blocks_of, entry, has_role};
+ghost use Rattle.au_blocks.specs.Entries.{entry_blocks, block_entry, has_role};
 ghost use Rattle.au_blocks.specs.Gathered.{all_finished};
 ghost use Rattle.au_blocks.specs.Read.{block_of, first, unless};
 
@@ -30,8 +30,8 @@ pub(crate) fn blocks(
     rows: Vec<Rec>,
 ) -> Result<Vec<Block>, TableFault>
     requires { has_blocks format ≡ true → list_all has_role rows.items ≡ true }
-    ensures blocks { IfOk result (λ bs. unless (first (blocks_defects (blocks_of format rows.items))) (map (block_of (map (λ c. c.kind) columns.now)) (blocks_of format rows.items)) ≡ Ok bs.items) }
-    ensures fault { IfErr result (λ e. (e ≡ TableFault.NoMemory) ⊎ (first (blocks_defects (blocks_of format rows.items)) ≡ Some e)) }
+    ensures blocks { IfOk result (λ bs. unless (first (blocks_defects (entry_blocks format rows.items))) (map (block_of (map (λ c. c.kind) columns.now)) (entry_blocks format rows.items)) ≡ Ok bs.items) }
+    ensures fault { IfErr result (λ e. (e ≡ TableFault.NoMemory) ⊎ (first (blocks_defects (entry_blocks format rows.items)) ≡ Some e)) }
 {
     if format.has_blocks() {
         finish_all(alloc, gather(alloc, format, columns, rows)?)
@@ -55,7 +55,7 @@ fn finish_all(alloc: Global, builders: Vec<BlockBuilder>) -> Result<Vec<Block>, 
 
 // Each record as a block of its own.
 fn plain_blocks(alloc: Global, columns: &[Column], rows: Vec<Rec>) -> Result<Vec<Block>, NoMemory>
-    ensures { IfOk result (λ bs. bs.items ≡ map (block_of (map (λ c. c.kind) columns.now)) (blocks_of Format.Plain rows.items)) }
+    ensures { IfOk result (λ bs. bs.items ≡ map (block_of (map (λ c. c.kind) columns.now)) (entry_blocks Format.Plain rows.items)) }
 {
     let mut blocks = Vec::with_capacity(alloc, rows.len())?;
     for record in rows {
@@ -66,7 +66,7 @@ fn plain_blocks(alloc: Global, columns: &[Column], rows: Vec<Rec>) -> Result<Vec
 
 // The block of one marked alternative.
 fn certain(alloc: Global, columns: &[Column], record: &Rec) -> Result<Block, NoMemory>
-    ensures { IfOk result (λ b. b ≡ block_of (map (λ c. c.kind) columns.now) (entry Role.Guess once «record».now ∷ [])) }
+    ensures { IfOk result (λ b. b ≡ block_of (map (λ c. c.kind) columns.now) (block_entry Role.Guess once «record».now ∷ [])) }
 {
     let mut alternatives = Vec::with_capacity(alloc, 1)?;
     let cells = row(alloc, Format::Plain, columns, record)?;

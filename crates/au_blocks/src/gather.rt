@@ -2,7 +2,7 @@
 ghost use Rattle.std.specs.Prelude.{◌≡◌, ◌++◌, ◌∷◌, [], true, Some, if◌then◌else◌, map, IfOk, OnOk, bytes_eq};
 ghost use Rattle.std.specs.List.{list_all, list_any, position_or_len};
 ghost use Rattle.indexmap.specs.IndexSet.{insert_key};
-ghost use Rattle.au_blocks.specs.Entries.{blocks_of, copies_in, entry, has_role, role_of};
+ghost use Rattle.au_blocks.specs.Entries.{entry_blocks, copies_in, block_entry, has_role, role_of};
 ghost use Rattle.au_blocks.specs.Headers.{cells_of, has_blocks};
 ghost use Rattle.au_blocks.specs.Gathered.{gathered, nothing, with_entry};
 ghost use Rattle.au_blocks.specs.Labels.{label_bytes};
@@ -29,7 +29,7 @@ pub(crate) fn gather(
 ) -> Result<Vec<BlockBuilder>, NoMemory>
     requires blocks { has_blocks format ≡ true }
     requires roles { list_all has_role rows.items ≡ true }
-    ensures { IfOk result (λ bs. bs.items ≡ map (gathered (map (λ c. c.kind) columns.now)) (blocks_of format rows.items)) }
+    ensures { IfOk result (λ bs. bs.items ≡ map (gathered (map (λ c. c.kind) columns.now)) (entry_blocks format rows.items)) }
 {
     let mut labels = IndexSet::new(alloc);
     let mut builders = Vec::new(alloc);
@@ -81,7 +81,7 @@ fn add_entry(
     role: Role,
     record: &Rec,
 ) -> Result<(), NoMemory>
-    ensures { OnOk result (builder.new ≡ with_entry (map (λ c. c.kind) columns.now) builder.old (entry role (copies_in format «record».now) (cells_of format «record».now))) }
+    ensures { OnOk result (builder.new ≡ with_entry (map (λ c. c.kind) columns.now) builder.old (block_entry role (copies_in format «record».now) (cells_of format «record».now))) }
 {
     if role.is_absent() {
         builder.add_absence(role.is_marked());

@@ -2,7 +2,7 @@
 ghost use Rattle.std.specs.Prelude.{◌≡◌, ◌∷◌, [], ◌&&◌, is_none, map, unwrap_or, zip, IfOk};
 ghost use Rattle.std.specs.List.{list_any};
 ghost use Rattle.au_blocks.specs.Entries.{entries_of};
-ghost use Rattle.au_blocks.specs.Inferring.{holds_numeral as holds_numeral_of, inferred, is_alternative as is_alternative_of, kinds_of};
+ghost use Rattle.au_blocks.specs.Inferring.{holds_numeral as holds_numeral_of, inferred, is_alternative as is_alternative_of, inferred_kinds};
 ghost use Rattle.au_blocks.specs.Marks.{marks as marks_of};
 
 use crate::fields::cell_text;
@@ -20,7 +20,7 @@ pub(crate) fn kinds(
     written: &[Option<Kind>],
     rows: &[Rec],
 ) -> Result<Vec<Kind>, NoMemory>
-    ensures { IfOk result (λ kinds. kinds.items ≡ kinds_of (entries_of format rows.now) written.now) }
+    ensures { IfOk result (λ kinds. kinds.items ≡ inferred_kinds (entries_of format rows.now) written.now) }
 {
     let unwritten = unwritten_columns(alloc, written, any_alternative(format, rows))?;
     let numerals = numerals(format, rows, unwritten);

@@ -4,7 +4,7 @@ ghost use Rattle.au_value.specs.declared.value.Value.{Value};
 ghost use Rattle.au_value.specs.Numeral.{numeral_value};
 ghost use Rattle.au_value.specs.Order.{kind_of};
 ghost use Rattle.au_blocks.specs.Inferring.{is_numeral as is_numeral_of};
-ghost use Rattle.au_blocks.specs.Spellings.{count_written as count_written_of, copies_written, cut_dots, flag_written as flag_written_of, is_count as is_count_of, number_written as number_written_of, ordered_copies, ordered_range as ordered_range_of, part_texts, parts as parts_of, range_of, range_written as range_written_of, three};
+ghost use Rattle.au_blocks.specs.Spellings.{count_written as count_written_of, copies_written, cut_dots, flag_written as flag_written_of, is_count as is_count_of, number_written as number_written_of, ordered_copies, ordered_range as ordered_range_of, part_texts, parts as parts_of, number_range, range_written as range_written_of, three};
 
 use crate::times::Times;
 use au_value::{Kind, Range, Value, all_digits, order, read_decimal, read_numeral};
@@ -79,7 +79,7 @@ pub(crate) fn range_written(kind: Kind, field: &str) -> Option<Range>
 
 // The range of three numbers, if they are in order.
 fn range(lo: Option<i128>, guess: Option<i128>, hi: Option<i128>) -> Option<Range>
-    ensures { result ≡ three range_of lo guess hi }
+    ensures { result ≡ three number_range lo guess hi }
 {
     match (lo, guess, hi) {
         (Some(lo), Some(guess), Some(hi)) => {

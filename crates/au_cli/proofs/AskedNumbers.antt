@@ -11,7 +11,7 @@ use Rattle.au_words.specs.declared.words.form.Verb.TheVariants as verb
 use Rattle.au_words.specs.CommandLine.{HasForm}
 use Rattle.au_words.specs.Words as words
 use Rattle.au_value.specs.Texts.{Text}
-use Rattle.au_words.specs.Words.{Asked, asked_by, asked_of, asked_of_verb, first_word, is_form, is_number, is_plain, later_words, number_of, positionals, request_of, table_fault, table_of, unless, value_of, verb_of}
+use Rattle.au_words.specs.Words.{Asked, asked_by, asked_of, asked_of_verb, first_word, is_form, is_number, is_plain, later_words, number_of, positionals, request_of, table_fault, named_path, unless, option_value, verb_of}
 use Rattle.au_words.proofs.AskedWords.{compress_read, read, workers_read}
 
 -- ---- a number that is read lies in its range
@@ -43,11 +43,11 @@ compressed (Some n) h = h n refl
 
 workers_range : (v : Verb) (all : List Text) → HasForm v all → (1 ≤ unwrap_or (number_of (codes "--workers") (drop 1 all)) 1) × (unwrap_or (number_of (codes "--workers") (drop 1 all)) 1 ≤ 64)
 workers_range v all form =
-    or_one 64 (number_of (codes "--workers") (drop 1 all)) (omega arith) (λ n e. found_range 64 (value_of (codes "--workers") (drop 1 all)) n (workers_read v all form ∙ e))
+    or_one 64 (number_of (codes "--workers") (drop 1 all)) (omega arith) (λ n e. found_range 64 (option_value (codes "--workers") (drop 1 all)) n (workers_read v all form ∙ e))
 
 compress_range : (v : Verb) (all : List Text) → HasForm v all → IsCompression (number_of (codes "--compress") (drop 1 all))
 compress_range v all form =
-    compressed (number_of (codes "--compress") (drop 1 all)) (λ n e. found_range 1000 (value_of (codes "--compress") (drop 1 all)) n (compress_read v all form ∙ e))
+    compressed (number_of (codes "--compress") (drop 1 all)) (λ n e. found_range 1000 (option_value (codes "--compress") (drop 1 all)) n (compress_read v all form ∙ e))
 
 -- ---- what is asked is asked by words of a command's form
 
@@ -100,9 +100,9 @@ ranges_by verb.Demo all asked form h =
     (words.demo (digits_value 10 start) (digits_value 10 blocks) (unwrap_or (number_of (codes "--workers") (drop 1 all)) 1)) asked
     (λ fine. (number_range 1 100000 blocks (second (is_number 0 4294967295 start) (is_number 1 100000 blocks) fine), workers.0, workers.1)) h
 ranges_by verb.Encode all asked form h =
-    subst AreInRange (unless_is (table_fault (positionals (drop 1 all))) (words.encode (table_of (first_word (drop 1 all)))) asked h) tt
+    subst AreInRange (unless_is (table_fault (positionals (drop 1 all))) (words.encode (named_path (first_word (drop 1 all)))) asked h) tt
 ranges_by verb.Plain all asked form h =
-    subst AreInRange (unless_is (table_fault (later_words (drop 1 all))) (words.plain (first_word (drop 1 all)) (map table_of (later_words (drop 1 all)))) asked h) tt
+    subst AreInRange (unless_is (table_fault (later_words (drop 1 all))) (words.plain (first_word (drop 1 all)) (map named_path (later_words (drop 1 all)))) asked h) tt
 
 pub in_range : (all : List Text) (asked : Asked) → asked_of all ≡ Ok asked → AreInRange asked
 in_range all asked h = let found = has_form all asked h in ranges_by found.0 all asked found.1 found.2

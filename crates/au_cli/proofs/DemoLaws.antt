@@ -18,12 +18,12 @@ use Rattle.au_blocks.specs.Tables.{BlockTable}
 use Rattle.au_gen.specs.Generator.{text}
 use Rattle.au_parse.specs.Tree.{QueryTree}
 use Rattle.au_translate.specs.Translate.{block_row, bounded_blocks, bounded_table}
-use Rattle.au_typing.specs.Queries.{defects, tree_of}
-use Rattle.au_print.specs.DemoTexts.{sum_of}
+use Rattle.au_typing.specs.Queries.{typing_defects, resolved_tree}
+use Rattle.au_print.specs.DemoTexts.{triple_sum}
 use Rattle.au_engine.specs.declared.faults.EngineFault.{EngineFault}
 use Rattle.au_engine.specs.declared.faults.EngineFault.TheVariants as engine
 use Rattle.au_engine.specs.Answers.{answer_rows, answer_tree, statement_defects}
-use Rattle.au_engine.specs.Reading.{Refusal, TextCause, statement_of}
+use Rattle.au_engine.specs.Reading.{TextRefusal, TextCause, statement_of}
 use Rattle.au_cli.specs.Demo.{demo_name, demo_query}
 use Rattle.au_cli.proofs.DemoQuery.{demo_statement, query_statement, query_allowed, demo_relation, demo_tree, well_typed, tree_is}
 use Rattle.au_cli.proofs.DemoSums.{OneAtMost, fewer, sum_in_range}
@@ -34,7 +34,7 @@ pub only_memory : (f : EngineFault) → TextCause demo_query f → f ≡ engine.
 only_memory f (inl e) = e
 only_memory f (inr refused) = absurd (never (sym query_allowed ∙ refused.1))
   where
-    never : {r : Refusal} → None ≡ Some r → ⊥
+    never : {r : TextRefusal} → None ≡ Some r → ⊥
     never e = cc
 
 -- nor is the text
@@ -59,10 +59,10 @@ statement_is s read = cc (read, query_statement)
 -- the statement over a table of these columns
 module _ (t : BlockTable) (s : QueryTree) (columns : t.columns ≡ generated_columns) (is : s ≡ demo_statement) where
   pub no_defects_of_demo : statement_defects ((demo_name, t) ∷ []) s ≡ []
-  no_defects_of_demo = (λ i. defects (demo_relation (columns i) ∷ []) (is i)) ∙ well_typed
+  no_defects_of_demo = (λ i. typing_defects (demo_relation (columns i) ∷ []) (is i)) ∙ well_typed
 
   pub tree_of_demo : answer_tree ((demo_name, t) ∷ []) s ≡ demo_tree
-  tree_of_demo = (λ i. tree_of (demo_relation (columns i) ∷ []) (is i)) ∙ tree_is
+  tree_of_demo = (λ i. resolved_tree (demo_relation (columns i) ∷ []) (is i)) ∙ tree_is
 
 -- ---- copies
 
@@ -86,9 +86,9 @@ one_at_most bs h = all_filter (λ r. r.annot.most ≤ 1) (λ r. not (is_none r.a
 
 -- the sums that the demonstration prints
 pub sum_fits : (n : ℕ) (t : BlockTable) (s : QueryTree) → n ≤ 100000 → t.columns ≡ generated_columns → length t.blocks ≡ n → AllOnce t.blocks → s ≡ demo_statement
-    → in_range (sum_of (answer_rows false ((demo_name, t) ∷ []) s)) ≡ true
+    → in_range (triple_sum (answer_rows false ((demo_name, t) ∷ []) s)) ≡ true
 sum_fits n t s few columns blocks copies is =
     let many : length (bounded_table t) ≤ 100000 = omega (arith, fewer (λ (r : RangeRow). not (is_none r.annot)) (map block_row t.blocks), length-map t.blocks block_row) in
-    ap (λ q. in_range (sum_of (bounded_answer false q (bounded_table t ∷ [])))) (tree_of_demo t s columns is)
+    ap (λ q. in_range (triple_sum (bounded_answer false q (bounded_table t ∷ [])))) (tree_of_demo t s columns is)
     ∙ sum_in_range (term.Column 0 ∷ term.Column 1 ∷ term.Column 2 ∷ []) (term.Column 1 ∷ term.Literal (value.Int (pos 1)) ∷ term.Column 2 ∷ []) 1 (agg.Sum 1 ∷ agg.Sum 2 ∷ [])
     (bounded_table t) (one_at_most t.blocks copies) many

@@ -9,26 +9,26 @@ use Rattle.au_blocks.specs.declared.column.Column.{Column}
 use Rattle.au_lex.specs.Lexemes.{unquoted}
 use Rattle.au_lex.specs.Tokens.{tokens_from, longest, has_end, blank_length}
 use Rattle.au_parse.specs.declared.AggWord.TheVariants as word
-use Rattle.au_parse.specs.Tree.{Tree, ItemTree, QueryTree, Sources}
+use Rattle.au_parse.specs.Tree.{TermTree, ItemTree, QueryTree, Sources}
 use Rattle.au_parse.specs.Cuts.{last_split, cut_from, inside}
 use Rattle.au_parse.specs.Expressions.{expression_within, chain}
 use Rattle.au_parse.specs.Queries.{query_within, set_chain, all_some, aliased, sources}
-use Rattle.au_parse.specs.Limits.{passes, stop, back_to_match, too_deep}
-use Rattle.au_typing.specs.Queries.{Relation, defects, tree_of}
+use Rattle.au_parse.specs.Limits.{passes_limit, stop, back_to_match, too_deep}
+use Rattle.au_typing.specs.Queries.{Relation, typing_defects, resolved_tree}
 use Rattle.au_engine.specs.Reading.{refused_text, statement_of}
 use Rattle.au_cli.specs.Demo.{demo_name, demo_query}
 use Rattle.au_cli.proofs.GeneratedTable.{generated_columns}
 
 -- the statement
-abbrev name_at : ℕ → List ℕ → Tree
-name_at at column = Tree.column (record { at = at; table = None; column = column })
+abbrev name_at : ℕ → List ℕ → TermTree
+name_at at column = TermTree.column (record { at = at; table = None; column = column })
 
 abbrev pub demo_statement : QueryTree
 demo_statement =
     QueryTree.select 0 false
     (ItemTree.value (name_at 7 (codes "grp")) None
-    ∷ ItemTree.value (Tree.count_rows 12) (Some (codes "n"))
-    ∷ ItemTree.value (Tree.aggregate 27 word.Sum (name_at 31 (codes "amount"))) (Some (codes "total"))
+    ∷ ItemTree.value (TermTree.count_rows 12) (Some (codes "n"))
+    ∷ ItemTree.value (TermTree.aggregate 27 word.Sum (name_at 31 (codes "amount"))) (Some (codes "total"))
     ∷ [])
     (Sources.table 53 (codes "demo") None Sources.no_sources) None
     (record { at = 67; table = None; column = codes "grp" } ∷ []) true None
@@ -38,7 +38,7 @@ unfolding unquoted tokens_from longest has_end blank_length last_split cut_from 
 query_statement = refl
 
 pub query_allowed : refused_text demo_query ≡ None
-unfolding unquoted tokens_from longest has_end blank_length last_split cut_from inside expression_within chain query_within set_chain all_some aliased sources too_deep passes stop back_to_match
+unfolding unquoted tokens_from longest has_end blank_length last_split cut_from inside expression_within chain query_within set_chain all_some aliased sources too_deep passes_limit stop back_to_match
 query_allowed = refl
 
 -- a table of the generated columns
@@ -50,8 +50,8 @@ demo_tree =
     query.Project (term.Column 0 ∷ term.Column 1 ∷ term.Column 2 ∷ [])
     (query.Group 1 (agg.Sum 1 ∷ agg.Sum 2 ∷ []) (query.Project (term.Column 1 ∷ term.Literal (value.Int (pos 1)) ∷ term.Column 2 ∷ []) (query.Table 0)))
 
-pub well_typed : defects (demo_relation generated_columns ∷ []) demo_statement ≡ []
+pub well_typed : typing_defects (demo_relation generated_columns ∷ []) demo_statement ≡ []
 well_typed = refl
 
-pub tree_is : tree_of (demo_relation generated_columns ∷ []) demo_statement ≡ demo_tree
+pub tree_is : resolved_tree (demo_relation generated_columns ∷ []) demo_statement ≡ demo_tree
 tree_is = refl

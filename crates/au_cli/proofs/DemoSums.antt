@@ -7,7 +7,7 @@ use Rattle.std.proofs.lemmas.List.{length-map}
 use Rattle.std.proofs.lemmas.List.Sums.{sum_by-cons, sum_by-le-sum_by}
 use Rattle.au_value.specs.declared.value.Value.{Value}
 use Rattle.au_value.specs.Ranges.{Span, guesses, all_certain}
-use Rattle.au_annot.specs.Triples.{Counts, none, plus, total, is_none, in_range}
+use Rattle.au_annot.specs.Triples.{Counts, none, plus, total_counts, is_none, in_range}
 use Rattle.au_expr.specs.Terms.{Term}
 use Rattle.au_expr.specs.OnRanges.{range_of}
 use Rattle.au_algebra.specs.declared.query.Agg.{Agg}
@@ -52,10 +52,10 @@ module _ (f : Counts → ℕ) (is : IsComponent f) where
   abbrev pub added : Bounded → ℕ
   added rows = sum_by (λ r. f r.annot) rows
 
-  total_added : (rows : Bounded) → f (total (map (λ r. r.annot) rows)) ≡ added rows
+  total_added : (rows : Bounded) → f (total_counts (map (λ r. r.annot) rows)) ≡ added rows
   total_added [] = is.of_none
   total_added (r ∷ rows) =
-      omega (arith, is.of_sum r.annot (total (map (λ s. s.annot) rows)), total_added rows, sum_by-cons (λ s. f s.annot) r rows)
+      omega (arith, is.of_sum r.annot (total_counts (map (λ s. s.annot) rows)), total_added rows, sum_by-cons (λ s. f s.annot) r rows)
 
   -- ---- the normal form
 
@@ -76,7 +76,7 @@ module _ (f : Counts → ℕ) (is : IsComponent f) where
 
   merged_added : (rows : Bounded) → added (merge_equal rows) ≡ added rows
   merged_added rows =
-      sum_mapped (λ r. f r.annot) (λ cells. entry cells (total (map (λ r. r.annot) (filter (λ r. same_ranges cells r.cells) rows)))) (distinct same_ranges (map (λ r. r.cells) rows))
+      sum_mapped (λ r. f r.annot) (λ cells. entry cells (total_counts (map (λ r. r.annot) (filter (λ r. same_ranges cells r.cells) rows)))) (distinct same_ranges (map (λ r. r.cells) rows))
       ∙ (λ i. sum_by (λ cells. total_added (filter (λ r. same_ranges cells r.cells) rows) i) (distinct same_ranges (map (λ r. r.cells) rows)))
       ∙ sum_distinct same_ranges same_ranges_is same_ranges_refl (λ r. r.cells) (λ r. f r.annot) rows
 
@@ -168,7 +168,7 @@ module _ (shown items : List Term) (keys : ℕ) (aggs : List Agg) (rows : Bounde
   answered = project shown (group keys aggs (project items rows))
 
   part_small : (f : Counts → ℕ) (is : IsComponent f) → ((ks : List Span → List Span) (rs : Bounded) → OneAtMost rs → f (group_counts ks rs) ≤ length rs)
-      → f (total (map (λ r. r.annot) (normal answered))) ≤ 100000
+      → f (total_counts (map (λ r. r.annot) (normal answered))) ≤ 100000
   part_small f is few =
       omega (
         arith,
@@ -187,7 +187,7 @@ module _ (shown items : List Term) (keys : ℕ) (aggs : List Agg) (rows : Bounde
   all_three a b c p q r = rw (p, q, r) refl
 
   -- the sum of the triples lies in the range
-  pub sum_in_range : in_range (total (map (λ r. r.annot) (normal answered))) ≡ true
+  pub sum_in_range : in_range (total_counts (map (λ r. r.annot) (normal answered))) ≡ true
   sum_in_range =
       all_three _ _ _
       (fits_small _ (part_small (λ t. t.least) least_component least_few))

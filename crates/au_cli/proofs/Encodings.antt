@@ -9,7 +9,7 @@ use Rattle.au_cli.specs.declared.files.Purpose.{Purpose}
 use Rattle.au_cli.specs.declared.files.Purpose.TheVariants as purpose
 use Rattle.au_cli.specs.declared.outcome.Outcome.{Outcome}
 use Rattle.au_cli.specs.declared.outcome.Outcome.TheVariants as outcome
-use Rattle.au_cli.specs.Causes.{Encodes}
+use Rattle.au_cli.specs.Causes.{ToldEncode}
 use Rattle.au_cli.specs.FileCauses.{FileCause}
 use Rattle.au_value.specs.Texts.{Text}
 use Rattle.au_cli.specs.Files.{file_table}
@@ -31,7 +31,7 @@ pub file_comes : (found : Result BlockTable Outcome) (refusal : Refusal) (o : Ou
     → IsRefusal refusal o ⊎ (o ≡ outcome.NoMemory)
 file_comes found refusal o h k = elim h [ inl e ↦ inr e | inr e ↦ inl (err_comes found o refusal e k) ]
 
-pub encoded_comes : (P : BlockTable → Type 0) (files : List File) (path : Text) (refusal : Refusal) (o : Outcome) → Encodes (Some files) path P
+pub encoded_comes : (P : BlockTable → Type 0) (files : List File) (path : Text) (refusal : Refusal) (o : Outcome) → ToldEncode (Some files) path P
     → option_map exactly (result_err (file_table purpose.Encode 0 0 (bytes_at files path))) ≡ Some refusal → IsRefusal refusal o ⊎ (o ≡ outcome.NoMemory)
 encoded_comes P files path refusal o h k = inl (ok_comes (file_table purpose.Encode 0 0 (bytes_at files path)) h.0 refusal o h.1 k)
 
@@ -39,6 +39,6 @@ pub file_memory : (found : Result BlockTable Outcome) (o : Outcome) (t : BlockTa
 file_memory found o t h is = elim h [ inl e ↦ e | inr e ↦ (let both : Err o ≡ Ok t = sym e ∙ is in cc) ]
 
 -- the table of a told file is encoded
-pub encodes : (P : BlockTable → Type 0) (told : Option (List File)) (path : Text) (t : BlockTable) → IfSome told (λ files. file_table purpose.Encode 0 0 (bytes_at files path) ≡ Ok t) → P t → Encodes told path P
+pub encodes : (P : BlockTable → Type 0) (told : Option (List File)) (path : Text) (t : BlockTable) → IfSome told (λ files. file_table purpose.Encode 0 0 (bytes_at files path) ≡ Ok t) → P t → ToldEncode told path P
 encodes P None path t h is = h
 encodes P (Some files) path t h is = (t, h, is)

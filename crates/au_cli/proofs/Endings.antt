@@ -20,7 +20,7 @@ use Rattle.au_cli.specs.Demo.{Demonstrates}
 use Rattle.au_cli.specs.Files.{file_table}
 use Rattle.au_cli.specs.Requests.{Given, IsRefusal, Refusal, given_of, numbers_fit, refused_request, unless_refused}
 use Rattle.au_cli.specs.Requests.Refusal.{exactly}
-use Rattle.au_cli.specs.Causes.{AskedCause, AskedNotPositive, DemoCause, Ends, FaultCounts, Gives, IsAskedText, IsRead, IsRefusedBefore, RequestCause, StageCause, TextPut, is_text_fault, is_text_limit}
+use Rattle.au_cli.specs.Causes.{AskedCause, AskedNotPositive, DemoCause, Ends, FaultCounts, ToldGive, IsAskedText, IsRead, IsRefusedBefore, RequestCause, StageCause, TextPut, is_text_fault, is_text_limit}
 use Rattle.au_cli.proofs.Encodings.{encoded_comes, file_comes, file_decides, file_memory}
 use Rattle.au_cli.proofs.PlanRuns.{decided_comes as decided_plan, given_comes as given_plan, plan_decides, plan_early, run_memory}
 use Rattle.au_cli.proofs.Refusals.{not_few}
@@ -66,7 +66,7 @@ abbrev pub Decided : Request → List File → Outcome → Type 0
 Decided r files o =
     (o ≡ outcome.NoMemory)
     ⊎ ((refusal : Refusal) × (given_of r files ≡ Err refusal) × IsRefusal refusal o)
-    ⊎ ((o ≡ outcome.Overflow) × Gives (Some files) r (λ ts s. numbers_fit r ts s ≡ false))
+    ⊎ ((o ≡ outcome.Overflow) × ToldGive (Some files) r (λ ts s. numbers_fit r ts s ≡ false))
 
 before_decides : (r : Request) (files : List File) (o : Outcome) → IsRefusedBefore r o → Decided r files o
 before_decides r files o h = inr (inl (h.0, ap (unless_refused r files) h.1, h.2))
@@ -190,7 +190,7 @@ early_comes asked told n old new refusal o h k = early_cause_comes asked told n.
 -- ---- completeness
 
 -- what is given is not refused, and what fits does not leave its range
-not_left : (r : Request) (files : List File) (g : Given) → given_of r files ≡ Ok g → numbers_fit r g.0 g.1 ≡ true → Gives (Some files) r (λ ts s. numbers_fit r ts s ≡ false) → ⊥
+not_left : (r : Request) (files : List File) (g : Given) → given_of r files ≡ Ok g → numbers_fit r g.0 g.1 ≡ true → ToldGive (Some files) r (λ ts s. numbers_fit r ts s ≡ false) → ⊥
 not_left r files g is fit h =
     let same : Ok (h.0, h.1) ≡ Ok g = sym h.2 ∙ is in
     let e : (h.0, h.1) ≡ g = cc in

@@ -13,7 +13,7 @@ use Rattle.au_value.specs.Numeral.{numeral_value}
 use Rattle.au_csv.specs.Texts.{Record, is_text}
 use Rattle.au_gen.specs.Generator.{draw}
 use Rattle.au_blocks.specs.Headers.{format_of}
-use Rattle.au_blocks.specs.Entries.{Entry, entries_of, distinct, label_of, labelled, blocks_of}
+use Rattle.au_blocks.specs.Entries.{BlockEntry, entries_of, distinct_labels, label_of, labelled, entry_blocks}
 use Rattle.au_blocks.specs.Defects.{record_defects, block_defects, blocks_defects}
 use Rattle.au_blocks.proofs.Distinct.{itself}
 use Rattle.au_cli.proofs.GeneratedDigits.{codes_utf8, decimal_utf8, lettered_utf8, decimal_numeral, decimal_apart}
@@ -101,22 +101,22 @@ others_twice label (x ∷ xs) = elim (cases_Bool (bytes_eq label x)) [
 ]
 
 -- a text that comes twice in a row counts once
-distinct_again : (x : List ℕ) (xs : List (List ℕ)) → distinct (x ∷ x ∷ xs) ≡ distinct (x ∷ xs)
-distinct_again x xs = rw (itself x) (ap (λ ys. x ∷ ys) (others_twice x (distinct xs)))
+distinct_again : (x : List ℕ) (xs : List (List ℕ)) → distinct_labels (x ∷ x ∷ xs) ≡ distinct_labels (x ∷ xs)
+distinct_again x xs = rw (itself x) (ap (λ ys. x ∷ ys) (others_twice x (distinct_labels xs)))
 
 distinct_block : (label group amount other more : List ℕ) (two absent : Bool) (rest : List Record)
-    → distinct (map label_of (labelled_rows label group amount other more two absent ++ rest)) ≡ label ∷ others label (distinct (map label_of rest))
+    → distinct_labels (map label_of (labelled_rows label group amount other more two absent ++ rest)) ≡ label ∷ others label (distinct_labels (map label_of rest))
 distinct_block label group amount other more true true rest = distinct_again label (label ∷ map label_of rest) ∙ distinct_again label (map label_of rest)
 distinct_block label group amount other more true false rest = distinct_again label (map label_of rest)
 distinct_block label group amount other more false true rest = distinct_again label (map label_of rest)
 distinct_block label group amount other more false false rest = refl
 
-pub distinct_labels : (start a n : ℕ) → a + n ≤ 100000 → distinct (map label_of (rows_from start a n)) ≡ labels a n
-distinct_labels start a zero few = refl
-distinct_labels start a (suc n) few =
+pub generated_labels : (start a n : ℕ) → a + n ≤ 100000 → distinct_labels (map label_of (rows_from start a n)) ≡ labels a n
+generated_labels start a zero few = refl
+generated_labels start a (suc n) few =
     let c = draw start (3 * a + 3) in
     distinct_block (decimal (a + 1)) (decimal (draw start (3 * a + 1) % 4)) (decimal (draw start (3 * a + 2) % 100)) (decimal ((draw start (3 * a + 1) + 1) % 4)) (decimal (draw start (3 * a + 2) % 100 + 7)) (c % 3 == 0) (c % 5 == 0) (rows_from start (a + 1) n)
-    ∙ ap (λ ls. decimal (a + 1) ∷ others (decimal (a + 1)) ls) (distinct_labels start (a + 1) n (omega arith))
+    ∙ ap (λ ls. decimal (a + 1) ∷ others (decimal (a + 1)) ls) (generated_labels start (a + 1) n (omega arith))
     ∙ ap (λ ls. decimal (a + 1) ∷ ls) (others_later a (a + 1) n (omega arith) (omega arith))
 
 -- ---- the records of a label
@@ -178,7 +178,7 @@ block_labelled start a (suc n) j from to few = elim (cases_lt a j) [
 -- ---- the blocks
 
 -- a block without a defect, at any place
-abbrev pub IsFine : List Entry → Type 0
+abbrev pub IsFine : List BlockEntry → Type 0
 IsFine es = (k : ℕ) → block_defects (k, es) ≡ []
 
 block_fine : (label group amount other more : List ℕ) (two absent : Bool) → IsFine (entries_of (format_of header_fields) (labelled_rows label group amount other more two absent))
@@ -195,7 +195,7 @@ drawn_fine start j =
     block_fine (decimal (j + 1)) (decimal (a % 4)) (decimal (b % 100)) (decimal ((a + 1) % 4)) (decimal (b % 100 + 7)) (c % 3 == 0) (c % 5 == 0)
 
 -- the entries of a label
-abbrev entries_at : List Record → List ℕ → List Entry
+abbrev entries_at : List Record → List ℕ → List BlockEntry
 entries_at rows label = entries_of (format_of header_fields) (labelled label rows)
 
 labels_fine : (start all a n : ℕ) → a + n ≤ all → all ≤ 100000 → AllByRecursion IsFine (map (entries_at (rows_from start 0 all)) (labels a n))
@@ -205,7 +205,7 @@ labels_fine start all a (suc n) fits few = (
   labels_fine start all (a + 1) n (omega arith) few,
 )
 
-no_block_defects : (k : ℕ) (bs : List (List Entry)) → AllByRecursion IsFine bs → flat_map block_defects (enumerate_from k bs) ≡ []
+no_block_defects : (k : ℕ) (bs : List (List BlockEntry)) → AllByRecursion IsFine bs → flat_map block_defects (enumerate_from k bs) ≡ []
 no_block_defects k [] h = refl
 no_block_defects k (b ∷ bs) h = rw (h.0 k) (no_block_defects (k + 1) bs h.1)
 
@@ -213,15 +213,15 @@ length_labels : (a n : ℕ) → length (labels a n) ≡ n
 length_labels a zero = refl
 length_labels a (suc n) = let more : length (labels (a + 1) n) ≡ n = length_labels (a + 1) n in omega arith
 
-blocks_are : (start n : ℕ) → n ≤ 100000 → blocks_of (format_of header_fields) (rows_from start 0 n) ≡ map (entries_at (rows_from start 0 n)) (labels 0 n)
-blocks_are start n few = ap (map (entries_at (rows_from start 0 n))) (distinct_labels start 0 n (omega arith))
+blocks_are : (start n : ℕ) → n ≤ 100000 → entry_blocks (format_of header_fields) (rows_from start 0 n) ≡ map (entries_at (rows_from start 0 n)) (labels 0 n)
+blocks_are start n few = ap (map (entries_at (rows_from start 0 n))) (generated_labels start 0 n (omega arith))
 
 -- the blocks have no defect, and there is one for each number
-pub no_defects_of_blocks : (start n : ℕ) → n ≤ 100000 → blocks_defects (blocks_of (format_of header_fields) (rows_from start 0 n)) ≡ []
+pub no_defects_of_blocks : (start n : ℕ) → n ≤ 100000 → blocks_defects (entry_blocks (format_of header_fields) (rows_from start 0 n)) ≡ []
 no_defects_of_blocks start n few =
     ap blocks_defects (blocks_are start n few)
     ∙ no_block_defects 0 (map (entries_at (rows_from start 0 n)) (labels 0 n)) (labels_fine start n 0 n (omega arith) few)
 
-pub count_of_blocks : (start n : ℕ) → n ≤ 100000 → length (blocks_of (format_of header_fields) (rows_from start 0 n)) ≡ n
+pub count_of_blocks : (start n : ℕ) → n ≤ 100000 → length (entry_blocks (format_of header_fields) (rows_from start 0 n)) ≡ n
 count_of_blocks start n few =
     ap length (blocks_are start n few) ∙ length-map (labels 0 n) (entries_at (rows_from start 0 n)) ∙ length_labels 0 n

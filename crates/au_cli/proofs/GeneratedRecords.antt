@@ -11,7 +11,7 @@ use Rattle.csv.specs.Writing.{fields_text, is_blank}
 use Rattle.csv.proofs.RoundTrip.{read-write-many}
 use Rattle.au_csv.specs.Texts.{Record, records_of}
 use Rattle.au_csv.proofs.Reached.{records-AreRecords}
-use Rattle.au_gen.specs.Generator.{guess_record, alternative_record, absent_record, block_of, draw, drawn_block, header, text}
+use Rattle.au_gen.specs.Generator.{guess_record, alternative_record, absent_record, block_text, draw, drawn_block, header, text}
 use Rattle.au_cli.proofs.GeneratedDigits.{IsPlain, decimal_plain, lettered_plain}
 
 -- a text begins with this record, and these bytes are left
@@ -88,7 +88,7 @@ labelled_rows label group amount other more two absent =
 abbrev pub block_rows : ℕ → ℕ → ℕ → ℕ → List Record
 block_rows i a b c = labelled_rows (decimal i) (decimal (a % 4)) (decimal (b % 100)) (decimal ((a + 1) % 4)) (decimal (b % 100 + 7)) (c % 3 == 0) (c % 5 == 0)
 
-block_begins : (i a b c : ℕ) (tail : List ℕ) → i ≤ 100000 → BeginWith (block_of i a b c ++ tail) (block_rows i a b c) tail
+block_begins : (i a b c : ℕ) (tail : List ℕ) → i ≤ 100000 → BeginWith (block_text i a b c ++ tail) (block_rows i a b c) tail
 block_begins i a b c tail few =
     let label = decimal_plain i few in
     let amount = decimal_plain (b % 100) (omega arith) in
@@ -102,7 +102,7 @@ block_begins i a b c tail few =
     (alternative_line (decimal i) (decimal ((a + 1) % 4)) (decimal (b % 100 + 7)) (absents ++ tail) label other more) in
     let first = begin_one (guess_record i a b ++ (seconds ++ (absents ++ tail))) (seconds ++ (absents ++ tail)) (guess_fields (decimal i) (decimal (a % 4)) (decimal (b % 100)))
     (guess_line (decimal i) (decimal (a % 4)) (decimal (b % 100)) (seconds ++ (absents ++ tail)) label group amount) in
-    let apart : block_of i a b c ++ tail ≡ guess_record i a b ++ (seconds ++ (absents ++ tail)) = regrouped (guess_record i a b) seconds absents tail in
+    let apart : block_text i a b c ++ tail ≡ guess_record i a b ++ (seconds ++ (absents ++ tail)) = regrouped (guess_record i a b) seconds absents tail in
     subst (λ bytes. BeginWith bytes (block_rows i a b c) tail) (sym apart)
     (begin_more _ _ tail _ _ first (begin_more _ _ tail _ _ second third))
   where

@@ -12,7 +12,7 @@ use Rattle.au_blocks.specs.declared.column.Column.{Column}
 use Rattle.au_blocks.specs.Tables.{BlockTable}
 use Rattle.au_blocks.specs.Headers.{format_of, cells_of, written_kinds}
 use Rattle.au_blocks.specs.Blocks.{Choices, once}
-use Rattle.au_blocks.specs.Entries.{Entry, alternatives, blocks_of, copies_in, distinct, entries_of, entry, is_absent, label_of, labelled, role_of}
+use Rattle.au_blocks.specs.Entries.{BlockEntry, alternatives, entry_blocks, copies_in, distinct_labels, entries_of, block_entry, is_absent, label_of, labelled, role_of}
 use Rattle.au_algebra.proofs.Each.{all_filter}
 use Rattle.au_blocks.specs.Defects.{defects, header_defects, rows_defects, blocks_defects}
 use Rattle.au_blocks.specs.Read.{candidate_of, contents, first, unless, table_of, block_of, header_kinds}
@@ -43,21 +43,21 @@ header_text =
     rw (block, role, id, group, amount) refl
 
 -- records below this header, with no defect of their own
-no_defects : (rows : List Record) → not_text (header_fields ∷ rows) ≡ None → rows_defects (format_of header_fields) 5 written rows ≡ [] → blocks_defects (blocks_of (format_of header_fields) rows) ≡ [] → defects (header_fields ∷ rows) ≡ []
+no_defects : (rows : List Record) → not_text (header_fields ∷ rows) ≡ None → rows_defects (format_of header_fields) 5 written rows ≡ [] → blocks_defects (entry_blocks (format_of header_fields) rows) ≡ [] → defects (header_fields ∷ rows) ≡ []
 no_defects rows text sound blocks = rw (text, sound, blocks) refl
 
 columns_are : (rows : List Record) → (contents (header_fields ∷ rows)).columns ≡ generated_columns
 columns_are rows = refl
 
-blocks_counted : (rows : List Record) → length (contents (header_fields ∷ rows)).blocks ≡ length (blocks_of (format_of header_fields) rows)
-blocks_counted rows = length-map (blocks_of (format_of header_fields) rows) (block_of (header_kinds header_fields rows))
+blocks_counted : (rows : List Record) → length (contents (header_fields ∷ rows)).blocks ≡ length (entry_blocks (format_of header_fields) rows)
+blocks_counted rows = length-map (entry_blocks (format_of header_fields) rows) (block_of (header_kinds header_fields rows))
 
 -- ---- copies
 
-abbrev IsOnce : Entry → Type 0
+abbrev IsOnce : BlockEntry → Type 0
 IsOnce e = e.copies ≡ once
 
-once_behind : {R : Type 0} (made : R → Entry) (role : Option R) (others : List Entry) → ((x : R) → IsOnce (made x)) → AllByRecursion IsOnce others
+once_behind : {R : Type 0} (made : R → BlockEntry) (role : Option R) (others : List BlockEntry) → ((x : R) → IsOnce (made x)) → AllByRecursion IsOnce others
     → AllByRecursion IsOnce (cons_option (option_map made role) others)
 once_behind made None others each h = h
 once_behind made (Some x) others each h = (each x, h)
@@ -65,14 +65,14 @@ once_behind made (Some x) others each h = (each x, h)
 -- a record without numbers of copies stands for one
 entries_once : (rows : List Record) → AllByRecursion IsOnce (entries_of (format_of header_fields) rows)
 entries_once [] = tt
-entries_once (r ∷ rows) = once_behind (λ x. entry x (copies_in (format_of header_fields) r) (cells_of (format_of header_fields) r)) (role_of (format_of header_fields) r) (entries_of (format_of header_fields) rows)
+entries_once (r ∷ rows) = once_behind (λ x. block_entry x (copies_in (format_of header_fields) r) (cells_of (format_of header_fields) r)) (role_of (format_of header_fields) r) (entries_of (format_of header_fields) rows)
     (λ x. refl) (entries_once rows)
 
 -- each alternative stands for one copy
 abbrev pub AllOnce : List Choices → Type 0
 AllOnce bs = AllByRecursion (λ b. AllByRecursion (λ a. a.copies ≡ once) b.alternatives) bs
 
-candidates_once : (kinds : List Kind) (es : List Entry) → AllByRecursion IsOnce es → AllByRecursion (λ a. a.copies ≡ once) (map (candidate_of kinds) es)
+candidates_once : (kinds : List Kind) (es : List BlockEntry) → AllByRecursion IsOnce es → AllByRecursion (λ a. a.copies ≡ once) (map (candidate_of kinds) es)
 candidates_once kinds [] h = tt
 candidates_once kinds (e ∷ es) h = (h.0, candidates_once kinds es h.1)
 
@@ -106,6 +106,6 @@ generated start n few =
         read = table_is (text start n) (header_fields ∷ rows) (text_rows start n few) none;
         columns = columns_are rows;
         count = blocks_counted rows ∙ count_of_blocks start n few;
-        copies = labels_once (header_kinds header_fields rows) rows (distinct (map label_of rows));
+        copies = labels_once (header_kinds header_fields rows) rows (distinct_labels (map label_of rows));
       },
     )

@@ -12,7 +12,7 @@ use Rattle.au_blocks.specs.Tables.{BlockTable, IsBlockTable}
 use Rattle.au_io.specs.Files.{File, bytes_at}
 use Rattle.au_lex.specs.declared.Token.{Token}
 use Rattle.au_lex.specs.Tokens.{tokens_of}
-use Rattle.au_parse.specs.Queries.{tree_of}
+use Rattle.au_parse.specs.Queries.{parsed_tree}
 use Rattle.au_parse.specs.Tree.{QueryTree}
 use Rattle.au_parse.specs.Whole.{WholeQuery}
 use Rattle.au_parse.proofs.Wholeness.{tree_whole}
@@ -177,7 +177,7 @@ given_parts r files ts s e =
     let is = statement_parts r files ts s (statement_of r.query) own.1 in
     record { statement = is.0; tables = is.1; sound = is.2; allowed = own.0 }
 
-whole_of : (o : Option (List Token)) (s : QueryTree) → option_and_then tree_of o ≡ Some s → WholeQuery s
+whole_of : (o : Option (List Token)) (s : QueryTree) → option_and_then parsed_tree o ≡ Some s → WholeQuery s
 whole_of None s e = cc
 whole_of (Some tokens) s e = tree_whole tokens s e
 

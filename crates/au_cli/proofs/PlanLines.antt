@@ -8,8 +8,8 @@ use Rattle.std.proofs.lemmas.Slice.Eq.{bytes_eq-Decides}
 use Rattle.au_plain.specs.Plans.{PlanTree}
 use Rattle.au_sqltext.specs.Answers.{IsNoText, IsTextOf}
 use Rattle.au_sqltext.specs.Brackets.{is_deep}
-use Rattle.au_sqltext.specs.Fitting.{numbers_fit, widths_fit}
-use Rattle.au_sqltext.specs.Reading.{plan_at}
+use Rattle.au_sqltext.specs.Fitting.{written_numbers_fit, widths_fit}
+use Rattle.au_sqltext.specs.Reading.{read_plan_tree}
 use Rattle.au_sqltext.specs.Texts.{plan_text}
 use Rattle.au_sqltext.specs.declared.fault.PlanFault.{PlanFault}
 use Rattle.au_sqltext.specs.declared.fault.PlanFault.TheVariants as no_plan
@@ -66,12 +66,12 @@ both_true false y e f = cc
 
 has_text : (text : Text) (p : PlanTree) → IsTextOf text p → is_text_of text p ≡ true
 has_text text p is =
-    both_true (widths_fit p && numbers_fit p) (bytes_eq (plan_text p) text) (both_true (widths_fit p) (numbers_fit p) is.widths is.numbers) ((bytes_eq-Decides (plan_text p) text).1 is.text)
+    both_true (widths_fit p && written_numbers_fit p) (bytes_eq (plan_text p) text) (both_true (widths_fit p) (written_numbers_fit p) is.widths is.numbers) ((bytes_eq-Decides (plan_text p) text).1 is.text)
 
 text_has : (text : Text) (p : PlanTree) → is_text_of text p ≡ true → IsTextOf text p
 text_has text p e =
-    let parts = and_parts (widths_fit p && numbers_fit p) (bytes_eq (plan_text p) text) e in
-    let fit = and_parts (widths_fit p) (numbers_fit p) parts.0 in
+    let parts = and_parts (widths_fit p && written_numbers_fit p) (bytes_eq (plan_text p) text) e in
+    let fit = and_parts (widths_fit p) (written_numbers_fit p) parts.0 in
     record { widths = fit.0; numbers = fit.1; text = (bytes_eq-Decides (plan_text p) text).0 parts.1 }
 
 -- the plan of a text is the one whose text it is
@@ -87,7 +87,7 @@ none_own text None h = refl
 none_own text (Some read) h = differs text read.0 (is_text_of text read.0) refl h
 
 pub no_own : (text : Text) → IsNoText text → plan_of text ≡ None
-no_own text h = none_own text (plan_at (length text) text) h
+no_own text h = none_own text (read_plan_tree (length text) text) h
 
 pub plan_line : (text : Text) (p : PlanTree) → is_deep text ≡ false → IsTextOf text p → line_plan (Some text) ≡ Ok p
 plan_line text p flat is = rw flat (ap plan_or_fault (own text p is))

@@ -17,7 +17,7 @@ use Rattle.au_cli.specs.Files.{tables_of}
 use Rattle.au_cli.specs.Requests.{ended, given_of, numbers_fit, tables_given, typed_given, unless_refused, statement_given}
 use Rattle.au_cli.specs.Requests.Refusal.{exactly, defects}
 use Rattle.au_cli.specs.FileCauses.{FilesCause, FilesRefused, is_file_limit}
-use Rattle.au_cli.specs.Causes.{Gives, IsFirst, IsRead, RequestCause, StageCause, is_query_limit, is_text_fault, is_text_limit}
+use Rattle.au_cli.specs.Causes.{ToldGive, IsFirst, IsRead, RequestCause, StageCause, is_query_limit, is_text_fault, is_text_limit}
 
 -- what a request that is read is given is what its tables give
 pub given_tables : (r : Request) (files : List File) (read : IsRead r) → given_of r files ≡ tables_given read.statement (tables_of files r.tables)
@@ -49,7 +49,7 @@ pub typed_tables : (r : Request) (files : List File) (read : IsRead r) (ts : Lis
 typed_tables r files read ts e = given_tables r files read ∙ ap (tables_given read.statement) e
 
 pub gives : (P : List Named → QueryTree → Type 0) (told : Option (List File)) (r : Request) (read : IsRead r) (ts : List Named) → IfSome told (λ files. tables_of files r.tables ≡ Ok ts)
-    → statement_defects ts read.statement ≡ [] → P ts read.statement → Gives told r P
+    → statement_defects ts read.statement ≡ [] → P ts read.statement → ToldGive told r P
 gives P None r read ts e typed h = tt
 gives P (Some files) r read ts e typed h = (ts, read.statement, typed_tables r files read ts e ∙ ap (typed_given ts read.statement) typed, h)
 

@@ -10,7 +10,7 @@ use Rattle.au_lex.specs.Tokens.{tokens_of}
 use Rattle.au_parse.specs.declared.ParseFault.{ParseFault}
 use Rattle.au_parse.specs.declared.ParseFault.TheVariants as parse
 use Rattle.au_parse.specs.Limits.{limit_fault}
-use Rattle.au_parse.specs.Queries.{tree_of}
+use Rattle.au_parse.specs.Queries.{parsed_tree}
 use Rattle.au_parse.specs.Tree.{QueryTree}
 use Rattle.au_engine.specs.declared.faults.EngineFault.{EngineFault}
 use Rattle.au_engine.specs.declared.faults.EngineFault.TheVariants as engine
@@ -69,10 +69,10 @@ tree_early text None (Some tree) = tt
 tokens_early : (text : Text) (n : ℕ) (tokens : Result (List Token) LexFault) → IsEarly (option_map (text_refusal text) (refused_tokens n tokens))
 unfolding IsEarly
 tokens_early text n (Err fault) = token_is_early fault
-tokens_early text n (Ok tokens) = tree_early text (limit_fault n tokens) (tree_of tokens)
+tokens_early text n (Ok tokens) = tree_early text (limit_fault n tokens) (parsed_tree tokens)
 
 text_early_if : (long : Bool) (text : Text) (n : ℕ) (tokens : Result (List Token) LexFault)
-    → IsEarly (option_map (text_refusal text) (if long then Some (reading.Refusal.exactly (engine.Limit (limit.QueryLength n))) else refused_tokens n tokens))
+    → IsEarly (option_map (text_refusal text) (if long then Some (reading.TextRefusal.exactly (engine.Limit (limit.QueryLength n))) else refused_tokens n tokens))
 unfolding IsEarly
 text_early_if true text n tokens = refl
 text_early_if false text n tokens = tokens_early text n tokens
@@ -149,9 +149,9 @@ few_tables : (r : Request) → nat_lt greatest_files (length r.tables) ≡ false
     → refused_request r ≡ option_or (option_map (text_refusal r.query) (refused_text r.query)) (refused_statement r.command (statement_of r.query))
 few_tables r e = rw e refl
 
-refusal_ends : (text : Text) (found : reading.Refusal) (fault : EngineFault) → reading.IsRefusalOf text found fault → IsRefusal (text_refusal text found) (ended fault)
-refusal_ends text (reading.Refusal.exactly wanted) fault h = ap ended h
-refusal_ends text reading.Refusal.no_statement fault h = (fault, h, refl)
+refusal_ends : (text : Text) (found : reading.TextRefusal) (fault : EngineFault) → reading.IsRefusalOf text found fault → IsRefusal (text_refusal text found) (ended fault)
+refusal_ends text (reading.TextRefusal.exactly wanted) fault h = ap ended h
+refusal_ends text reading.TextRefusal.no_statement fault h = (fault, h, refl)
 
 pub text_cause : (r : Request) (fault : EngineFault) → nat_lt greatest_files (length r.tables) ≡ false → TextCause r.query fault → StatementCause r (ended fault)
 text_cause r fault few cause = elim cause [
@@ -216,10 +216,10 @@ tree_textual text None (Some tree) = tt
 tokens_textual : (text : Text) (n : ℕ) (tokens : Result (List Token) LexFault) → IsTextual (option_map (text_refusal text) (refused_tokens n tokens))
 unfolding IsTextual
 tokens_textual text n (Err fault) = token_not_placed fault
-tokens_textual text n (Ok tokens) = tree_textual text (limit_fault n tokens) (tree_of tokens)
+tokens_textual text n (Ok tokens) = tree_textual text (limit_fault n tokens) (parsed_tree tokens)
 
 text_textual_if : (long : Bool) (text : Text) (n : ℕ) (tokens : Result (List Token) LexFault)
-    → IsTextual (option_map (text_refusal text) (if long then Some (reading.Refusal.exactly (engine.Limit (limit.QueryLength n))) else refused_tokens n tokens))
+    → IsTextual (option_map (text_refusal text) (if long then Some (reading.TextRefusal.exactly (engine.Limit (limit.QueryLength n))) else refused_tokens n tokens))
 unfolding IsTextual
 text_textual_if true text n tokens = refl
 text_textual_if false text n tokens = tokens_textual text n tokens

@@ -39,8 +39,8 @@ pub record IsRead (r : Request) : Type 0 where
   pub is : statement_of r.query ≡ Some statement
 
 -- told files give what is asked for, and this holds of it
-abbrev pub Gives : Option (List File) → Request → (List Named → QueryTree → Type 0) → Type 0
-Gives told r P = IfSome told (λ files. (ts : List Named) × (s : QueryTree) × (given_of r files ≡ Ok (ts, s)) × P ts s)
+abbrev pub ToldGive : Option (List File) → Request → (List Named → QueryTree → Type 0) → Type 0
+ToldGive told r P = IfSome told (λ files. (ts : List Named) × (s : QueryTree) × (given_of r files ≡ Ok (ts, s)) × P ts s)
 
 -- an outcome is that of the first refusal over the told files
 abbrev pub IsFirst : Option (List File) → Request → Outcome → Type 0
@@ -99,7 +99,7 @@ RequestCause r told faults faults_now absences absences_now (outcome.Limit fault
 RequestCause r told faults faults_now absences absences_now (outcome.NoFile i) = Rose absences absences_now × IsFirst told r (outcome.NoFile i)
 RequestCause r told faults faults_now absences absences_now (outcome.ReadFault i) = (i < length r.tables) × Rose faults faults_now × IsRead r
 RequestCause r told faults faults_now absences absences_now (outcome.Table i fault) = (fault ≢ table.NoMemory) × IsFirst told r (outcome.Table i fault)
-RequestCause r told faults faults_now absences absences_now outcome.Overflow = IsRead r × Gives told r (λ ts s. numbers_fit r ts s ≡ false)
+RequestCause r told faults faults_now absences absences_now outcome.Overflow = IsRead r × ToldGive told r (λ ts s. numbers_fit r ts s ≡ false)
 RequestCause r told faults faults_now absences absences_now _ = ⊥
 
 -- ---- a demonstration
@@ -116,17 +116,17 @@ DemoText ts s = demo_text (answer_rows false ts s)
 -- ---- encoded rows
 
 -- the table of told files that is encoded, and this holds of it
-abbrev pub Encodes : Option (List File) → Text → (BlockTable → Type 0) → Type 0
-Encodes told path P = IfSome told (λ files. (t : BlockTable) × (file_table purpose.Encode 0 0 (bytes_at files path) ≡ Ok t) × P t)
+abbrev pub ToldEncode : Option (List File) → Text → (BlockTable → Type 0) → Type 0
+ToldEncode told path P = IfSome told (λ files. (t : BlockTable) × (file_table purpose.Encode 0 0 (bytes_at files path) ≡ Ok t) × P t)
 
 -- ---- the words
 
 -- a text is what the words ask for
 abbrev pub IsAskedText : Result Asked UsageFault → Option (List File) → List ℕ → Type 0
 IsAskedText (Err fault) told text = ⊥
-IsAskedText (Ok (words.query r)) told text = IsRead r × Gives told r (IsAnswer r text)
+IsAskedText (Ok (words.query r)) told text = IsRead r × ToldGive told r (IsAnswer r text)
 IsAskedText (Ok (words.demo start blocks workers)) told text = Demonstrates start blocks (λ ts s. text ≡ DemoText ts s)
-IsAskedText (Ok (words.encode word)) told text = Encodes told word.1 (λ t. text ≡ encoded_text t)
+IsAskedText (Ok (words.encode word)) told text = ToldEncode told word.1 (λ t. text ≡ encoded_text t)
 IsAskedText (Ok (words.plain path tables)) told text =
     (length tables ≤ greatest_files) × PlanGives told path tables (λ ts p. text ≡ plain_text ts p)
 

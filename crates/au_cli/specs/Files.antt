@@ -6,7 +6,7 @@ use Rattle.au_blocks.specs.declared.faults.TableFault.{TableFault}
 use Rattle.au_blocks.specs.Tables.{BlockTable}
 use Rattle.au_blocks.specs.Read.{table_of}
 use Rattle.au_engine.specs.Answers.{Named}
-use Rattle.au_engine.specs.Exchange.{greatest_size as greatest_cells, plain_size}
+use Rattle.au_engine.specs.Exchange.{greatest_plain_size, plain_size}
 use Rattle.au_engine.specs.declared.faults.LimitFault.{LimitFault}
 use Rattle.au_engine.specs.declared.faults.LimitFault.TheVariants as limit
 use Rattle.au_io.specs.Files.{File, bytes_at}
@@ -53,7 +53,7 @@ greatest_columns = 20
 abbrev pub passed_limit : Purpose → ℕ → BlockTable → Option LimitFault
 passed_limit purpose.Query file t = None
 passed_limit purpose.Encode file t = if nat_lt greatest_columns (length t.columns) then Some (limit.EncodeColumns (length t.columns)) else None
-passed_limit purpose.Plan file t = if nat_le (plain_size t) greatest_cells then None else Some (limit.PlainRows file)
+passed_limit purpose.Plan file t = if nat_le (plain_size t) greatest_plain_size then None else Some (limit.PlainRows file)
 
 abbrev pub table_within : BlockTable → Option LimitFault → Result BlockTable Outcome
 table_within t None = Ok t

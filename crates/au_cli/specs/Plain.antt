@@ -6,8 +6,8 @@ use Rattle.au_value.specs.declared.kinds.Kind.{Kind}
 use Rattle.au_io.specs.Files.{File, bytes_at}
 use Rattle.au_plain.specs.Plans.{PlanTree}
 use Rattle.au_sqltext.specs.Brackets.{is_deep}
-use Rattle.au_sqltext.specs.Fitting.{numbers_fit, widths_fit}
-use Rattle.au_sqltext.specs.Reading.{plan_at}
+use Rattle.au_sqltext.specs.Fitting.{written_numbers_fit, widths_fit}
+use Rattle.au_sqltext.specs.Reading.{read_plan_tree}
 use Rattle.au_sqltext.specs.Texts.{plan_text}
 use Rattle.au_sqltext.specs.declared.fault.PlanFault.TheVariants as no_plan
 use Rattle.au_engine.specs.Answers.{Named}
@@ -32,7 +32,7 @@ line_of bytes = if is_utf8 bytes then before_line_feed bytes else None
 
 -- whether a text is that of a plan whose widths fit and whose numbers fit their types
 abbrev pub is_text_of : Text → PlanTree → Bool
-is_text_of text p = widths_fit p && numbers_fit p && bytes_eq (plan_text p) text
+is_text_of text p = widths_fit p && written_numbers_fit p && bytes_eq (plan_text p) text
 
 -- The plan of a text: the one that is read from it, where the text is that of this plan. There is no other.
 abbrev pub own_plan : Text → Option (PlanTree × List ℕ) → Option PlanTree
@@ -40,7 +40,7 @@ own_plan text None = None
 own_plan text (Some read) = if is_text_of text read.0 then Some read.0 else None
 
 abbrev pub plan_of : Text → Option PlanTree
-plan_of text = own_plan text (plan_at (length text) text)
+plan_of text = own_plan text (read_plan_tree (length text) text)
 
 abbrev pub plan_or_fault : Option PlanTree → Result PlanTree Outcome
 plan_or_fault None = Err (outcome.Plan no_plan.Text)

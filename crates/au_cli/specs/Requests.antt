@@ -47,12 +47,12 @@ ended engine.NoMemory = outcome.NoMemory
 -- an outcome is that of a refusal
 abbrev pub IsRefusal : Refusal → Outcome → Type 0
 IsRefusal (Refusal.exactly wanted) o = o ≡ wanted
-IsRefusal (Refusal.no_statement text) o = (fault : EngineFault) × reading.IsRefusalOf text reading.Refusal.no_statement fault × (o ≡ ended fault)
+IsRefusal (Refusal.no_statement text) o = (fault : EngineFault) × reading.IsRefusalOf text reading.TextRefusal.no_statement fault × (o ≡ ended fault)
 IsRefusal (Refusal.defects found) o = (fault : EngineFault) × IsDefect found fault × (o ≡ ended fault)
 
-abbrev pub text_refusal : Text → reading.Refusal → Refusal
-text_refusal text (reading.Refusal.exactly fault) = Refusal.exactly (ended fault)
-text_refusal text reading.Refusal.no_statement = Refusal.no_statement text
+abbrev pub text_refusal : Text → reading.TextRefusal → Refusal
+text_refusal text (reading.TextRefusal.exactly fault) = Refusal.exactly (ended fault)
+text_refusal text reading.TextRefusal.no_statement = Refusal.no_statement text
 
 -- where a command refuses a statement: `ua` answers positive ones alone
 abbrev pub refused_place : Command → QueryTree → Option ℕ
@@ -100,16 +100,16 @@ given_of r files = unless_refused r files (refused_request r)
 
 -- ---- what is printed
 
-abbrev pub rows_text : Bool → List (List ℕ) → List Kind → Bounded → List ℕ
-rows_text false names kinds rows = csv_text names kinds rows
-rows_text true names kinds rows = table_text names kinds rows
+abbrev pub bounded_rows_text : Bool → List (List ℕ) → List Kind → Bounded → List ℕ
+bounded_rows_text false names kinds rows = csv_text names kinds rows
+bounded_rows_text true names kinds rows = table_text names kinds rows
 
 -- A text is what is printed: the bounded answer's, with `answer` from compressed products where that is asked for, or that
 -- of the ordinary answer in the guess world, or that of its rows with how often each is certain, or that of a plan which
 -- gives the bounded answer's rows over encoded tables.
 abbrev pub IsTextBy : Command → Request → List Named → QueryTree → List ℕ → Type 0
-IsTextBy Answer r ts s text = text ≡ rows_text r.table (answer_names ts s) (answer_kinds ts s) (asked_rows r.compress r.combine ts s)
-IsTextBy Direct r ts s text = text ≡ rows_text r.table (answer_names ts s) (answer_kinds ts s) (answer_rows r.combine ts s)
+IsTextBy Answer r ts s text = text ≡ bounded_rows_text r.table (answer_names ts s) (answer_kinds ts s) (asked_rows r.compress r.combine ts s)
+IsTextBy Direct r ts s text = text ≡ bounded_rows_text r.table (answer_names ts s) (answer_kinds ts s) (answer_rows r.combine ts s)
 IsTextBy Guess r ts s text = text ≡ world_text (answer_names ts s) (answer_kinds ts s) (guess_answer ts s)
 IsTextBy Ua r ts s text = text ≡ ua_text (answer_names ts s) (answer_kinds ts s) (ua_rows ts s)
 IsTextBy Rewrite r ts s text = IsPlanText ts s text

@@ -9,7 +9,7 @@ ghost use Rattle.au_ua.specs.UaTexts.{ua_text as ua_text_of};
 ghost use Rattle.au_engine.specs.Answers.{AnswerCause, RowsHold, answer_fits, answer_kinds, answer_names, answer_rows, asked_fits, asked_rows, guess_answer as guess_answer_of, guess_answer_fits, statement_defects};
 ghost use Rattle.au_engine.specs.Compressing.{IsCompression};
 ghost use Rattle.au_engine.specs.Certainty.{UaHolds, ua_answer_fits, ua_rows};
-ghost use Rattle.au_cli.specs.Requests.{FitsBy, HoldsBy, IsTextBy, fit_by, refused_place, rows_text};
+ghost use Rattle.au_cli.specs.Requests.{FitsBy, HoldsBy, IsTextBy, fit_by, refused_place, bounded_rows_text};
 ghost use Rattle.au_words.specs.CommandLine.{seen_request};
 
 use au_blocks::Table;
@@ -75,7 +75,7 @@ fn planned_text<R: Threads + Sync, G: Gate + Sync>(
     requires workers { (1 ≤ options.workers) × (options.workers ≤ 64) }
     requires compression { IsCompression options.compress }
     ensures typed { OnOk result (statement_defects tables.now (statement_tree statement.now) ≡ []) }
-    ensures text { IfOk result (λ t. t.items ≡ rows_text table (answer_names tables.now (statement_tree statement.now)) (answer_kinds tables.now (statement_tree statement.now)) (asked_rows options.compress options.combine tables.now (statement_tree statement.now))) }
+    ensures text { IfOk result (λ t. t.items ≡ bounded_rows_text table (answer_names tables.now (statement_tree statement.now)) (answer_kinds tables.now (statement_tree statement.now)) (asked_rows options.compress options.combine tables.now (statement_tree statement.now))) }
     ensures holds { OnOk result (RowsHold tables.now (statement_tree statement.now) (asked_rows options.compress options.combine tables.now (statement_tree statement.now))) }
     ensures refused { IfErr result (AnswerCause (statement_defects tables.now (statement_tree statement.now)) (asked_fits options.compress options.combine tables.now (statement_tree statement.now))) }
 {
@@ -99,7 +99,7 @@ fn direct_text(
 ) -> Result<Vec<u8>, EngineFault>
     requires { WholeQuery (statement_tree statement.now) }
     ensures typed { OnOk result (statement_defects tables.now (statement_tree statement.now) ≡ []) }
-    ensures text { IfOk result (λ t. t.items ≡ rows_text table (answer_names tables.now (statement_tree statement.now)) (answer_kinds tables.now (statement_tree statement.now)) (answer_rows combine tables.now (statement_tree statement.now))) }
+    ensures text { IfOk result (λ t. t.items ≡ bounded_rows_text table (answer_names tables.now (statement_tree statement.now)) (answer_kinds tables.now (statement_tree statement.now)) (answer_rows combine tables.now (statement_tree statement.now))) }
     ensures holds { OnOk result (RowsHold tables.now (statement_tree statement.now) (answer_rows combine tables.now (statement_tree statement.now))) }
     ensures fits { OnOk result (answer_fits combine tables.now (statement_tree statement.now) ≡ true) }
     ensures refused { IfErr result (AnswerCause (statement_defects tables.now (statement_tree statement.now)) (answer_fits combine tables.now (statement_tree statement.now))) }
@@ -117,7 +117,7 @@ fn direct_text(
 fn rows_text(alloc: Global, answer: &Answer, table: bool) -> Result<Vec<u8>, NoMemory>
     requires columns { length answer.now.kinds.items ≡ length answer.now.names.items }
     requires rows { AllByRecursion (λ r. length r.cells ≡ length answer.now.names.items) answer.now.rows }
-    ensures { IfOk result (λ t. t.items ≡ rows_text table answer.now.names.items answer.now.kinds.items answer.now.rows) }
+    ensures { IfOk result (λ t. t.items ≡ bounded_rows_text table answer.now.names.items answer.now.kinds.items answer.now.rows) }
 {
     if table {
         table_text(alloc, answer)
@@ -137,7 +137,7 @@ fn rows_text_by<R: Threads + Sync>(
     requires workers { 1 ≤ workers }
     requires columns { length answer.now.kinds.items ≡ length answer.now.names.items }
     requires rows { AllByRecursion (λ r. length r.cells ≡ length answer.now.names.items) answer.now.rows }
-    ensures { IfOk result (λ t. t.items ≡ rows_text table answer.now.names.items answer.now.kinds.items answer.now.rows) }
+    ensures { IfOk result (λ t. t.items ≡ bounded_rows_text table answer.now.names.items answer.now.kinds.items answer.now.rows) }
 {
     if table {
         table_text(alloc, answer)

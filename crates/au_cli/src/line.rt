@@ -17,9 +17,9 @@ struct QueryText(QueryFault);
 
 impl fmt::Display for QueryText {
     ghost use Rattle.std.specs.Prelude.{Some};
-    ghost use Rattle.au_cli.specs.Lines.{query_text};
+    ghost use Rattle.au_cli.specs.Lines.{query_fault_text};
 
-    ghost output = { λ fault. Some (query_text fault.0) };
+    ghost output = { λ fault. Some (query_fault_text fault.0) };
 
     fn fmt<W: fmt::Write>(&self, f: &mut fmt::Formatter<W>) -> fmt::Result {
         match self.0 {
@@ -66,9 +66,9 @@ struct UsageText(UsageFault);
 
 impl fmt::Display for UsageText {
     ghost use Rattle.std.specs.Prelude.{Some};
-    ghost use Rattle.au_cli.specs.Lines.{usage_text};
+    ghost use Rattle.au_cli.specs.Lines.{usage_fault_text};
 
-    ghost output = { λ fault. Some (usage_text fault.0) };
+    ghost output = { λ fault. Some (usage_fault_text fault.0) };
 
     fn fmt<W: fmt::Write>(&self, f: &mut fmt::Formatter<W>) -> fmt::Result {
         match self.0 {
@@ -85,9 +85,9 @@ struct LimitText(LimitFault);
 
 impl fmt::Display for LimitText {
     ghost use Rattle.std.specs.Prelude.{Some};
-    ghost use Rattle.au_cli.specs.Lines.{limit_text};
+    ghost use Rattle.au_cli.specs.Lines.{limit_fault_text};
 
-    ghost output = { λ fault. Some (limit_text fault.0) };
+    ghost output = { λ fault. Some (limit_fault_text fault.0) };
 
     fn fmt<W: fmt::Write>(&self, f: &mut fmt::Formatter<W>) -> fmt::Result {
         match self.0 {
@@ -111,9 +111,9 @@ struct TableText(TableFault);
 
 impl fmt::Display for TableText {
     ghost use Rattle.std.specs.Prelude.{Some};
-    ghost use Rattle.au_cli.specs.Lines.{table_text};
+    ghost use Rattle.au_cli.specs.Lines.{table_fault_text};
 
-    ghost output = { λ fault. Some (table_text fault.0) };
+    ghost output = { λ fault. Some (table_fault_text fault.0) };
 
     fn fmt<W: fmt::Write>(&self, f: &mut fmt::Formatter<W>) -> fmt::Result {
         match self.0 {
@@ -149,9 +149,9 @@ struct PlanText(PlanFault);
 
 impl fmt::Display for PlanText {
     ghost use Rattle.std.specs.Prelude.{Some};
-    ghost use Rattle.au_cli.specs.Lines.{plan_text};
+    ghost use Rattle.au_cli.specs.Lines.{plan_fault_text};
 
-    ghost output = { λ fault. Some (plan_text fault.0) };
+    ghost output = { λ fault. Some (plan_fault_text fault.0) };
 
     fn fmt<W: fmt::Write>(&self, f: &mut fmt::Formatter<W>) -> fmt::Result {
         match self.0 {

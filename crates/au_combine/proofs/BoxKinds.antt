@@ -11,7 +11,7 @@ use Rattle.au_plain.specs.declared.plan.PAgg.TheVariants.{Sum}
 use Rattle.au_plain.specs.Plans.{PlanTree, Group}
 use Rattle.au_plain.specs.PlanKinds.{plan_kinds, plain_agg_kind, kept_kinds}
 use Rattle.au_encode.specs.Encode.{encoded_kinds, triple_kinds}
-use Rattle.au_combine.specs.Boxes.{sg_places, box_aggs, weave, boxes, combine}
+use Rattle.au_combine.specs.Boxes.{sg_places, box_aggs, weave, boxes, combine_plan}
 use Rattle.au_rwexpr.specs.Cells.{run}
 use Rattle.au_rwexpr.proofs.Places.{At, at_more, at_past, EndsOfAll}
 use Rattle.au_rwexpr.proofs.Picks.{Picks, kinds_kept, picks_more, coded_cells, coded_triple}
@@ -82,7 +82,7 @@ module _ (row : List Kind) where
       same (x ∷ xs) = λ i. x ∷ same xs i
 
 -- Combine's plan has the encoded kinds of its input.
-pub combine_kinds : (tk : List (List Kind)) (ks : List Kind) (p : PlanTree) → HasKinds tk p ks → HasKinds tk (combine (length ks) p) ks
+pub combine_kinds : (tk : List (List Kind)) (ks : List Kind) (p : PlanTree) → HasKinds tk p ks → HasKinds tk (combine_plan (length ks) p) ks
 combine_kinds tk ks p h =
     let c = length ks in
     let row = encoded_kinds ks in

@@ -8,7 +8,7 @@ use Rattle.au_value.specs.declared.kinds.Kind.{Kind}
 use Rattle.au_value.specs.declared.value.Value.{Value}
 use Rattle.au_value.specs.declared.value.Value.TheVariants as value
 use Rattle.au_value.specs.Ranges.{IsRangeOf, guesses}
-use Rattle.au_annot.specs.Triples.{total}
+use Rattle.au_annot.specs.Triples.{total_counts}
 use Rattle.au_expr.specs.Figures.{Fit}
 use Rattle.au_expr.specs.Ordinary.{number}
 use Rattle.au_expr.proofs.Fits.{fit_both}
@@ -27,7 +27,7 @@ use Rattle.au_plain.specs.Meaning.{plain_rows}
 use Rattle.au_plain.specs.PlanNumbers.{plan_numbers, magnitudes, group_numbers}
 use Rattle.au_encode.specs.Encode.{encode, encode_row}
 use Rattle.au_encode.proofs.Decoded.{cells_length}
-use Rattle.au_combine.specs.Boxes.{sg_places, box_aggs, combine}
+use Rattle.au_combine.specs.Boxes.{sg_places, box_aggs, combine_plan}
 use Rattle.au_rwexpr.proofs.Places.{At, Ends}
 use Rattle.au_rwexpr.proofs.Picks.{coded_cells, coded_triple}
 use Rattle.au_rwexpr.proofs.Gives.{Gives}
@@ -63,9 +63,9 @@ module _ (ks : List Kind) where
 
   each_magnitude : (rows : Bounded) → IsRelation ks rows → flat_map (magnitudes (encode rows)) sums ≡ triple_of (merged rows)
   each_magnitude rows ok = λ i.
-      pos (sum_magnitudes (IsRangeRow ks) encode_row (3 * c) (λ r. r.annot.least) (λ r v. (triple_at r v).lo) (λ rs. (total (map (λ r. r.annot) rs)).least) refl (λ s ss. refl) rows ok i)
-      ∷ pos (sum_magnitudes (IsRangeRow ks) encode_row (3 * c + 1) (λ r. r.annot.guess) (λ r v. (triple_at r v).sg) (λ rs. (total (map (λ r. r.annot) rs)).guess) refl (λ s ss. refl) rows ok i)
-      ∷ pos (sum_magnitudes (IsRangeRow ks) encode_row (3 * c + 2) (λ r. r.annot.most) (λ r v. (triple_at r v).hi) (λ rs. (total (map (λ r. r.annot) rs)).most) refl (λ s ss. refl) rows ok i)
+      pos (sum_magnitudes (IsRangeRow ks) encode_row (3 * c) (λ r. r.annot.least) (λ r v. (triple_at r v).lo) (λ rs. (total_counts (map (λ r. r.annot) rs)).least) refl (λ s ss. refl) rows ok i)
+      ∷ pos (sum_magnitudes (IsRangeRow ks) encode_row (3 * c + 1) (λ r. r.annot.guess) (λ r v. (triple_at r v).sg) (λ rs. (total_counts (map (λ r. r.annot) rs)).guess) refl (λ s ss. refl) rows ok i)
+      ∷ pos (sum_magnitudes (IsRangeRow ks) encode_row (3 * c + 2) (λ r. r.annot.most) (λ r v. (triple_at r v).hi) (λ rs. (total_counts (map (λ r. r.annot) rs)).most) refl (λ s ss. refl) rows ok i)
       ∷ []
 
   -- the magnitudes of the groups are the triples of the combined rows
@@ -80,7 +80,7 @@ module _ (ks : List Kind) where
       ∙ sym (flat_map-map triple_of (λ key. merged (guessing key rows)) all)
 
   -- Combine's plan adds no number that does not fit.
-  pub combine_fits : (ts : List Rows) (p : PlanTree) (rows : Bounded) → IsRelation ks rows → Gives ts p rows → Fit (triple_numbers (bounded.combine rows)) → Fit (plan_numbers p ts) → Fit (plan_numbers (combine c p) ts)
+  pub combine_fits : (ts : List Rows) (p : PlanTree) (rows : Bounded) → IsRelation ks rows → Gives ts p rows → Fit (triple_numbers (bounded.combine rows)) → Fit (plan_numbers p ts) → Fit (plan_numbers (combine_plan c p) ts)
   combine_fits ts p rows ok g f np =
       let aggs = box_aggs 0 c ++ sums in
       fit_both (plan_numbers p ts) (group_numbers (sg_places 0 c) aggs (plain_rows p ts)) np

@@ -6,7 +6,7 @@ use Rattle.au_value.specs.declared.kinds.Kind.{Kind}
 use Rattle.au_value.specs.declared.value.Value.{Value}
 use Rattle.au_value.specs.declared.value.Value.TheVariants as value
 use Rattle.au_value.specs.Ranges.{IsRangeOf, guesses}
-use Rattle.au_annot.specs.Triples.{Counts, total}
+use Rattle.au_annot.specs.Triples.{Counts, total_counts}
 use Rattle.au_expr.specs.Ordinary.{number}
 use Rattle.au_algebra.specs.Lists.{distinct, same_row, int_sum}
 use Rattle.au_algebra.specs.Ordinary.{Rows}
@@ -21,7 +21,7 @@ use Rattle.au_plain.specs.Plans.{PlanTree}
 use Rattle.au_plain.specs.Meaning.{plain_aggregate}
 use Rattle.au_encode.specs.Encode.{encode, encode_row, encode_cells, encode_counts}
 use Rattle.au_encode.proofs.Decoded.{cells_length}
-use Rattle.au_combine.specs.Boxes.{combine}
+use Rattle.au_combine.specs.Boxes.{combine_plan}
 use Rattle.au_rwexpr.proofs.Places.{At, Ends}
 use Rattle.au_rwexpr.proofs.Picks.{coded_cells, coded_triple}
 use Rattle.au_rwexpr.proofs.Gives.{Gives, map-map}
@@ -51,17 +51,17 @@ module _ (ks : List Kind) where
   triple_at r v = coded_triple rl rs rh cl cg cm c r.cells r.annot (cells_length IsRangeOf ks r.cells v.cells)
 
   triples : Bounded → Counts
-  triples rows = total (map (λ r. r.annot) rows)
+  triples rows = total_counts (map (λ r. r.annot) rows)
 
-  each_sum : (rows : Bounded) → IsRelation ks rows → map (plain_aggregate (encode rows)) sums ≡ encode_counts (total (map (λ r. r.annot) rows))
+  each_sum : (rows : Bounded) → IsRelation ks rows → map (plain_aggregate (encode rows)) sums ≡ encode_counts (total_counts (map (λ r. r.annot) rows))
   each_sum rows ok = λ i.
-      value.Int (sum_column (IsRangeRow ks) encode_row (3 * c) (λ r. r.annot.least) (λ r v. (triple_at r v).lo) (λ rs. (total (map (λ r. r.annot) rs)).least) refl (λ s ss. refl) rows ok i)
-      ∷ value.Int (sum_column (IsRangeRow ks) encode_row (3 * c + 1) (λ r. r.annot.guess) (λ r v. (triple_at r v).sg) (λ rs. (total (map (λ r. r.annot) rs)).guess) refl (λ s ss. refl) rows ok i)
-      ∷ value.Int (sum_column (IsRangeRow ks) encode_row (3 * c + 2) (λ r. r.annot.most) (λ r v. (triple_at r v).hi) (λ rs. (total (map (λ r. r.annot) rs)).most) refl (λ s ss. refl) rows ok i)
+      value.Int (sum_column (IsRangeRow ks) encode_row (3 * c) (λ r. r.annot.least) (λ r v. (triple_at r v).lo) (λ rs. (total_counts (map (λ r. r.annot) rs)).least) refl (λ s ss. refl) rows ok i)
+      ∷ value.Int (sum_column (IsRangeRow ks) encode_row (3 * c + 1) (λ r. r.annot.guess) (λ r v. (triple_at r v).sg) (λ rs. (total_counts (map (λ r. r.annot) rs)).guess) refl (λ s ss. refl) rows ok i)
+      ∷ value.Int (sum_column (IsRangeRow ks) encode_row (3 * c + 2) (λ r. r.annot.most) (λ r v. (triple_at r v).hi) (λ rs. (total_counts (map (λ r. r.annot) rs)).most) refl (λ s ss. refl) rows ok i)
       ∷ []
 
   -- Combine's plan gives the rows of the bounded combine.
-  pub combine_gives : (ts : List Rows) (p : PlanTree) (rows : Bounded) → IsRelation ks rows → Gives ts p rows → Gives ts (combine c p) (bounded.combine rows)
+  pub combine_gives : (ts : List Rows) (p : PlanTree) (rows : Bounded) → IsRelation ks rows → Gives ts p rows → Gives ts (combine_plan c p) (bounded.combine rows)
   combine_gives ts p rows ok g =
       boxes_rows (IsRangeRow ks) encode_row (λ r. r.cells) c (λ r v. coded_cells rl rs rh cl cg cm c r.cells r.annot (cells_length IsRangeOf ks r.cells v.cells))
       (λ r v. cells_length IsRangeOf ks r.cells v.cells) sums ts p rows ok g

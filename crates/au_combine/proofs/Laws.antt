@@ -9,17 +9,17 @@ use Rattle.au_algebra.proofs.DifferenceRelation.{combine_relation}
 use Rattle.au_plain.specs.Plans.{PlanTree}
 use Rattle.au_plain.specs.PlanNumbers.{scans}
 use Rattle.au_encode.specs.Gives.{Gives}
-use Rattle.au_combine.specs.Boxes.{combine}
+use Rattle.au_combine.specs.Boxes.{combine_plan}
 use Rattle.au_combine.specs.Gives.{Combines}
 use Rattle.au_combine.proofs.BoxKinds.{combine_kinds}
 use Rattle.au_combine.proofs.CombineRows as on_rows
 use Rattle.au_combine.proofs.CombineNumbers.{combine_fits}
 
-module _ (c : ℕ) (of p : PlanTree) (is : p ≡ combine c of) where
-  combine_as_is : Combines c of (combine c of)
+module _ (c : ℕ) (of p : PlanTree) (is : p ≡ combine_plan c of) where
+  combine_as_is : Combines c of (combine_plan c of)
   combine_as_is kinds tables ks rows ns long g =
       let own = triple_numbers (bounded.combine rows) in
-      subst (λ n. Gives kinds tables (combine n of) ks (bounded.combine rows) (ns ++ own)) long
+      subst (λ n. Gives kinds tables (combine_plan n of) ks (bounded.combine rows) (ns ++ own)) long
       (record {
         typed = combine_kinds kinds ks of g.typed;
         relation = combine_relation ks rows g.relation;

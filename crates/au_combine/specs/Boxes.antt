@@ -24,5 +24,5 @@ abbrev pub boxes : ℕ → List PAgg → PlanTree → PlanTree
 boxes k extra p = Keep (weave 0 k k ++ run (k + 2 * k) (length extra)) (Group (sg_places 0 k) (box_aggs 0 k ++ extra) p)
 
 -- the rows with equal guesses in one, with the sum of their triples
-abbrev pub combine : ℕ → PlanTree → PlanTree
-combine c p = boxes c (Sum (3 * c) ∷ Sum (3 * c + 1) ∷ Sum (3 * c + 2) ∷ []) p
+abbrev pub combine_plan : ℕ → PlanTree → PlanTree
+combine_plan c p = boxes c (Sum (3 * c) ∷ Sum (3 * c + 1) ∷ Sum (3 * c + 2) ∷ []) p

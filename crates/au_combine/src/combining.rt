@@ -4,7 +4,7 @@ ghost use Rattle.au_plain.specs.declared.plan.PAgg.TheVariants.{Sum};
 ghost use Rattle.au_plain.specs.Plans.{plan_tree};
 ghost use Rattle.au_plain.specs.PlanNumbers.{scans};
 ghost use Rattle.au_combine.specs.Adds.{AddsByCombine};
-ghost use Rattle.au_combine.specs.Boxes.{combine as combined};
+ghost use Rattle.au_combine.specs.Boxes.{combine_plan as combined};
 ghost use Rattle.au_combine.specs.Gives.{Combines};
 
 use crate::groups::boxes;

@@ -1,5 +1,6 @@
-pub mod CompressedAnswers
-pub mod CompressedFits
+-- The definitions, in the order in which they are to be read.
 pub mod Kinds
-pub mod ProductNumbers
 pub mod Splitting
+pub mod CompressedAnswers
+pub mod ProductNumbers
+pub mod CompressedFits

@@ -2,9 +2,10 @@
 -- makes, and whether each lies in the range of 128 bits.
 use Rattle.std.specs.Prelude.{ℕ, Bool, List, ◌++◌, take, flat_map, ℤ, if◌then◌else◌}
 use Rattle.std.specs.List.{list_all}
+use Rattle.au_value.specs.Numeral.{is_i128}
 use Rattle.au_expr.specs.Numbers.{expr_numbers}
 use Rattle.au_algebra.specs.Bounded.{Bounded, all_rows, combine, difference, distinct_rows, group, normal, select}
-use Rattle.au_algebra.specs.Fits.{agg_numbers, difference_sums, group_numbers, in_range, triple_numbers}
+use Rattle.au_algebra.specs.Fits.{agg_numbers, difference_sums, grouping_numbers, triple_numbers}
 use Rattle.au_algebra.specs.Products.{bounded_by}
 use Rattle.au_algebra.specs.Trees.{Tree, Table, Select, Project, Product, Union, Difference, Distinct, Group, Total}
 
@@ -29,7 +30,7 @@ numbers_by join made (Difference a b) ts =
 numbers_by join made (Distinct q) ts = numbers_by join made q ts ++ triple_numbers (distinct_rows (bounded_by join q ts))
 numbers_by join made (Group keys aggs q) ts =
     let rows = bounded_by join q ts in
-    numbers_by join made q ts ++ (group_numbers (take keys) aggs rows ++ triple_numbers (group keys aggs rows))
+    numbers_by join made q ts ++ (grouping_numbers (take keys) aggs rows ++ triple_numbers (group keys aggs rows))
 numbers_by join made (Total aggs q) ts = numbers_by join made q ts ++ flat_map (agg_numbers (all_rows (bounded_by join q ts))) aggs
 
 -- the numbers of the answer, with those of the combined rows where that is asked for, and of the normal form
@@ -39,4 +40,4 @@ answer_numbers_by join made combined q ts =
     numbers_by join made q ts ++ (triple_numbers rows ++ triple_numbers (normal rows))
 
 abbrev pub fits_by : (Bounded → Bounded → Bounded) → (Bounded → Bounded → List ℤ) → Bool → Tree → List Bounded → Bool
-fits_by join made combined q ts = list_all in_range (answer_numbers_by join made combined q ts)
+fits_by join made combined q ts = list_all is_i128 (answer_numbers_by join made combined q ts)

@@ -36,12 +36,12 @@ abbrev pub encoded_kinds : List Kind → List Kind
 encoded_kinds ks = triple_kinds ks ++ kind.Int ∷ kind.Int ∷ kind.Int ∷ []
 
 -- the count of a value
-abbrev pub count_of : Value → ℕ
-count_of v = nat_abs (number v)
+abbrev pub value_count : Value → ℕ
+value_count v = nat_abs (number v)
 
 -- the triple of the first three values
 abbrev pub decode_counts : List Value → Counts
-decode_counts (l ∷ g ∷ m ∷ vs) = counts (count_of l) (count_of g) (count_of m)
+decode_counts (l ∷ g ∷ m ∷ vs) = counts (value_count l) (value_count g) (value_count m)
 decode_counts _ = counts 0 0 0
 
 -- so many ranges from the front, then a triple

@@ -5,7 +5,7 @@ ghost use Rattle.au_value.specs.declared.value.Value.{Value};
 ghost use Rattle.au_value.specs.Ranges.{range};
 ghost use Rattle.au_annot.specs.Triples.{counts};
 ghost use Rattle.au_algebra.specs.Entries.{entry};
-ghost use Rattle.au_encode.specs.Encode.{AreCounts, AreEncoded, IsEncoded, count_of, decode as decoded, decode_cells, decode_counts, decode_row as decoded_row, encode as encoded};
+ghost use Rattle.au_encode.specs.Encode.{AreCounts, AreEncoded, IsEncoded, value_count, decode as decoded, decode_cells, decode_counts, decode_row as decoded_row, encode as encoded};
 
 use au_algebra::Rel;
 use au_annot::{Count, Triple};
@@ -95,7 +95,7 @@ fn triple(least: Count, guess: Count, most: Count) -> Triple
 // The count of a number that is not negative.
 fn count(value: &Value) -> Count
     requires { (n : ℕ) × (value.now ≡ Value.Int (pos n)) }
-    ensures { result ≡ count_of value.now }
+    ensures { result ≡ value_count value.now }
 {
     match value {
         Value::Int(n) => match Count::of(n.unsigned_abs()) {

@@ -32,7 +32,7 @@ use Rattle.au_compress.proofs.AnyOrder.{compressed_same, possible_same}
 use Rattle.au_compress.proofs.Covered.{covered, has_kinds}
 use Rattle.au_compress.proofs.GuessParts.{guess_relation}
 use Rattle.au_compress.proofs.PossibleParts.{compressed_relation}
-use Rattle.au_engine.specs.Stages.{Adds, AddsCompressed, AddsPairs, AddsRelation, AreSides, CanRun, Decodes, Finds, HasRows, HaveSides, LeavesCompressed, LeavesMultiplied, LeavesRange, MultipliesCompressed, SameRows}
+use Rattle.au_engine.specs.Stages.{Adds, AddsCompressed, AddsPairs, AddsRelation, AreSides, CanRunPlan, Decodes, FindsRows, HasRows, HaveSides, LeavesCompressed, LeavesMultiplied, LeavesRange, MultipliesCompressed, SameRows}
 use Rattle.au_engine.proofs.Reordered.{decoded_same}
 use Rattle.au_engine.proofs.Shown.{have_columns}
 use Rattle.au_engine.proofs.StageRuns.{adds_relation}
@@ -41,7 +41,7 @@ use Rattle.au_engine.proofs.StageSteps.{more_adds, scan_adds, two_adds}
 -- ---- what a run found
 
 -- its rows can be decoded
-pub found_encoded : (held : List Rows) (p : PlanTree) (c : ℕ) (found : Rows) → CanRun held p c → Finds held p c found → AreEncoded c found
+pub found_encoded : (held : List Rows) (p : PlanTree) (c : ℕ) (found : Rows) → CanRunPlan held p c → FindsRows held p c found → AreEncoded c found
 found_encoded held p c found can finds =
     let ks = can.0 in
     let rows = can.1.0 in
@@ -51,7 +51,7 @@ found_encoded held p c found can finds =
     all_same (IsEncoded c) found (encode rows) (finds ks rows ns a).0 (rows_encoded ks c rows relation (have_columns ks c rows a.columns relation))
 
 -- and decode to the relation
-pub decodes : (held : List Rows) (p : PlanTree) (c : ℕ) (found : Rows) (rel : Bounded) → rel ≡ decode c found → Finds held p c found → Decodes held p c rel
+pub decodes : (held : List Rows) (p : PlanTree) (c : ℕ) (found : Rows) (rel : Bounded) → rel ≡ decode c found → FindsRows held p c found → Decodes held p c rel
 decodes held p c found rel is finds ks rows ns a = (found, (is, (finds ks rows ns a).0))
 
 -- ---- a relation whose rows are those of another one
@@ -226,7 +226,7 @@ module _ (lefts : List Rows) (p : PlanTree) (m : ℕ) (rights : List Rows) (q : 
     right_rows = of_right js ys ns b;
   }
 
-  pub have_sides : CanRun lefts p m → CanRun rights q n → HaveSides left m right n
+  pub have_sides : CanRunPlan lefts p m → CanRunPlan rights q n → HaveSides left m right n
   have_sides c d = (c.0, (d.0, (c.1.0, (d.1.0, sides c.0 d.0 c.1.0 d.1.0 c.1.1.0 d.1.1.0 c.1.1.1 d.1.1.1))))
 
   pub multiplied : (size : ℕ) (old new : List Rows) (made : PlanTree) (d : ℕ) → AddsCompressed size left m right n old new made d → MultipliesCompressed size lefts p m rights q n old new made d

@@ -19,7 +19,7 @@ use Rattle.au_translate.proofs.BlockRelation.{place_within}
 use Rattle.au_plain.specs.PlanKinds.{HaveKinds}
 use Rattle.au_sqltext.specs.Records.{cell_field, header_from, record_text, rows_text}
 use Rattle.au_encode.specs.Encode.{encode, encoded_kinds}
-use Rattle.au_engine.specs.Exchange.{encoded_text, guess_count, plain_size}
+use Rattle.au_engine.specs.Exchange.{encoded_text, guess_row_count, plain_size}
 use Rattle.au_engine.specs.EncodedTables.{AreWritable, IsEncodedTable, IsTableOf, IsWritableTable}
 use Rattle.au_engine.proofs.ReadValues.{read_good}
 use Rattle.au_engine.proofs.WritableRows.{encoded_writable, kinds_again}
@@ -85,7 +85,7 @@ rows_long ks (row ∷ rows) some h =
 pub size_small : (ks : List Kind) (rows : Rows) (t : BlockTable) → AreWritable ks rows → IsTableOf ks rows t → plain_size t ≤ 2 * length (rows_text ks rows)
 size_small ks rows t h is =
     let ok = (read_good (rows_text ks rows) t is.reads).0 in
-    let count : guess_count t ≡ length rows = sym (counted t.blocks ok.blocks) ∙ ap length is.guesses in
+    let count : guess_row_count t ≡ length rows = sym (counted t.blocks ok.blocks) ∙ ap length is.guesses in
     let wide : length t.columns ≡ length ks = sym (length-map t.columns (λ (c : Column). data_kind c.kind)) ∙ ap length is.columns ∙ length-map ks data_kind in
     let long = rows_long ks rows h.some h.kinds in
     let whole = length-append (record_text (header_from 0 ks)) (flat_map (λ row. record_text (map cell_field row)) rows) in

@@ -76,7 +76,7 @@ row_kinds (k ∷ ks) (r ∷ cells) h =
     ((is_of k r p.0).sg, row_kinds ks cells p.1)
 
 abbrev IsValues : List Kind → List CountedRow → Type 0
-IsValues ks rows = reading.IsRelation IsKind (λ n. Unit {0}) ks rows
+IsValues ks rows = reading.IsRelationOver IsKind (λ n. Unit {0}) ks rows
 
 -- what is guessed of a block has the kinds
 abbrev ValuesIn : List Kind → Option CountedRow → Type 0

@@ -15,7 +15,7 @@ use Rattle.au_plain.specs.Plans.{PlanTree, Scan}
 use Rattle.au_combine.specs.Gives.{Combines}
 use Rattle.au_encode.specs.Encode.{encode}
 use Rattle.au_value.specs.Order.{data_kind}
-use Rattle.au_engine.specs.Stages.{Adds, AddsTable, CanRun, Finds, LeavesRange, LeavesRangeCombined, Materializes, MaterializesCombined}
+use Rattle.au_engine.specs.Stages.{Adds, AddsTable, CanRunPlan, FindsRows, LeavesRange, LeavesRangeCombined, Materializes, MaterializesCombined}
 use Rattle.au_engine.proofs.StageRuns.{adds_relation}
 use Rattle.au_engine.proofs.StageSteps.{one_adds, scan_adds}
 
@@ -30,7 +30,7 @@ adds_table t columns found old new q d ok counted is fits behind wide scan ns =
 
 module _ (held : List Rows) (p : PlanTree) (c : ℕ) where
   pub materializes :
-      (found : Rows) (old new : List Rows) (q : PlanTree) (d : ℕ) → Finds held p c found → new ≡ old ++ found ∷ [] → d ≡ c → q ≡ Scan (length old) (3 * c + 3) →
+      (found : Rows) (old new : List Rows) (q : PlanTree) (d : ℕ) → FindsRows held p c found → new ≡ old ++ found ∷ [] → d ≡ c → q ≡ Scan (length old) (3 * c + 3) →
       Materializes held p c old new q d
   materializes found old new q d finds behind wide scan ks rows ns a =
       let f = finds ks rows ns a in
@@ -44,7 +44,7 @@ module _ (held : List Rows) (p : PlanTree) (c : ℕ) where
         one_adds [] held p made c d ks ks rows (combine rows) ns (ns ++ triple_numbers (combine rows)) (a.columns ∙ sym wide)
         (λ tk tables fits g. joined tk tables ks rows ns a.columns g) a
 
-    pub combined_runs : CanRun held p c → CanRun held made d
+    pub combined_runs : CanRunPlan held p c → CanRunPlan held made d
     combined_runs can =
         let rows = can.1.0 in
         (can.0, (combine rows, (can.1.1.0 ++ triple_numbers (combine rows), combined_adds can.0 rows can.1.1.0 can.1.1.1)))

@@ -15,13 +15,13 @@ use Rattle.au_algebra.specs.Typing.{kinds_of}
 use Rattle.au_blocks.specs.Tables.{BlockTable, IsBlockTable, column_kinds}
 use Rattle.au_blocks.specs.declared.column.Column.{Column}
 use Rattle.au_keval.specs.Evaluation.{HasRows}
-use Rattle.au_keval.specs.Reading.{IsPositiveOver, IsRelation}
+use Rattle.au_keval.specs.Reading.{IsPositiveOver, IsRelationOver}
 use Rattle.au_ua.specs.Relations.{PairRow}
 use Rattle.au_ua.specs.UaTables.{ua_table}
 use Rattle.au_ua.proofs.BlockRows.{table_relation}
 
 abbrev ArePairs : List Kind → List PairRow → Type 0
-ArePairs ks rows = IsRelation IsKind IsPair ks rows
+ArePairs ks rows = IsRelationOver IsKind IsPair ks rows
 
 tables_kinds : (ts : List BlockTable) → AllByRecursion IsBlockTable ts → AllZip ArePairs (map column_kinds ts) (map ua_table ts)
 tables_kinds [] ok = tt

@@ -10,8 +10,8 @@ use Rattle.au_csv.specs.Texts.{Record, is_text, not_text, records_of}
 use Rattle.au_csv.proofs.NotText.{position-none}
 use Rattle.au_blocks.specs.Blocks.{Choices}
 use Rattle.au_blocks.specs.Headers.{format_of, written_kinds}
-use Rattle.au_blocks.specs.Entries.{Entry, blocks_of, entries_of}
-use Rattle.au_blocks.specs.Inferring.{column_kind, kinds_of}
+use Rattle.au_blocks.specs.Entries.{BlockEntry, entry_blocks, entries_of}
+use Rattle.au_blocks.specs.Inferring.{column_kind, inferred_kinds}
 use Rattle.au_blocks.specs.Defects.{block_defects, defects, header_defects, record_defects, rows_defects}
 use Rattle.au_blocks.specs.Read as reading
 use Rattle.au_blocks.specs.Read.{block_of, columns_of, contents, first, header_kinds, table_of, unless}
@@ -45,7 +45,7 @@ module _ (ks : List Kind) where
   rows_text_sound (row ∷ rows) h = rw (row_text row h.0.1) (rows_text_sound rows h.1)
 
 -- each record of a plain table is a block without a defect
-pub blocks_sound : (n : ℕ) (rs : List Record) → flat_map block_defects (enumerate_from n (blocks_of (format_of []) rs)) ≡ []
+pub blocks_sound : (n : ℕ) (rs : List Record) → flat_map block_defects (enumerate_from n (entry_blocks (format_of []) rs)) ≡ []
 blocks_sound n [] = refl
 blocks_sound n (r ∷ rs) = blocks_sound (n + 1) rs
 
@@ -57,7 +57,7 @@ no_defects k ks rs text head rows = rw (text, head, rows, blocks_sound 0 rs) ref
 
 -- ---- columns
 
-kinds_hold : (entries : List Entry) (i : ℕ) (ks : List Kind) → map (column_kind entries) (enumerate_from i (field_kinds ks)) ≡ map data_kind ks
+kinds_hold : (entries : List BlockEntry) (i : ℕ) (ks : List Kind) → map (column_kind entries) (enumerate_from i (field_kinds ks)) ≡ map data_kind ks
 kinds_hold entries i [] = refl
 kinds_hold entries i (k ∷ ks) = ap (λ js. data_kind k ∷ js) (kinds_hold entries (i + 1) ks)
 
@@ -72,7 +72,7 @@ columns_hold i [] = refl
 columns_hold i (k ∷ ks) = rw (data_again k) (ap (λ js. data_kind k ∷ js) (columns_hold (i + 1) ks))
 
 kinds_read : (k : Kind) (ks : List Kind) (rs : List Record) → header_kinds (header_from 0 (k ∷ ks)) rs ≡ map data_kind (k ∷ ks)
-kinds_read k ks rs = ap (kinds_of (entries_of (format_of []) rs)) (header_written (k ∷ ks)) ∙ kinds_hold (entries_of (format_of []) rs) 0 (k ∷ ks)
+kinds_read k ks rs = ap (inferred_kinds (entries_of (format_of []) rs)) (header_written (k ∷ ks)) ∙ kinds_hold (entries_of (format_of []) rs) 0 (k ∷ ks)
 
 columns_read : (k : Kind) (ks : List Kind) (rs : List Record) → column_kinds (contents (header_from 0 (k ∷ ks) ∷ rs)) ≡ map data_kind (k ∷ ks)
 columns_read k ks rs =
@@ -83,7 +83,7 @@ columns_read k ks rs =
 -- ---- rows
 
 abbrev blocks_in : List Kind → List Record → List Choices
-blocks_in ks rs = map (block_of ks) (blocks_of (format_of []) rs)
+blocks_in ks rs = map (block_of ks) (entry_blocks (format_of []) rs)
 
 rows_back : (ks : List Kind) (rows : Rows) → AreSound ks rows
     → rows_in (blocks_in (map data_kind ks) (fields_of_rows rows)) (map guess_choice (blocks_in (map data_kind ks) (fields_of_rows rows))) ≡ rows

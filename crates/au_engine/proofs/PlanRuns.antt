@@ -18,7 +18,7 @@ use Rattle.au_encode.specs.Encode.{AreEncoded, IsEncoded, decode, encode}
 use Rattle.au_encode.proofs.Decoded.{rows_back, rows_encoded}
 use Rattle.au_engine.specs.Answers.{Named, blocks_of, tree_asked, tree_asked_fits}
 use Rattle.au_engine.specs.Compressing.{tree_numbers, tree_rows}
-use Rattle.au_engine.specs.Stages.{Adds, AddsTree, AreRowsOf, CanRun, Finds, LeavesRange, Shows, own_numbers, shown_rows}
+use Rattle.au_engine.specs.Stages.{Adds, AddsTree, AreRowsOf, CanRunPlan, FindsRows, LeavesRange, Shows, own_numbers, shown_rows}
 use Rattle.au_engine.proofs.AskedAnswers.{asked_is, parts_fit}
 use Rattle.au_engine.proofs.Materialized.{combined_adds}
 use Rattle.au_engine.proofs.Operators.{typed_kinds}
@@ -57,12 +57,12 @@ module _ (how : Option ℕ) (combined : Bool) (ts : List Named) (q : Tree) (type
     shown_adds : (ks : List Kind) → kinds_of (map column_kinds (blocks_of ts)) q ≡ Some ks → Adds [] held p d ks (shown_rows combined rows) (ns ++ own_numbers combined rows)
     shown_adds ks e = shown_by combined held of p c d ks rows ns wide shows (part ks e)
 
-    pub shown_runs : CanRun held p d
+    pub shown_runs : CanRunPlan held p d
     shown_runs =
         let k = typed_kinds (map column_kinds (blocks_of ts)) q typed in
         (k.0, (shown_rows combined rows, (ns ++ own_numbers combined rows, shown_adds k.0 k.1)))
 
-    pub shown_found : (found : Rows) → Finds held p d found → AreRowsOf how combined (blocks_of ts) q d found
+    pub shown_found : (found : Rows) → FindsRows held p d found → AreRowsOf how combined (blocks_of ts) q d found
     shown_found found finds =
         let k = typed_kinds (map column_kinds (blocks_of ts)) q typed in
         let a = shown_adds k.0 k.1 in

@@ -8,7 +8,7 @@ use Rattle.au_expr.specs.Terms.{Term}
 use Rattle.au_expr.proofs.Fits.{fit_parts}
 use Rattle.au_algebra.specs.declared.query.Agg.{Agg}
 use Rattle.au_algebra.specs.Bounded.{Bounded, combine, group}
-use Rattle.au_algebra.specs.Fits.{difference_sums, group_numbers, triple_numbers}
+use Rattle.au_algebra.specs.Fits.{difference_sums, grouping_numbers, triple_numbers}
 use Rattle.au_algebra.specs.Ordinary.{Rows}
 use Rattle.au_algebra.specs.Trees.{Tree, Table, Select, Project, Product, Union, Difference, Distinct, Group, Total}
 use Rattle.au_algebra.specs.Typing.{IsTyped, kinds_of}
@@ -21,7 +21,7 @@ use Rattle.au_rwdiff.specs.Gives.{Subtracts}
 use Rattle.au_rwgroup.specs.Gives.{Distincts, Groups, Totals}
 use Rattle.au_plan.proofs.Implementing.{before}
 use Rattle.au_engine.specs.Compressing.{pair_numbers, tree_numbers, tree_rows}
-use Rattle.au_engine.specs.Stages.{Adds, AddsTable, AddsTree, CanRun, LeavesMultiplied, LeavesRange, LeavesRangeCombined, Materializes, MaterializesCombined, MultipliesCompressed}
+use Rattle.au_engine.specs.Stages.{Adds, AddsTable, AddsTree, CanRunPlan, LeavesMultiplied, LeavesRange, LeavesRangeCombined, Materializes, MaterializesCombined, MultipliesCompressed}
 use Rattle.au_engine.proofs.Operators.{Counts, One, Two, difference_fit, difference_part, distinct_part, group_part, product_kinds, product_part, project_part, select_part, total_part, typed_kinds, union_part}
 use Rattle.au_engine.proofs.StageRuns.{adds_relation}
 use Rattle.au_engine.proofs.StageSteps.{more_adds, one_adds, two_adds}
@@ -54,7 +54,7 @@ module _ (how : Option ℕ) (ts : List BlockTable) where
       (subst (λ r. Adds old new p c (column_kinds t) r (tree_numbers how (Table i) here)) rows (table (tree_numbers how (Table i) here)))
 
   -- a plan that gives a tree's relation over all its tables can be run
-  pub tree_runs : (q : Tree) (held : List Rows) (p : PlanTree) (c : ℕ) → IsTyped kinds q → AddsTree how ts q [] held p c → CanRun held p c
+  pub tree_runs : (q : Tree) (held : List Rows) (p : PlanTree) (c : ℕ) → IsTyped kinds q → AddsTree how ts q [] held p c → CanRunPlan held p c
   tree_runs q held p c typed part = let k = typed_kinds kinds q typed in (k.0, (tree_rows how q here, (tree_numbers how q here, part k.0 k.1)))
 
   -- the same behind other tables
@@ -78,7 +78,7 @@ module _ (how : Option ℕ) (ts : List BlockTable) where
       let k = typed_kinds kinds q typed in
       let rows = tree_rows how q here in
       leaves k.0 rows (tree_numbers how q here) (part k.0 k.1)
-      (fit_parts (tree_numbers how q here) (group_numbers (take keys) aggs rows ++ triple_numbers (group keys aggs rows)) f).0
+      (fit_parts (tree_numbers how q here) (grouping_numbers (take keys) aggs rows ++ triple_numbers (group keys aggs rows)) f).0
 
   pub left_leaves :
       (a b : Tree) (held : List Rows) (p : PlanTree) (c : ℕ) → IsTyped kinds a → AddsTree how ts a [] held p c → LeavesRangeCombined held p c →

@@ -6,18 +6,18 @@ use Rattle.std.proofs.lemmas.Bool.{and_from, or_parts, true≢false}
 use Rattle.au_algebra.specs.Positive.{is_positive}
 use Rattle.au_algebra.specs.Trees.{Tree as Query, Product, Project}
 use Rattle.au_blocks.specs.declared.column.Column.{Column}
-use Rattle.au_parse.specs.Tree.{Tree, ItemTree, QueryTree, SetWord, Sources}
+use Rattle.au_parse.specs.Tree.{TermTree, ItemTree, QueryTree, SetWord, Sources}
 use Rattle.au_typing.specs.Aggregates.{written}
 use Rattle.au_typing.specs.Items.{items_written, item_written}
-use Rattle.au_typing.specs.Queries.{Relation, brought_from, from_items, is_narrower, set_columns, side_tree, table_of, table_typing, tree_of, typing, set_tree}
+use Rattle.au_typing.specs.Queries.{Relation, brought_from, from_items, is_narrower, set_columns, side_tree, table_place, table_typing, resolved_tree, typing, set_tree}
 use Rattle.au_typing.specs.Scopes.{Scope}
-use Rattle.au_typing.specs.Selects.{Clauses, FromItem, distinct_if, is_grouped, is_join, joined, product, scope_of, select, select_under, selected, setting_of}
+use Rattle.au_typing.specs.Selects.{Clauses, FromItem, distinct_if, is_grouped, is_join, from_joined, from_product, scope_of, resolved_select, select_under, selected, setting_of}
 use Rattle.au_typing.specs.Terms.{Setting, rows, groups}
-use Rattle.au_ua.specs.NotPositive.{clause_has_aggregate, earlier, gathers, has_aggregate, item_has_aggregate, least_place, not_positive, place_if, places, source_places}
+use Rattle.au_ua.specs.NotPositive.{clause_has_aggregate, earlier_place, gathers, has_aggregate, item_has_aggregate, least_place, not_positive, place_if, places, source_places}
 
 -- ---- no place is least where there is none
 
-some_first : (x : ℕ) (o : Option ℕ) → earlier (Some x) o ≡ None → ⊥
+some_first : (x : ℕ) (o : Option ℕ) → earlier_place (Some x) o ≡ None → ⊥
 some_first x None e = cc
 some_first x (Some n) e = cc
 
@@ -39,25 +39,25 @@ not_there true at e = cc
 both_written : {A : Type 0} (xs ys : List A) → xs ≡ [] → ys ≡ [] → xs ++ ys ≡ []
 both_written xs ys e f = rw (e, f) refl
 
-none_written : (e : Tree) → has_aggregate e ≡ false → written e ≡ []
-none_written (Tree.column name) h = refl
-none_written (Tree.number at n) h = refl
-none_written (Tree.decimal at n digits) h = refl
-none_written (Tree.text at t) h = refl
-none_written (Tree.flag at b) h = refl
-none_written (Tree.binary at o left right) h =
+none_written : (e : TermTree) → has_aggregate e ≡ false → written e ≡ []
+none_written (TermTree.column name) h = refl
+none_written (TermTree.number at n) h = refl
+none_written (TermTree.decimal at n digits) h = refl
+none_written (TermTree.text at t) h = refl
+none_written (TermTree.flag at b) h = refl
+none_written (TermTree.binary at o left right) h =
     let parts = or_parts (has_aggregate left) (has_aggregate right) h in
     both_written (written left) (written right) (none_written left parts.0) (none_written right parts.1)
-none_written (Tree.negate at e) h = none_written e h
-none_written (Tree.not at e) h = none_written e h
-none_written (Tree.case at e) h = none_written e h
-none_written (Tree.when condition value rest) h =
+none_written (TermTree.negate at e) h = none_written e h
+none_written (TermTree.not at e) h = none_written e h
+none_written (TermTree.case at e) h = none_written e h
+none_written (TermTree.when condition value rest) h =
     let first = or_parts (has_aggregate condition) (has_aggregate value || has_aggregate rest) h in
     let others = or_parts (has_aggregate value) (has_aggregate rest) first.1 in
     both_written (written condition ++ written value) (written rest)
     (both_written (written condition) (written value) (none_written condition first.0) (none_written value others.0)) (none_written rest others.1)
-none_written (Tree.count_rows at) h = absurd (true≢false h)
-none_written (Tree.aggregate at word e) h = absurd (true≢false h)
+none_written (TermTree.count_rows at) h = absurd (true≢false h)
+none_written (TermTree.aggregate at word e) h = absurd (true≢false h)
 
 no_item : (item : ItemTree) → item_has_aggregate item ≡ false → item_written item ≡ []
 no_item (ItemTree.star at) h = refl
@@ -92,18 +92,18 @@ is_plain c h =
 abbrev Positive : Query → Type 0
 Positive q = is_positive q ≡ true
 
-selected_positive : (scope : Scope) (setting : Setting) (n : ℕ) (clause : Option (ℕ × Tree)) (q : Query) → Positive q → Positive (selected scope setting n clause q)
+selected_positive : (scope : Scope) (setting : Setting) (n : ℕ) (clause : Option (ℕ × TermTree)) (q : Query) → Positive q → Positive (selected scope setting n clause q)
 selected_positive scope setting n None q h = h
 selected_positive scope setting n (Some c) q h = h
 
 abbrev Froms : List FromItem → Type 0
 Froms from = AllByRecursion (λ item. Positive item.typing.tree) from
 
-joined_positive : (q : Query) (from : List FromItem) → Positive q → Froms from → Positive (joined q from)
+joined_positive : (q : Query) (from : List FromItem) → Positive q → Froms from → Positive (from_joined q from)
 joined_positive q [] h all = h
 joined_positive q (item ∷ others) h all = joined_positive (Product q item.typing.tree) others (and_from (is_positive q) (is_positive item.typing.tree) h all.0) all.1
 
-product_positive : (from : List FromItem) → Froms from → Positive (product from)
+product_positive : (from : List FromItem) → Froms from → Positive (from_product from)
 product_positive [] all = refl
 product_positive (item ∷ others) all = joined_positive item.typing.tree others all.0 all.1
 
@@ -112,13 +112,13 @@ once_positive false q e h = h
 once_positive true q e h = cc
 
 rows_positive : (scope : Scope) (setting : Setting) (c : Clauses) (from : List FromItem) → setting ≡ rows → c.distinct ≡ false → Froms from → Positive (select_under scope setting c from).tree
-rows_positive scope rows c from e once all = once_positive c.distinct _ once (selected_positive scope rows 0 c.condition (product from) (product_positive from all))
+rows_positive scope rows c from e once all = once_positive c.distinct _ once (selected_positive scope rows 0 c.condition (from_product from) (product_positive from all))
 rows_positive scope (groups g) c from e once all = cc
 
 ungrouped : (scope : Scope) (joins : Bool) (c : Clauses) → is_grouped c ≡ false → setting_of scope joins c ≡ rows
 ungrouped scope joins c e = rw e refl
 
-select_positive : (c : Clauses) (from : List FromItem) → IsPlain c → Froms from → Positive (select c from).tree
+select_positive : (c : Clauses) (from : List FromItem) → IsPlain c → Froms from → Positive (resolved_select c from).tree
 select_positive c from plain all =
     rows_positive (scope_of from) (setting_of (scope_of from) (is_join from) c) c from (ungrouped (scope_of from) (is_join from) c plain.grouped) plain.distinct all
 
@@ -158,11 +158,11 @@ module _ (tables : List Relation) where
 
     items_positive : (sources : Sources) → source_places sources ≡ [] → Froms (from_items tables sources)
     items_positive Sources.no_sources e = tt
-    items_positive (Sources.table at word alias others) e = (table_positive tables at (table_of tables word), items_positive others e)
+    items_positive (Sources.table at word alias others) e = (table_positive tables at (table_place tables word), items_positive others e)
     items_positive (Sources.inner at query alias others) e =
         let parts = no_places (places query) (source_places others) e in
         (typing_positive query parts.0, items_positive others parts.1)
 
 -- the tree of a statement that is positive
-pub positive_tree : (tables : List Relation) (s : QueryTree) → not_positive s ≡ None → is_positive (tree_of tables s) ≡ true
+pub positive_tree : (tables : List Relation) (s : QueryTree) → not_positive s ≡ None → is_positive (resolved_tree tables s) ≡ true
 positive_tree tables s e = typing_positive tables s (no_place (places s) e)

@@ -13,7 +13,7 @@ use Rattle.au_engine.specs.declared.faults.EngineFault.TheVariants as engine
 use Rattle.au_engine.specs.declared.faults.LimitFault.TheVariants as limit
 use Rattle.au_value.specs.Texts.{Text}
 use Rattle.au_engine.specs.Reading.{IsRefusalIn, TextCause, TokensCause, greatest_length, refused_text, refused_tokens, token_fault, parse_fault}
-use Rattle.au_engine.specs.Reading.Refusal.{exactly, no_statement}
+use Rattle.au_engine.specs.Reading.TextRefusal.{exactly, no_statement}
 
 pub parsed_cause : (n : ℕ) (tokens : List Token) (f : ParseFault) → parsing.HasCause n tokens f → TokensCause n tokens (parse_fault f)
 parsed_cause n tokens (fault.Syntax at) h = inr (no_statement, rw (h.0, h.1), (at, refl, h.2))

@@ -18,8 +18,8 @@ use Rattle.au_blocks.specs.declared.faults.TableFault.{TableFault}
 use Rattle.au_blocks.specs.declared.faults.TableFault.TheVariants as fault
 use Rattle.au_blocks.specs.Tables.{BlockTable, IsBlockTable}
 use Rattle.au_blocks.specs.Headers.{cells_of, format_of, has_blocks, lead}
-use Rattle.au_blocks.specs.Spellings.{Parts, number_written, parts, range_of, range_written, three, value_written}
-use Rattle.au_blocks.specs.Entries.{Entry, alternatives, blocks_of, copies_in, distinct, entries_of, entry, is_absent, label_of, labelled, role_of}
+use Rattle.au_blocks.specs.Spellings.{Parts, number_written, parts, number_range, range_written, three, value_written}
+use Rattle.au_blocks.specs.Entries.{BlockEntry, alternatives, entry_blocks, copies_in, distinct_labels, entries_of, block_entry, is_absent, label_of, labelled, role_of}
 use Rattle.au_blocks.specs.Defects.{blocks_defects, defects, schema_defects, table_defects}
 use Rattle.au_blocks.specs.Read as reading
 use Rattle.au_blocks.specs.Read.{block_of, candidate_of, cell, contents, first, header_kinds, table_of, unless}
@@ -84,7 +84,7 @@ if_ranged : (b : Bool) (r : Span) → Ranged r → IfSome (cond b (Some r) None)
 if_ranged true r h = h
 if_ranged false r h = tt
 
-three_held : (a b c : Option ℤ) → IfSome a Held → IfSome b Held → IfSome c Held → IfSome (three range_of a b c) Ranged
+three_held : (a b c : Option ℤ) → IfSome a Held → IfSome b Held → IfSome c Held → IfSome (three number_range a b c) Ranged
 three_held None b c h k l = tt
 three_held (Some x) None c h k l = tt
 three_held (Some x) (Some y) None h k l = tt
@@ -92,7 +92,7 @@ three_held (Some x) (Some y) (Some z) h k l =
     if_ranged (at_most (value.Int x) (value.Int y) && at_most (value.Int y) (value.Int z)) (range (value.Int x) (value.Int y) (value.Int z))
     (and_from _ _ (and_from _ _ (written_number_is x h) (written_number_is y k)) (written_number_is z l))
 
-parts_held : (k : Kind) (o : Option Parts) → IfSome (option_and_then (λ p. three range_of (number_written k p.first) (number_written k p.second) (number_written k p.third)) o) Ranged
+parts_held : (k : Kind) (o : Option Parts) → IfSome (option_and_then (λ p. three number_range (number_written k p.first) (number_written k p.second) (number_written k p.third)) o) Ranged
 parts_held k None = tt
 parts_held k (Some p) =
     three_held (number_written k p.first) (number_written k p.second) (number_written k p.third) (number_held k p.first) (number_held k p.second) (number_held k p.third)
@@ -115,17 +115,17 @@ row_ranged (k ∷ kinds) (field ∷ fields) h =
 
 -- ---- a block
 
-abbrev AreTexts : List Entry → Type 0
+abbrev AreTexts : List BlockEntry → Type 0
 AreTexts es = AllByRecursion (λ e. is_text e.cells ≡ true) es
 
-candidates_ranged : (kinds : List Kind) (es : List Entry) → AreTexts es → AllByRecursion (λ a. list_all is_writable_range a.cells ≡ true) (map (candidate_of kinds) es)
+candidates_ranged : (kinds : List Kind) (es : List BlockEntry) → AreTexts es → AllByRecursion (λ a. list_all is_writable_range a.cells ≡ true) (map (candidate_of kinds) es)
 candidates_ranged kinds [] h = tt
 candidates_ranged kinds (e ∷ es) h = (row_ranged kinds e.cells h.0, candidates_ranged kinds es h.1)
 
-block_written : (kinds : List Kind) (es : List Entry) → AreTexts es → IsWritableBlock (block_of kinds es)
+block_written : (kinds : List Kind) (es : List BlockEntry) → AreTexts es → IsWritableBlock (block_of kinds es)
 block_written kinds es h = candidates_ranged kinds (alternatives es) (all_filter (λ e. is_text e.cells ≡ true) (λ e. not (is_absent e.role)) es h)
 
-blocks_written : (kinds : List Kind) (bs : List (List Entry)) → AllByRecursion AreTexts bs → AllByRecursion IsWritableBlock (map (block_of kinds) bs)
+blocks_written : (kinds : List Kind) (bs : List (List BlockEntry)) → AllByRecursion AreTexts bs → AllByRecursion IsWritableBlock (map (block_of kinds) bs)
 blocks_written kinds [] h = tt
 blocks_written kinds (es ∷ bs) h = (block_written kinds es h.0, blocks_written kinds bs h.1)
 
@@ -143,7 +143,7 @@ all_records : (rs : List Record) → list_all is_text rs ≡ true → AreTextRec
 all_records [] h = tt
 all_records (r ∷ rs) h = let p = and_parts (is_text r) (list_all is_text rs) h in (p.0, all_records rs p.1)
 
-text_behind : {R : Type 0} (made : R → Entry) (role : Option R) (es : List Entry) → ((x : R) → is_text (made x).cells ≡ true) → AreTexts es → AreTexts (cons_option (option_map made role) es)
+text_behind : {R : Type 0} (made : R → BlockEntry) (role : Option R) (es : List BlockEntry) → ((x : R) → is_text (made x).cells ≡ true) → AreTexts es → AreTexts (cons_option (option_map made role) es)
 text_behind made None es each h = h
 text_behind made (Some x) es each h = (each x, h)
 
@@ -151,7 +151,7 @@ module _ (header : Record) where
   entries_texts : (rs : List Record) → AreTextRecords rs → AreTexts (entries_of (format_of header) rs)
   entries_texts [] h = tt
   entries_texts (r ∷ rs) h =
-      text_behind (λ x. entry x (copies_in (format_of header) r) (cells_of (format_of header) r)) (role_of (format_of header) r) (entries_of (format_of header) rs)
+      text_behind (λ x. block_entry x (copies_in (format_of header) r) (cells_of (format_of header) r)) (role_of (format_of header) r) (entries_of (format_of header) rs)
       (λ x. drop_text (lead (format_of header)) r h.0) (entries_texts rs h.1)
 
   labels_texts : (rs : List Record) (labels : List (List ℕ)) → AreTextRecords rs → AllByRecursion AreTexts (map (λ label. entries_of (format_of header) (labelled label rs)) labels)
@@ -159,18 +159,18 @@ module _ (header : Record) where
   labels_texts rs (label ∷ labels) h =
       (entries_texts (labelled label rs) (all_filter (λ r. is_text r ≡ true) (λ r. bytes_eq label (label_of r)) rs h), labels_texts rs labels h)
 
-plain_texts : (rs : List Record) → AreTextRecords rs → AllByRecursion AreTexts (blocks_of (format_of []) rs)
+plain_texts : (rs : List Record) → AreTextRecords rs → AllByRecursion AreTexts (entry_blocks (format_of []) rs)
 plain_texts [] h = tt
 plain_texts (r ∷ rs) h = ((h.0, tt), plain_texts rs h.1)
 
-either_texts : (b : Bool) (xs ys : List (List Entry)) → AllByRecursion AreTexts xs → AllByRecursion AreTexts ys → AllByRecursion AreTexts (cond b xs ys)
+either_texts : (b : Bool) (xs ys : List (List BlockEntry)) → AllByRecursion AreTexts xs → AllByRecursion AreTexts ys → AllByRecursion AreTexts (cond b xs ys)
 either_texts true xs ys h k = h
 either_texts false xs ys h k = k
 
-blocks_texts : (header : Record) (rs : List Record) → AreTextRecords rs → AllByRecursion AreTexts (blocks_of (format_of header) rs)
+blocks_texts : (header : Record) (rs : List Record) → AreTextRecords rs → AllByRecursion AreTexts (entry_blocks (format_of header) rs)
 blocks_texts header rs h =
-    either_texts (has_blocks (format_of header)) (map (λ label. entries_of (format_of header) (labelled label rs)) (distinct (map label_of rs))) (blocks_of (format_of []) rs)
-    (labels_texts header rs (distinct (map label_of rs)) h) (plain_texts rs h)
+    either_texts (has_blocks (format_of header)) (map (λ label. entries_of (format_of header) (labelled label rs)) (distinct_labels (map label_of rs))) (entry_blocks (format_of []) rs)
+    (labels_texts header rs (distinct_labels (map label_of rs)) h) (plain_texts rs h)
 
 -- ---- no defect
 
@@ -207,8 +207,8 @@ ok_is (Some f) c t e = cc
 contents_good : (rs : List Record) → first (table_defects rs) ≡ None → AreTextRecords rs → IsBlockTable (contents rs) × IsWritableTable (contents rs)
 contents_good [] none texts = cc
 contents_good (header ∷ rs) none texts =
-    let sound = front_none (schema_defects header rs) (blocks_defects (blocks_of (format_of header) rs)) none in
-    (well-formed header rs sound.0 sound.1, blocks_written (header_kinds header rs) (blocks_of (format_of header) rs) (blocks_texts header rs texts.1))
+    let sound = front_none (schema_defects header rs) (blocks_defects (entry_blocks (format_of header) rs)) none in
+    (well-formed header rs sound.0 sound.1, blocks_written (header_kinds header rs) (entry_blocks (format_of header) rs) (blocks_texts header rs texts.1))
 
 pub read_good : (bytes : List ℕ) (t : BlockTable) → table_of bytes ≡ Ok t → IsBlockTable t × IsWritableTable t
 read_good bytes t e =

@@ -10,13 +10,14 @@ use Rattle.au_value.specs.declared.kinds.Kind.{Kind}
 use Rattle.au_expr.specs.Numbers.{expr_numbers}
 use Rattle.au_expr.specs.OnRanges.{range_of}
 use Rattle.au_value.specs.Ranges.{Span, IsRangeOf}
+use Rattle.au_value.specs.Numeral.{is_i128}
 use Rattle.au_annot.specs.Triples.{is_none}
 use Rattle.au_algebra.specs.Entries.{entry}
 use Rattle.au_algebra.specs.Trees.{Tree, Table, Select, Project, Product, Union, Difference, Distinct, Group, Total}
 use Rattle.au_algebra.specs.Typing.{IsTyped, kinds_of}
 use Rattle.au_algebra.specs.Laws.{IsRelation}
 use Rattle.au_algebra.specs.Bounded.{Bounded, RangeRow, bounded, bounded_answer, combine, normal}
-use Rattle.au_algebra.specs.Fits.{difference_sums, fits, group_numbers, in_range, numbers, triple_numbers, triples_fit}
+use Rattle.au_algebra.specs.Fits.{difference_sums, fits, grouping_numbers, numbers, triple_numbers, triples_fit}
 use Rattle.au_algebra.proofs.TreeRelation.{answer_is_relation, tree_relation}
 use Rattle.au_blocks.specs.Tables.{BlockTable, IsBlockTable, column_kinds}
 use Rattle.au_blocks.specs.declared.column.Column.{Column}
@@ -41,24 +42,24 @@ both_true true false e f = f
 both_true false b e f = e
 
 fit : List ℤ → Bool
-fit ns = list_all in_range ns
+fit ns = list_all is_i128 ns
 
 fit_left : (xs ys : List ℤ) → fit (xs ++ ys) ≡ true → fit xs ≡ true
 unfolding fit
-fit_left xs ys e = first_true (list_all in_range xs) (list_all in_range ys) (sym (list_all-append in_range xs ys) ∙ e)
+fit_left xs ys e = first_true (list_all is_i128 xs) (list_all is_i128 ys) (sym (list_all-append is_i128 xs ys) ∙ e)
 
 fit_right : (xs ys : List ℤ) → fit (xs ++ ys) ≡ true → fit ys ≡ true
 unfolding fit
-fit_right xs ys e = second_true (list_all in_range xs) (list_all in_range ys) (sym (list_all-append in_range xs ys) ∙ e)
+fit_right xs ys e = second_true (list_all is_i128 xs) (list_all is_i128 ys) (sym (list_all-append is_i128 xs ys) ∙ e)
 
 -- ---- rows whose triples fit
 
 own : RangeRow → Bool
-own r = list_all in_range (pos r.annot.least ∷ pos r.annot.guess ∷ pos r.annot.most ∷ [])
+own r = list_all is_i128 (pos r.annot.least ∷ pos r.annot.guess ∷ pos r.annot.most ∷ [])
 
 fits_cons : (r : RangeRow) (rows : Bounded) → triples_fit (r ∷ rows) ≡ (own r && triples_fit rows)
 unfolding own
-fits_cons r rows = list_all-append in_range (pos r.annot.least ∷ pos r.annot.guess ∷ pos r.annot.most ∷ []) (triple_numbers rows)
+fits_cons r rows = list_all-append is_i128 (pos r.annot.least ∷ pos r.annot.guess ∷ pos r.annot.most ∷ []) (triple_numbers rows)
 
 more_fits : (r : RangeRow) (rows : Bounded) → own r ≡ true → triples_fit rows ≡ true → triples_fit (r ∷ rows) ≡ true
 more_fits r rows o h = fits_cons r rows ∙ both_true (own r) (triples_fit rows) o h
@@ -117,7 +118,7 @@ result_fits (Difference a b) ts h =
 result_fits (Distinct q) ts h =
     as_triples (bounded (Distinct q) ts) (fit_right (numbers q ts) (triple_numbers (bounded (Distinct q) ts)) h)
 result_fits (Group keys aggs q) ts h =
-    let groups = group_numbers (take keys) aggs (bounded q ts) in
+    let groups = grouping_numbers (take keys) aggs (bounded q ts) in
     let rows = triple_numbers (bounded (Group keys aggs q) ts) in
     as_triples (bounded (Group keys aggs q) ts) (fit_right groups rows (fit_right (numbers q ts) (groups ++ rows) h))
 result_fits (Total aggs q) ts h = refl
@@ -128,20 +129,20 @@ fits_is : (combined : Bool) (q : Tree) (ts : List Bounded) → fits combined q t
 unfolding fit
 fits_is true q ts =
     let rows = combine (bounded q ts) in
-    list_all-append in_range (numbers q ts) (triple_numbers rows ++ triple_numbers (normal rows))
-    ∙ ap (λ b. list_all in_range (numbers q ts) && b) (list_all-append in_range (triple_numbers rows) (triple_numbers (normal rows)))
+    list_all-append is_i128 (numbers q ts) (triple_numbers rows ++ triple_numbers (normal rows))
+    ∙ ap (λ b. list_all is_i128 (numbers q ts) && b) (list_all-append is_i128 (triple_numbers rows) (triple_numbers (normal rows)))
 fits_is false q ts =
     let rows = bounded q ts in
-    list_all-append in_range (numbers q ts) (triple_numbers rows ++ triple_numbers (normal rows))
-    ∙ ap (λ b. list_all in_range (numbers q ts) && b) (list_all-append in_range (triple_numbers rows) (triple_numbers (normal rows)))
+    list_all-append is_i128 (numbers q ts) (triple_numbers rows ++ triple_numbers (normal rows))
+    ∙ ap (λ b. list_all is_i128 (numbers q ts) && b) (list_all-append is_i128 (triple_numbers rows) (triple_numbers (normal rows)))
 
-pub answer_fits : (combined : Bool) (q : Tree) (ts : List Bounded) → list_all in_range (numbers q ts) ≡ true
+pub answer_fits : (combined : Bool) (q : Tree) (ts : List Bounded) → list_all is_i128 (numbers q ts) ≡ true
     → (triples_fit (bounded q ts) ≡ true → shown_fits combined (bounded q ts) ≡ true) → fits combined q ts ≡ true
 unfolding fit
 answer_fits combined q ts h shown =
-    fits_is combined q ts ∙ both_true (list_all in_range (numbers q ts)) (shown_fits combined (bounded q ts)) h (shown (result_fits q ts h))
+    fits_is combined q ts ∙ both_true (list_all is_i128 (numbers q ts)) (shown_fits combined (bounded q ts)) h (shown (result_fits q ts h))
 
-pub evaluation_overflows : (combined : Bool) (q : Tree) (ts : List Bounded) → list_all in_range (numbers q ts) ≡ false → fits combined q ts ≡ false
+pub evaluation_overflows : (combined : Bool) (q : Tree) (ts : List Bounded) → list_all is_i128 (numbers q ts) ≡ false → fits combined q ts ≡ false
 unfolding fit
 evaluation_overflows combined q ts h = fits_is combined q ts ∙ ap (λ b. b && shown_fits combined (bounded q ts)) h
 

@@ -21,7 +21,7 @@ use Rattle.au_physical.specs.Physicals.{PhysicalTree}
 use Rattle.au_plan.proofs.UpToOrder.{all_same}
 use Rattle.au_encode.specs.Encode.{encode, encoded_kinds}
 use Rattle.au_encode.specs.Gives.{Gives}
-use Rattle.au_engine.specs.Stages.{Adds, CanRun, Finds, GivesOver, LeavesRange, SameRows}
+use Rattle.au_engine.specs.Stages.{Adds, CanRunPlan, FindsRows, GivesOver, LeavesRange, SameRows}
 use Rattle.au_engine.proofs.HeldRows.{physical_fit}
 use Rattle.au_engine.proofs.OtherTables.{numbers_fit, rows_same}
 
@@ -87,10 +87,10 @@ module _ (held : List Rows) (p : PlanTree) (c : ℕ) (ks : List Kind) (rows : Bo
         (physical_fit own.kinds held held_fit (encoded_kinds ks) q (stands.typed own.kinds (encoded_kinds ks) here.typed) f)
 
 module _ (held : List Rows) (p : PlanTree) (c : ℕ) (q : PhysicalTree) (stands : Implements p q) where
-  pub startable : CanRun held p c → IsPhysicalFor held q
+  pub startable : CanRunPlan held p c → IsPhysicalFor held q
   startable can = can_start held p c can.0 can.1.0 can.1.1.0 can.1.1.1 q stands
 
-  pub finds : (found : Rows) → found ≡ physical_rows q held → fit (physical_numbers q held) ≡ true → Finds held p c found
+  pub finds : (found : Rows) → found ≡ physical_rows q held → fit (physical_numbers q held) ≡ true → FindsRows held p c found
   finds found is f ks rows ns a = (
     λ v. ap (copies v) is ∙ same_found held p c ks rows ns a q stands v,
     found_fit held p c ks rows ns a q stands f,

@@ -2,18 +2,19 @@
 use Rattle.std.specs.Prelude.{ℕ, ◌≡◌, ◌&&◌, Bool, false, List, [], map, Option, Some, None, ⊤, Contains, if◌then◌else◌}
 use Rattle.std.specs.List.{list_all}
 use Rattle.au_value.specs.declared.kinds.Kind.{Kind}
+use Rattle.au_value.specs.Numeral.{is_i128}
 use Rattle.au_parse.specs.Tree.{QueryTree}
 use Rattle.au_blocks.specs.Tables.{BlockTable}
 use Rattle.au_blocks.specs.Worlds.{tables_in, guess_world}
 use Rattle.au_algebra.specs.Trees.{Tree}
 use Rattle.au_algebra.specs.Bounded.{Bounded, bounded_answer, combine, normal}
-use Rattle.au_algebra.specs.Fits.{certain_rows, fits, in_range, numbers, triples_fit}
+use Rattle.au_algebra.specs.Fits.{certain_rows, fits, numbers, triples_fit}
 use Rattle.au_algebra.specs.Ordinary.{Rows, answer}
 use Rattle.au_compress.specs.CompressedAnswers.{compressed_answer}
 use Rattle.au_compress.specs.CompressedFits.{compressed_answer_fits}
 use Rattle.au_translate.specs.Translate.{bounded_table, guessed_table}
 use Rattle.au_translate.specs.Headline.{HoldsInEveryWorld}
-use Rattle.au_typing.specs.Queries.{Relation, defects, tree_of, names_of, kinds_of}
+use Rattle.au_typing.specs.Queries.{Relation, typing_defects, resolved_tree, resolved_names, resolved_kinds}
 use Rattle.au_typing.specs.declared.fault.TypingFault.{TypingFault}
 use Rattle.au_typing.specs.declared.fault.TypingFault.TheVariants as typing
 use Rattle.au_engine.specs.declared.faults.EngineFault.{EngineFault}
@@ -36,30 +37,30 @@ relations_of ts = map relation_of ts
 
 -- all that is wrong with a statement over the tables
 abbrev pub statement_defects : List Named → QueryTree → List TypingFault
-statement_defects ts s = defects (relations_of ts) s
+statement_defects ts s = typing_defects (relations_of ts) s
 
 -- its tree, and the names and kinds of its columns
 abbrev pub answer_tree : List Named → QueryTree → Tree
-answer_tree ts s = tree_of (relations_of ts) s
+answer_tree ts s = resolved_tree (relations_of ts) s
 
 abbrev pub answer_names : List Named → QueryTree → List (List ℕ)
-answer_names ts s = names_of (relations_of ts) s
+answer_names ts s = resolved_names (relations_of ts) s
 
 abbrev pub answer_kinds : List Named → QueryTree → List Kind
-answer_kinds ts s = kinds_of (relations_of ts) s
+answer_kinds ts s = resolved_kinds (relations_of ts) s
 
 -- the bounded answer, combined where that is asked for, and whether its numbers lie in 128 bits
 abbrev pub tree_answer : Bool → List Named → Tree → Bounded
 tree_answer combined ts q = bounded_answer combined q (map bounded_table (blocks_of ts))
 
-abbrev pub tree_fits : Bool → List Named → Tree → Bool
-tree_fits combined ts q = fits combined q (map bounded_table (blocks_of ts))
+abbrev pub tree_answer_fits : Bool → List Named → Tree → Bool
+tree_answer_fits combined ts q = fits combined q (map bounded_table (blocks_of ts))
 
 abbrev pub answer_rows : Bool → List Named → QueryTree → Bounded
 answer_rows combined ts s = tree_answer combined ts (answer_tree ts s)
 
 abbrev pub answer_fits : Bool → List Named → QueryTree → Bool
-answer_fits combined ts s = tree_fits combined ts (answer_tree ts s)
+answer_fits combined ts s = tree_answer_fits combined ts (answer_tree ts s)
 
 -- the answer that is asked for: the bounded answer, or that whose products are compressed
 abbrev pub tree_asked : Option ℕ → Bool → List Named → Tree → Bounded
@@ -67,7 +68,7 @@ tree_asked None combined ts q = tree_answer combined ts q
 tree_asked (Some n) combined ts q = compressed_answer n combined q (map bounded_table (blocks_of ts))
 
 abbrev pub tree_asked_fits : Option ℕ → Bool → List Named → Tree → Bool
-tree_asked_fits None combined ts q = tree_fits combined ts q
+tree_asked_fits None combined ts q = tree_answer_fits combined ts q
 tree_asked_fits (Some n) combined ts q = compressed_answer_fits n combined q (map bounded_table (blocks_of ts))
 
 abbrev pub asked_rows : Option ℕ → Bool → List Named → QueryTree → Bounded
@@ -85,7 +86,7 @@ abbrev pub guess_tables : List Named → List Rows
 guess_tables ts = tables_in (blocks_of ts) (guess_world (blocks_of ts))
 
 abbrev pub tree_guess_fits : List Named → Tree → Bool
-tree_guess_fits ts q = list_all in_range (numbers q (map certain_rows (map guessed_table (blocks_of ts))))
+tree_guess_fits ts q = list_all is_i128 (numbers q (map certain_rows (map guessed_table (blocks_of ts))))
 
 abbrev pub guess_answer : List Named → QueryTree → Rows
 guess_answer ts s = answer (answer_tree ts s) (guess_tables ts)

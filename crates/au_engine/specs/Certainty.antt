@@ -4,7 +4,7 @@ use Rattle.au_algebra.specs.Fits.{guess_fits}
 use Rattle.au_algebra.specs.Trees.{Tree}
 use Rattle.au_parse.specs.Tree.{QueryTree}
 use Rattle.au_ua.specs.Relations.{PairRow}
-use Rattle.au_ua.specs.UaAnswers.{HoldsInEveryWorld, ua_answer}
+use Rattle.au_ua.specs.UaAnswers.{CountsHoldInEveryWorld, ua_answer}
 use Rattle.au_ua.specs.UaTables.{ua_table}
 use Rattle.au_translate.specs.Translate.{guessed_table}
 use Rattle.au_engine.specs.Answers.{Named, answer_tree, blocks_of}
@@ -18,7 +18,7 @@ ua_rows ts s = tree_ua_rows ts (answer_tree ts s)
 
 -- in every world there are as many copies of a row as are certain, and in the guess world as many as are guessed
 abbrev pub TreeUaHolds : List Named → Tree → Type 0
-TreeUaHolds ts q = HoldsInEveryWorld q (blocks_of ts) (tree_ua_rows ts q)
+TreeUaHolds ts q = CountsHoldInEveryWorld q (blocks_of ts) (tree_ua_rows ts q)
 
 abbrev pub UaHolds : List Named → QueryTree → Type 0
 UaHolds ts s = TreeUaHolds ts (answer_tree ts s)

@@ -15,7 +15,7 @@ use Rattle.au_plain.specs.PlanNumbers.{plan_numbers}
 use Rattle.au_plain.specs.Plans.{PlanTree}
 use Rattle.au_encode.specs.Encode.{encode, encoded_kinds}
 use Rattle.au_print.specs.GuessTexts.{in_order}
-use Rattle.au_sqltext.specs.Fitting.{numbers_fit, widths_fit}
+use Rattle.au_sqltext.specs.Fitting.{written_numbers_fit, widths_fit}
 use Rattle.au_sqltext.specs.Records.{rows_text}
 use Rattle.au_sqltext.specs.Texts.{plan_text}
 use Rattle.au_engine.specs.Answers.{Named, answer_tree, blocks_of, guess_tables}
@@ -36,7 +36,7 @@ pub record IsTreeText (kinds : List (List Kind)) (q : Tree) (line : List ℕ) : 
   pub plan : PlanTree
   pub whole : IsPlanOf kinds q plan
   pub widths : widths_fit plan ≡ true
-  pub numbers : numbers_fit plan ≡ true
+  pub numbers : written_numbers_fit plan ≡ true
   pub text : line ≡ plan_text plan ++ codes "\n"
   pub utf8 : is_utf8 line ≡ true
 
@@ -67,12 +67,12 @@ PlainCause ts p plain.Untyped = plain_kinds ts p ≡ None
 PlainCause ts p plain.Overflow = IsTypedPlan (value_kinds ts) p × (plain_fits ts p ≡ false)
 
 -- how many guess rows a table has, and with them the values of these rows and one more for each
-abbrev pub guess_count : BlockTable → ℕ
-guess_count t = sum (map guessed_copies t.blocks)
+abbrev pub guess_row_count : BlockTable → ℕ
+guess_row_count t = sum (map guessed_copies t.blocks)
 
 abbrev pub plain_size : BlockTable → ℕ
-plain_size t = guess_count t * (length t.columns + 1)
+plain_size t = guess_row_count t * (length t.columns + 1)
 
 -- the greatest size of a table whose guess rows are made
-abbrev pub greatest_size : ℕ
-greatest_size = 16777216
+abbrev pub greatest_plain_size : ℕ
+greatest_plain_size = 16777216

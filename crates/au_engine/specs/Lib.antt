@@ -1,11 +1,13 @@
+-- The definitions, in the order in which they are to be read.
 pub mod Reading
 pub mod Answers
-pub mod Certainty
 pub mod Compressing
+pub mod Certainty
 pub mod Rewriting
 pub mod Exchange
 pub mod PlanAnswers
+pub mod EncodedTables
+-- What the contracts of inner calls and the proofs speak of.
+pub mod Scans
 pub mod Slicing
 pub mod Stages
-pub mod EncodedTables
-pub mod Scans

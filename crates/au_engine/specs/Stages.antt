@@ -55,12 +55,12 @@ AddsTree how ts q old new p c =
     Adds old new p c ks (tree_rows how q (map bounded_table ts)) (tree_numbers how q (map bounded_table ts))
 
 -- a plan that gives some relation over all the tables
-abbrev pub CanRun : List Rows → PlanTree → ℕ → Type 0
-CanRun held p c = (ks : List Kind) × ((rows : Bounded) × ((ns : List ℤ) × Adds [] held p c ks rows ns))
+abbrev pub CanRunPlan : List Rows → PlanTree → ℕ → Type 0
+CanRunPlan held p c = (ks : List Kind) × ((rows : Bounded) × ((ns : List ℤ) × Adds [] held p c ks rows ns))
 
 -- the rows that its run found are those of the relation, up to order, and their numbers lie in the range
-abbrev pub Finds : List Rows → PlanTree → ℕ → Rows → Type 0
-Finds held p c found =
+abbrev pub FindsRows : List Rows → PlanTree → ℕ → Rows → Type 0
+FindsRows held p c found =
     (ks : List Kind) (rows : Bounded) (ns : List ℤ) → Adds [] held p c ks rows ns → SameRows found (encode rows) × FitRows (encode rows)
 
 -- no relation that the plan gives has numbers that all lie in the range

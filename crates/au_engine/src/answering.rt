@@ -9,10 +9,11 @@ ghost use Rattle.au_algebra.specs.Typing.{kinds_of};
 ghost use Rattle.au_blocks.specs.Tables.{IsBlockTable, column_kinds};
 ghost use Rattle.au_translate.specs.Translate.{bounded_table};
 ghost use Rattle.au_algebra.specs.Bounded.{bounded, combine as combine_of, normal as normal_of};
-ghost use Rattle.au_algebra.specs.Fits.{in_range, numbers, triples_fit};
+ghost use Rattle.au_algebra.specs.Fits.{numbers, triples_fit};
 ghost use Rattle.au_value.specs.declared.kinds.Kind.{Kind};
 ghost use Rattle.au_value.specs.Order.{data_kind};
-ghost use Rattle.au_engine.specs.Answers.{AnswerCause, RowsCause, RowsHold, blocks_of, shown_fits, tree_answer, tree_asked, tree_asked_fits, tree_fits, answer_fits, answer_kinds, answer_names, answer_rows as answer_rows_of, asked_fits, asked_rows, statement_defects};
+ghost use Rattle.au_value.specs.Numeral.{is_i128};
+ghost use Rattle.au_engine.specs.Answers.{AnswerCause, RowsCause, RowsHold, blocks_of, shown_fits, tree_answer, tree_asked, tree_asked_fits, tree_answer_fits, answer_fits, answer_kinds, answer_names, answer_rows as answer_rows_of, asked_fits, asked_rows, statement_defects};
 ghost use Rattle.au_engine.specs.Compressing.{IsCompression};
 
 use crate::faults::EngineFault;
@@ -151,8 +152,8 @@ fn direct_rows(
 ) -> Result<Rel<Range, Triple>, EvalFault>
     requires { (ks : List Kind) × (kinds_of (map column_kinds (blocks_of tables.now)) (tree query.now) ≡ Some ks) }
     ensures rows { IfOk result (λ r. r ≡ tree_answer combined tables.now (tree query.now)) }
-    ensures fits { OnOk result (tree_fits combined tables.now (tree query.now) ≡ true) }
-    ensures overflow { result ≡ Err EvalFault.Overflow → tree_fits combined tables.now (tree query.now) ≡ false }
+    ensures fits { OnOk result (tree_answer_fits combined tables.now (tree query.now) ≡ true) }
+    ensures overflow { result ≡ Err EvalFault.Overflow → tree_answer_fits combined tables.now (tree query.now) ≡ false }
 {
     let rows = match evaluated_directly(alloc, query, tables) {
         Ok(rows) => rows,
@@ -173,8 +174,8 @@ fn evaluated_directly(
     requires { (ks : List Kind) × (kinds_of (map column_kinds (blocks_of tables.now)) (tree query.now) ≡ Some ks) }
     ensures rows { IfOk result (λ r. r ≡ bounded (tree query.now) (map bounded_table (blocks_of tables.now))) }
     ensures tables { OnOk result (AllByRecursion IsBlockTable (blocks_of tables.now)) }
-    ensures fits { OnOk result (list_all in_range (numbers (tree query.now) (map bounded_table (blocks_of tables.now))) ≡ true) }
-    ensures overflow { result ≡ Err EvalFault.Overflow → list_all in_range (numbers (tree query.now) (map bounded_table (blocks_of tables.now))) ≡ false }
+    ensures fits { OnOk result (list_all is_i128 (numbers (tree query.now) (map bounded_table (blocks_of tables.now))) ≡ true) }
+    ensures overflow { result ≡ Err EvalFault.Overflow → list_all is_i128 (numbers (tree query.now) (map bounded_table (blocks_of tables.now))) ≡ false }
 {
     match bounded_tables(alloc, tables) {
         Ok(relations) => direct(alloc, query, relations.as_slice()),

@@ -10,7 +10,7 @@ ghost use Rattle.au_blocks.specs.declared.column.Column.{Column};
 ghost use Rattle.au_parse.specs.Views.{statement_tree};
 ghost use Rattle.au_parse.specs.Whole.{WholeQuery};
 ghost use Rattle.au_ua.specs.NotPositive.{not_positive};
-ghost use Rattle.au_ua.specs.UaTexts.{pairs_fit, summed};
+ghost use Rattle.au_ua.specs.UaTexts.{pairs_fit, summed_pairs};
 ghost use Rattle.au_engine.specs.Answers.{AnswerCause, answer_kinds, answer_names, blocks_of, statement_defects};
 ghost use Rattle.au_engine.specs.Certainty.{TreeUaHolds, UaHolds, tree_ua_fits, tree_ua_rows, ua_answer_fits, ua_rows as ua_rows_of};
 
@@ -54,7 +54,7 @@ pub fn ua_answer(
     ensures rows { IfOk result (λ a. a.rows ≡ ua_rows_of tables.now (statement_tree statement.now)) }
     ensures widths { IfOk result (λ a. AllByRecursion (λ r. length r.cells ≡ length a.names.items) a.rows) }
     ensures holds { OnOk result (UaHolds tables.now (statement_tree statement.now)) }
-    ensures printed { OnOk result (ua_answer_fits tables.now (statement_tree statement.now) ≡ true → pairs_fit (summed (ua_rows_of tables.now (statement_tree statement.now))) ≡ true) }
+    ensures printed { OnOk result (ua_answer_fits tables.now (statement_tree statement.now) ≡ true → pairs_fit (summed_pairs (ua_rows_of tables.now (statement_tree statement.now))) ≡ true) }
     ensures refused { IfErr result (AnswerCause (statement_defects tables.now (statement_tree statement.now)) (ua_answer_fits tables.now (statement_tree statement.now))) }
 {
     let typed = match resolved(alloc, statement, tables) {
@@ -83,7 +83,7 @@ fn ua_rows(
     ensures rows { IfOk result (λ r. r ≡ tree_ua_rows tables.now (tree typed.now.query)) }
     ensures widths { IfOk result (λ r. (names : List (List ℕ)) (columns : List Column) → names ≡ map (λ c. c.name) columns → typed.now.kinds.items ≡ map (λ c. c.kind) columns → AllByRecursion (λ row. length row.cells ≡ length names) r) }
     ensures holds { OnOk result (TreeUaHolds tables.now (tree typed.now.query)) }
-    ensures printed { OnOk result (tree_ua_fits tables.now (tree typed.now.query) ≡ true → pairs_fit (summed (tree_ua_rows tables.now (tree typed.now.query))) ≡ true) }
+    ensures printed { OnOk result (tree_ua_fits tables.now (tree typed.now.query) ≡ true → pairs_fit (summed_pairs (tree_ua_rows tables.now (tree typed.now.query))) ≡ true) }
     ensures overflow { result ≡ Err EvalFault.Overflow → tree_ua_fits tables.now (tree typed.now.query) ≡ false }
 {
     let pairs = match ua_tables(alloc, tables) {

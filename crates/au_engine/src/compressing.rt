@@ -6,7 +6,7 @@ ghost use Rattle.au_compress.specs.Kinds.{HasKinds};
 ghost use Rattle.au_compress.specs.Splitting.{compressed as compressed_of, compressed_fits, guess_part as guess_part_of};
 ghost use Rattle.au_plain.specs.Plans.{plan_tree};
 ghost use Rattle.au_exec.specs.Outcomes.{rows_of};
-ghost use Rattle.au_engine.specs.Stages.{AddsCompressed, AddsPairs, AddsRelation, CanRun, Decodes, HaveSides, LeavesCompressed, LeavesMultiplied, LeavesRange, MultipliesCompressed};
+ghost use Rattle.au_engine.specs.Stages.{AddsCompressed, AddsPairs, AddsRelation, CanRunPlan, Decodes, HaveSides, LeavesCompressed, LeavesMultiplied, LeavesRange, MultipliesCompressed};
 
 use crate::runner::Runner;
 use crate::stage::{put, run};
@@ -38,7 +38,7 @@ pub(crate) fn side_of<R: Threads + Sync, G: Gate + Sync>(
     planned: Planned,
     own: Vec<Vec<PRow>>,
 ) -> Result<Side, EvalFault>
-    requires runs { CanRun (map rows_of own.items) (plan_tree planned.plan) planned.layout.columns }
+    requires runs { CanRunPlan (map rows_of own.items) (plan_tree planned.plan) planned.layout.columns }
     ensures columns { IfOk result (λ s. s.columns ≡ planned.layout.columns) }
     ensures rows { IfOk result (λ s. Decodes (map rows_of own.items) (plan_tree planned.plan) planned.layout.columns s.rel) }
     ensures overflow { result ≡ Err EvalFault.Overflow → LeavesRange (map rows_of own.items) (plan_tree planned.plan) planned.layout.columns }
@@ -199,8 +199,8 @@ pub(crate) fn compressed_product_of<R: Threads + Sync, G: Gate + Sync>(
     tables: &mut Vec<Vec<PRow>>,
 ) -> Result<Planned, EvalFault>
     requires size { (1 ≤ n) × (n ≤ 1000) }
-    requires left { CanRun (map rows_of left.1.items) (plan_tree left.0.plan) left.0.layout.columns }
-    requires right { CanRun (map rows_of right.1.items) (plan_tree right.0.plan) right.0.layout.columns }
+    requires left { CanRunPlan (map rows_of left.1.items) (plan_tree left.0.plan) left.0.layout.columns }
+    requires right { CanRunPlan (map rows_of right.1.items) (plan_tree right.0.plan) right.0.layout.columns }
     ensures columns { IfOk result (λ p. p.layout.columns ≡ left.0.layout.columns + right.0.layout.columns) }
     ensures plan { IfOk result (λ p. MultipliesCompressed n (map rows_of left.1.items) (plan_tree left.0.plan) left.0.layout.columns (map rows_of right.1.items) (plan_tree right.0.plan) right.0.layout.columns (map rows_of tables.old.items) (map rows_of tables.new.items) (plan_tree p.plan) p.layout.columns) }
     ensures overflow { result ≡ Err EvalFault.Overflow → LeavesMultiplied n (map rows_of left.1.items) (plan_tree left.0.plan) left.0.layout.columns (map rows_of right.1.items) (plan_tree right.0.plan) right.0.layout.columns }

@@ -1,7 +1,7 @@
 //! How many guess rows a table has.
 ghost use Rattle.std.specs.Prelude.{◌≡◌, map, nat_le, sum};
 ghost use Rattle.au_translate.specs.Translate.{guessed_copies};
-ghost use Rattle.au_engine.specs.Exchange.{greatest_size, plain_size};
+ghost use Rattle.au_engine.specs.Exchange.{greatest_plain_size, plain_size};
 
 use au_blocks::{Block, Table};
 
@@ -11,7 +11,7 @@ const MAX_SIZE: u64 = 16_777_216;
 /// Whether the guess rows of a table are few enough to be made: g rows of c columns where g * (c + 1) is at most
 /// 16,777,216. It takes no memory.
 pub fn fits_plain(table: &Table) -> bool
-    ensures { result ≡ nat_le (plain_size table.now) greatest_size }
+    ensures { result ≡ nat_le (plain_size table.now) greatest_plain_size }
 {
     let columns = table.columns().len() as u64;
     has_at_most(table.blocks(), MAX_SIZE / (columns + 1))

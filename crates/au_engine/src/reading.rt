@@ -1,6 +1,6 @@
 //! The statement of a query's text.
 ghost use Rattle.std.specs.Prelude.{◌≡◌, None, Some, Ok, IfOk, IfErr};
-ghost use Rattle.au_parse.specs.Queries.{tree_of};
+ghost use Rattle.au_parse.specs.Queries.{parsed_tree};
 ghost use Rattle.au_parse.specs.Views.{statement_tree};
 ghost use Rattle.au_parse.specs.Whole.{WholeQuery};
 ghost use Rattle.au_engine.specs.Reading.{TextCause, TokensCause, parse_fault as parse_fault_of, refused_text, refused_tokens, statement_of, token_fault as token_fault_of};
@@ -35,7 +35,7 @@ pub fn read_query(alloc: Global, text: &str) -> Result<Statement, EngineFault>
 // The statement of a query's tokens.
 fn statement(alloc: Global, list: &TokenList, length: usize) -> Result<Statement, EngineFault>
     ensures allowed { IfOk result (λ s. refused_tokens length (Ok list.now) ≡ None) }
-    ensures tree { IfOk result (λ s. tree_of list.now ≡ Some (statement_tree s)) }
+    ensures tree { IfOk result (λ s. parsed_tree list.now ≡ Some (statement_tree s)) }
     ensures whole { IfOk result (λ s. WholeQuery (statement_tree s)) }
     ensures refused { IfErr result (TokensCause length list.now) }
 {

@@ -3,7 +3,7 @@ ghost use Rattle.std.specs.Prelude.{◌≡◌, IfOk, true};
 ghost use Rattle.au_algebra.specs.Trees.{tree};
 ghost use Rattle.au_algebra.specs.Typing.{IsTyped};
 ghost use Rattle.au_plain.specs.Plans.{plan_tree};
-ghost use Rattle.au_sqltext.specs.Fitting.{numbers_fit, widths_fit};
+ghost use Rattle.au_sqltext.specs.Fitting.{written_numbers_fit, widths_fit};
 ghost use Rattle.au_typing.specs.Queries.{relations, table_kinds};
 ghost use Rattle.au_engine.specs.Rewriting.{GivesTree, IsPlanOf};
 
@@ -27,7 +27,7 @@ pub fn rewritten(alloc: Global, typed: &Typed, schemas: &[Schema]) -> Result<Pla
     requires { IsTyped (table_kinds (relations schemas.now)) (tree typed.now.query) }
     ensures plan { IfOk result (λ p. IsPlanOf (table_kinds (relations schemas.now)) (tree typed.now.query) (plan_tree p)) }
     ensures widths { IfOk result (λ p. widths_fit (plan_tree p) ≡ true) }
-    ensures numbers { IfOk result (λ p. numbers_fit (plan_tree p) ≡ true) }
+    ensures numbers { IfOk result (λ p. written_numbers_fit (plan_tree p) ≡ true) }
 {
     let planned = plan_of(alloc, &typed.query, schemas)?;
     read_numbers(&planned.plan);

@@ -2,7 +2,7 @@
 ghost use Rattle.std.specs.Prelude.{◌≡◌, ◌++◌, ◌+◌, ◌*◌, ◌∷◌, [], IfOk, length, map};
 ghost use Rattle.au_plain.specs.Plans.{Scan, plan_tree};
 ghost use Rattle.au_exec.specs.Outcomes.{rows_of};
-ghost use Rattle.au_engine.specs.Stages.{CanRun, Finds, LeavesRange, LeavesRangeCombined, Materializes, MaterializesCombined};
+ghost use Rattle.au_engine.specs.Stages.{CanRunPlan, FindsRows, LeavesRange, LeavesRangeCombined, Materializes, MaterializesCombined};
 
 use crate::runner::Runner;
 use crate::steps::{Planned, combined_of};
@@ -24,8 +24,8 @@ pub(crate) fn run<R: Threads + Sync, G: Gate + Sync>(
     planned: Planned,
     tables: Vec<Vec<PRow>>,
 ) -> Result<Vec<PRow>, EvalFault>
-    requires runs { CanRun (map rows_of tables.items) (plan_tree planned.plan) planned.layout.columns }
-    ensures rows { IfOk result (λ found. Finds (map rows_of tables.items) (plan_tree planned.plan) planned.layout.columns (rows_of found)) }
+    requires runs { CanRunPlan (map rows_of tables.items) (plan_tree planned.plan) planned.layout.columns }
+    ensures rows { IfOk result (λ found. FindsRows (map rows_of tables.items) (plan_tree planned.plan) planned.layout.columns (rows_of found)) }
     ensures overflow { result ≡ Err EvalFault.Overflow → LeavesRange (map rows_of tables.items) (plan_tree planned.plan) planned.layout.columns }
 {
     let plan = match improve(alloc, planned.plan) {
@@ -69,7 +69,7 @@ pub(crate) fn materialized<R: Threads + Sync, G: Gate + Sync>(
     own: Vec<Vec<PRow>>,
     tables: &mut Vec<Vec<PRow>>,
 ) -> Result<Planned, EvalFault>
-    requires runs { CanRun (map rows_of own.items) (plan_tree planned.plan) planned.layout.columns }
+    requires runs { CanRunPlan (map rows_of own.items) (plan_tree planned.plan) planned.layout.columns }
     ensures columns { IfOk result (λ p. p.layout.columns ≡ planned.layout.columns) }
     ensures plan { IfOk result (λ p. Materializes (map rows_of own.items) (plan_tree planned.plan) planned.layout.columns (map rows_of tables.old.items) (map rows_of tables.new.items) (plan_tree p.plan) p.layout.columns) }
     ensures overflow { result ≡ Err EvalFault.Overflow → LeavesRange (map rows_of own.items) (plan_tree planned.plan) planned.layout.columns }
@@ -93,7 +93,7 @@ pub(crate) fn materialized_combined<R: Threads + Sync, G: Gate + Sync>(
     own: Vec<Vec<PRow>>,
     tables: &mut Vec<Vec<PRow>>,
 ) -> Result<Planned, EvalFault>
-    requires runs { CanRun (map rows_of own.items) (plan_tree planned.plan) planned.layout.columns }
+    requires runs { CanRunPlan (map rows_of own.items) (plan_tree planned.plan) planned.layout.columns }
     ensures columns { IfOk result (λ p. p.layout.columns ≡ planned.layout.columns) }
     ensures plan { IfOk result (λ p. MaterializesCombined (map rows_of own.items) (plan_tree planned.plan) planned.layout.columns (map rows_of tables.old.items) (map rows_of tables.new.items) (plan_tree p.plan) p.layout.columns) }
     ensures overflow { result ≡ Err EvalFault.Overflow → LeavesRangeCombined (map rows_of own.items) (plan_tree planned.plan) planned.layout.columns }

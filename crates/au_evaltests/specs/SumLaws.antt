@@ -3,21 +3,21 @@ use Rattle.std.specs.Prelude.{◌≡◌, ◌+◌, ◌^◌, true, List, [], ◌�
 use Rattle.std.proofs.Common.{sym, ap, ◌∙◌, arith, le-leb, leb-true}
 use Rattle.std.proofs.lemmas.Int.{ints}
 use Rattle.au_value.specs.Adding.{Sum, sum_of, no_terms}
-use Rattle.au_value.specs.Joining.{joined}
+use Rattle.au_value.specs.Joining.{joined_sum}
 use Rattle.au_evaltests.specs.Summed.{summed, too_large}
 
 -- adding nothing
-pub joined_none : (s : Sum) → joined no_terms s ≡ s
+pub joined_none : (s : Sum) → joined_sum no_terms s ≡ s
 joined_none s = λ i. sum_of (let e : pos 0 +ℤ s.total ≡ s.total = omega (arith, ints) in e i) (let e : 0 + s.magnitude ≡ s.magnitude = omega arith in e i)
 
-pub joined_again : (s t u : Sum) → joined (joined s t) u ≡ joined s (joined t u)
+pub joined_again : (s t u : Sum) → joined_sum (joined_sum s t) u ≡ joined_sum s (joined_sum t u)
 joined_again s t u =
     λ i. sum_of (let e : (s.total +ℤ t.total) +ℤ u.total ≡ s.total +ℤ (t.total +ℤ u.total) = omega (arith, ints) in e i)
     (let e : (s.magnitude + t.magnitude) + u.magnitude ≡ s.magnitude + (t.magnitude + u.magnitude) = omega arith in e i)
 
-pub summed-append : (xs ys : List ℤ) → summed (xs ++ ys) ≡ joined (summed xs) (summed ys)
+pub summed-append : (xs ys : List ℤ) → summed (xs ++ ys) ≡ joined_sum (summed xs) (summed ys)
 summed-append [] ys = sym (joined_none (summed ys))
-summed-append (x ∷ xs) ys = ap (joined (sum_of x (unsigned_abs x))) (summed-append xs ys) ∙ sym (joined_again (sum_of x (unsigned_abs x)) (summed xs) (summed ys))
+summed-append (x ∷ xs) ys = ap (joined_sum (sum_of x (unsigned_abs x))) (summed-append xs ys) ∙ sym (joined_again (sum_of x (unsigned_abs x)) (summed xs) (summed ys))
 
 magnitudes : (xs ys : List ℤ) → (summed (xs ++ ys)).magnitude ≡ (summed xs).magnitude + (summed ys).magnitude
 magnitudes xs ys = ap (λ s. s.magnitude) (summed-append xs ys)

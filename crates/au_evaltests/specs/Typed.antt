@@ -5,9 +5,9 @@ use Rattle.au_value.specs.declared.kinds.Kind.TheVariants.{Int, Text, Flag}
 use Rattle.au_plain.specs.Plans.{PlanTree}
 use Rattle.au_plain.specs.PlanKinds.{plan_kinds}
 
-abbrev pub table_kinds : List Kind
-table_kinds = Int ∷ Text ∷ Flag ∷ []
+abbrev pub test_table_kinds : List Kind
+test_table_kinds = Int ∷ Text ∷ Flag ∷ []
 
 -- the plan has kinds over the table
-abbrev pub IsTyped : PlanTree → Type 0
-IsTyped p = (ks : List Kind) × (plan_kinds (table_kinds ∷ []) p ≡ Some ks)
+abbrev pub IsTypedPlan : PlanTree → Type 0
+IsTypedPlan p = (ks : List Kind) × (plan_kinds (test_table_kinds ∷ []) p ≡ Some ks)

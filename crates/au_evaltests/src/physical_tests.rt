@@ -4,7 +4,7 @@ ghost use Rattle.std.specs.List.{AllZip};
 ghost use Rattle.au_plain.specs.PlanKinds.{HaveKinds};
 ghost use Rattle.au_plain.specs.Plans.{plan_tree};
 ghost use Rattle.au_exec.specs.Outcomes.{rows_of};
-ghost use Rattle.au_evaltests.specs.Typed.{IsTyped, table_kinds};
+ghost use Rattle.au_evaltests.specs.Typed.{IsTypedPlan, test_table_kinds};
 
 use crate::cases::{Call, given_and_wanted, judge};
 use crate::plan_tests::{OPERATORS, TERMS, plain_text, tables, typed_plan};
@@ -80,8 +80,8 @@ impl Call for Chosen {
 
 // A run of the physical plan that stands for a plan.
 fn run_of(alloc: Global, plan: Plan, tables: Vec<Vec<PRow>>) -> Result<Run<NoGate>, EvalFault>
-    requires tables { AllZip HaveKinds (table_kinds ∷ []) (map rows_of tables.items) }
-    requires plan { IsTyped (plan_tree plan) }
+    requires tables { AllZip HaveKinds (test_table_kinds ∷ []) (map rows_of tables.items) }
+    requires plan { IsTypedPlan (plan_tree plan) }
 {
     let physical = improve(alloc, plan)?;
     let run = Run::start(alloc, physical, tables, 1, NoGate)?;
@@ -94,8 +94,8 @@ fn all_rows(
     plan: Plan,
     tables: Vec<Vec<PRow>>,
 ) -> Result<Vec<PRow>, EvalFault>
-    requires tables { AllZip HaveKinds (table_kinds ∷ []) (map rows_of tables.items) }
-    requires plan { IsTyped (plan_tree plan) }
+    requires tables { AllZip HaveKinds (test_table_kinds ∷ []) (map rows_of tables.items) }
+    requires plan { IsTypedPlan (plan_tree plan) }
 {
     let run = run_of(alloc, plan, tables)?;
     run.all(rt)
@@ -130,8 +130,8 @@ fn batched_rows(
     plan: Plan,
     tables: Vec<Vec<PRow>>,
 ) -> Result<Vec<PRow>, EvalFault>
-    requires tables { AllZip HaveKinds (table_kinds ∷ []) (map rows_of tables.items) }
-    requires plan { IsTyped (plan_tree plan) }
+    requires tables { AllZip HaveKinds (test_table_kinds ∷ []) (map rows_of tables.items) }
+    requires plan { IsTypedPlan (plan_tree plan) }
 {
     let mut run = run_of(alloc, plan, tables)?;
     in_batches(rt, alloc, &mut run)
@@ -261,8 +261,8 @@ fn batch_sizes(
     plan: Plan,
     tables: Vec<Vec<PRow>>,
 ) -> Result<Vec<usize>, EvalFault>
-    requires tables { AllZip HaveKinds (table_kinds ∷ []) (map rows_of tables.items) }
-    requires plan { IsTyped (plan_tree plan) }
+    requires tables { AllZip HaveKinds (test_table_kinds ∷ []) (map rows_of tables.items) }
+    requires plan { IsTypedPlan (plan_tree plan) }
 {
     let mut run = run_of(alloc, plan, tables)?;
     sizes(rt, alloc, &mut run)

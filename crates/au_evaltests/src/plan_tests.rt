@@ -5,7 +5,7 @@ ghost use Rattle.au_value.specs.Order.{kind_of};
 ghost use Rattle.au_plain.specs.PlanKinds.{HaveKinds};
 ghost use Rattle.au_plain.specs.Plans.{plan_tree};
 ghost use Rattle.au_exec.specs.Outcomes.{rows_of};
-ghost use Rattle.au_evaltests.specs.Typed.{IsTyped, table_kinds};
+ghost use Rattle.au_evaltests.specs.Typed.{IsTypedPlan, test_table_kinds};
 
 use crate::cases::{Call, judge};
 use crate::relations::number;
@@ -21,7 +21,7 @@ use std::thread::Threads;
 
 // The row of a text such as `7 north true`.
 fn row(rt: &impl Abort, alloc: Global, text: &str) -> Result<PRow, NoMemory>
-    ensures { IfOk result (λ r. map kind_of r.items ≡ table_kinds) }
+    ensures { IfOk result (λ r. map kind_of r.items ≡ test_table_kinds) }
 {
     let (first, rest) = text.split_once(' ').expect(rt, "a number");
     let (second, third) = rest.split_once(' ').expect(rt, "a text");
@@ -34,7 +34,7 @@ fn row(rt: &impl Abort, alloc: Global, text: &str) -> Result<PRow, NoMemory>
 }
 
 fn rows(rt: &impl Abort, alloc: Global, text: &str) -> Result<Vec<PRow>, NoMemory>
-    ensures { IfOk result (λ v. HaveKinds table_kinds (rows_of v)) }
+    ensures { IfOk result (λ v. HaveKinds test_table_kinds (rows_of v)) }
 {
     let mut rows = Vec::new(alloc);
     for part in text.split(';') {
@@ -48,7 +48,7 @@ fn rows(rt: &impl Abort, alloc: Global, text: &str) -> Result<Vec<PRow>, NoMemor
 
 /// The one table of a text.
 pub(crate) fn tables(rt: &impl Abort, alloc: Global, text: &str) -> Result<Vec<Vec<PRow>>, NoMemory>
-    ensures { IfOk result (λ v. AllZip HaveKinds (table_kinds ∷ []) (map rows_of v.items)) }
+    ensures { IfOk result (λ v. AllZip HaveKinds (test_table_kinds ∷ []) (map rows_of v.items)) }
 {
     let mut tables = Vec::new(alloc);
     tables.push(rows(rt, alloc, text)?)?;
@@ -57,7 +57,7 @@ pub(crate) fn tables(rt: &impl Abort, alloc: Global, text: &str) -> Result<Vec<V
 
 // The kinds of the table.
 fn kinds(alloc: Global) -> Result<Vec<Kind>, NoMemory>
-    ensures { IfOk result (λ v. v.items ≡ table_kinds) }
+    ensures { IfOk result (λ v. v.items ≡ test_table_kinds) }
 {
     let mut kinds = Vec::new(alloc);
     kinds.push(Kind::Int)?;
@@ -68,7 +68,7 @@ fn kinds(alloc: Global) -> Result<Vec<Kind>, NoMemory>
 
 // Whether a plan is typed over the table.
 fn checked(alloc: Global, plan: &Plan) -> Result<(), PlanFault>
-    ensures { IfOk result (λ _. IsTyped (plan_tree plan.now)) }
+    ensures { IfOk result (λ _. IsTypedPlan (plan_tree plan.now)) }
 {
     let kinds = kinds(alloc)?;
     match check_plan(alloc, plan, &[kinds]) {
@@ -79,7 +79,7 @@ fn checked(alloc: Global, plan: &Plan) -> Result<(), PlanFault>
 
 /// The plan of a text, if it is typed over the table.
 pub(crate) fn typed_plan(alloc: Global, text: &str) -> Result<Plan, PlanFault>
-    ensures { IfOk result (λ p. IsTyped (plan_tree p)) }
+    ensures { IfOk result (λ p. IsTypedPlan (plan_tree p)) }
 {
     let plan = read_plan(alloc, text)?;
     checked(alloc, &plan)?;

@@ -2,7 +2,7 @@
 ghost use Rattle.std.specs.Prelude.{◌≡◌, ◌+◌, ◌^◌, ◌<◌, ◌≤◌, MatchResult, refl};
 ghost use Rattle.std.proofs.Common.{sym, ◌∙◌};
 ghost use Rattle.au_expr.specs.declared.fault.EvalFault.TheVariants as fault;
-ghost use Rattle.au_value.specs.Joining.{joined};
+ghost use Rattle.au_value.specs.Joining.{joined_sum};
 ghost use Rattle.au_evaltests.specs.Summed.{summed, too_large};
 ghost use Rattle.au_evaltests.specs.SumLaws.{front_large, back_large};
 

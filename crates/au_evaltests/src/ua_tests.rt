@@ -5,7 +5,7 @@ ghost use Rattle.au_annot.specs.Pairs.{IsPair};
 ghost use Rattle.au_value.specs.declared.kinds.Kind.{Kind};
 ghost use Rattle.au_expr.specs.Ordinary.{IsKind};
 ghost use Rattle.au_algebra.specs.Trees.{tree, Table as TheTable, Union as TheUnion};
-ghost use Rattle.au_keval.specs.Reading.{IsRelation};
+ghost use Rattle.au_keval.specs.Reading.{IsRelationOver};
 
 use crate::cases::{Call, judge};
 use crate::query_tables::tables_of;
@@ -66,7 +66,7 @@ fn pair(rt: &impl Abort, certain: u128, guess: u128) -> Pair
 
 // A row of each number, with a pair of 1 and 2.
 fn numbers(rt: &impl Abort, alloc: Global, text: &str) -> Result<Rel<Value, Pair>, NoMemory>
-    ensures relation { IfOk result (λ rel. IsRelation IsKind IsPair (Kind.Int ∷ []) rel) }
+    ensures relation { IfOk result (λ rel. IsRelationOver IsKind IsPair (Kind.Int ∷ []) rel) }
     ensures widths { IfOk result (λ rel. AllByRecursion (λ r. length r.cells ≡ 1) rel) }
 {
     let mut rel = Rel::new(alloc);
@@ -92,7 +92,7 @@ fn self_union(alloc: Global) -> Result<Query, NoMemory>
 
 // The table twice.
 fn twice(alloc: Global, table: Rel<Value, Pair>) -> Result<Rel<Value, Pair>, EvalFault>
-    requires { IsRelation IsKind IsPair (Kind.Int ∷ []) table }
+    requires { IsRelationOver IsKind IsPair (Kind.Int ∷ []) table }
 {
     let query = self_union(alloc)?;
     ua(alloc, &query, &[table])

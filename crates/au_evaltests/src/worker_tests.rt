@@ -4,7 +4,7 @@ ghost use Rattle.std.specs.List.{AllZip};
 ghost use Rattle.au_plain.specs.PlanKinds.{HaveKinds};
 ghost use Rattle.au_plain.specs.Plans.{plan_tree};
 ghost use Rattle.au_exec.specs.Outcomes.{rows_of};
-ghost use Rattle.au_evaltests.specs.Typed.{IsTyped, table_kinds};
+ghost use Rattle.au_evaltests.specs.Typed.{IsTypedPlan, test_table_kinds};
 
 use crate::gates::{Counts, HoldFirst, Meeting};
 use crate::physical_tests::JOINS;
@@ -29,8 +29,8 @@ fn rows_by<R: Threads + Sync, G: Gate + Sync>(
     workers: usize,
     gate: G,
 ) -> Result<Vec<PRow>, EvalFault>
-    requires tables { AllZip HaveKinds (table_kinds ∷ []) (map rows_of tables.items) }
-    requires plan { IsTyped (plan_tree plan) }
+    requires tables { AllZip HaveKinds (test_table_kinds ∷ []) (map rows_of tables.items) }
+    requires plan { IsTypedPlan (plan_tree plan) }
     requires workers { (1 ≤ workers) × (workers ≤ 64) }
 {
     let physical = improve(alloc, plan)?;

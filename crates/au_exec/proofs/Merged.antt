@@ -7,7 +7,7 @@ use Rattle.std.proofs.lemmas.Bool.{cases_Bool}
 use Rattle.std.proofs.lemmas.Int.{ints}
 use Rattle.std.proofs.lemmas.List.Sums.{sum_by-cons}
 use Rattle.au_value.specs.Adding.{Sum, sum_of, with_term}
-use Rattle.au_value.specs.Joining.{joined}
+use Rattle.au_value.specs.Joining.{joined_sum}
 use Rattle.au_value.proofs.RangeLaws.{greater_assoc, lesser_assoc}
 use Rattle.au_value.specs.Ranges.{greater, lesser}
 use Rattle.au_expr.specs.Ordinary.{number}
@@ -69,7 +69,7 @@ shape_join (agg.Max c ∷ aggs) (Greatest d v ∷ fs) (_ ∷ hs) h g = absurd g.
 shape_join (_ ∷ aggs) (_ ∷ fs) (_ ∷ hs) h g = absurd h.0
 
 -- a row more in the second is a row more in both
-sum_step : (s t : Sum) (n : ℤ) → joined s (with_term t n) ≡ with_term (joined s t) n
+sum_step : (s t : Sum) (n : ℤ) → joined_sum s (with_term t n) ≡ with_term (joined_sum s t) n
 sum_step s t n =
     λ i. sum_of (let e : s.total +ℤ (t.total +ℤ n) ≡ (s.total +ℤ t.total) +ℤ n = omega (arith, ints) in e i)
     (let e : s.magnitude + (t.magnitude + nat_abs n) ≡ (s.magnitude + t.magnitude) + nat_abs n = omega arith in e i)
@@ -78,7 +78,7 @@ step_joined : (row : Cells) (aggs : List PAgg) (fs hs : List Fold) → Shaped ag
 step_joined row [] [] [] h g = refl
 step_joined row (agg.Sum c ∷ aggs) (Total d s ∷ fs) (Total e t ∷ hs) h g =
     let same_column : e ≡ d = g.0 ∙ sym h.0 in
-    λ i. Total d ((ap (λ x. joined s (with_term t (number (value_at row x)))) same_column ∙ sum_step s t (number (value_at row d))) i) ∷ step_joined row aggs fs hs h.1 g.1 i
+    λ i. Total d ((ap (λ x. joined_sum s (with_term t (number (value_at row x)))) same_column ∙ sum_step s t (number (value_at row d))) i) ∷ step_joined row aggs fs hs h.1 g.1 i
 step_joined row (agg.Min c ∷ aggs) (Least d v ∷ fs) (Least e w ∷ hs) h g =
     let same_column : e ≡ d = g.0 ∙ sym h.0 in
     λ i. Least d ((ap (λ x. lesser v (lesser w (value_at row x))) same_column ∙ lesser_assoc v w (value_at row d)) i) ∷ step_joined row aggs fs hs h.1 g.1 i
@@ -95,7 +95,7 @@ step_joined row (agg.Max c ∷ aggs) (Greatest d v ∷ fs) (_ ∷ hs) h g = absu
 step_joined row (_ ∷ aggs) (_ ∷ fs) (_ ∷ hs) h g = absurd h.0
 
 -- joined with the aggregates of one row
-sum_first : (row : Cells) (c : ℕ) (s : Sum) → joined s (sum_of (number (value_at row c) +ℤ pos 0) (sum_by (λ (r : Cells). nat_abs (number (value_at r c))) (row ∷ []))) ≡ with_term s (number (value_at row c))
+sum_first : (row : Cells) (c : ℕ) (s : Sum) → joined_sum s (sum_of (number (value_at row c) +ℤ pos 0) (sum_by (λ (r : Cells). nat_abs (number (value_at r c))) (row ∷ []))) ≡ with_term s (number (value_at row c))
 sum_first row c s =
     let one_more = sum_by-cons (λ (r : Cells). nat_abs (number (value_at r c))) row [] in
     λ i. sum_of (let e : s.total +ℤ (number (value_at row c) +ℤ pos 0) ≡ s.total +ℤ number (value_at row c) = omega (arith, ints) in e i)

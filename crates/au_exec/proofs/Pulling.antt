@@ -5,12 +5,13 @@ use Rattle.std.specs.declared.alloc.Global.{Global}
 use Rattle.au_value.specs.declared.value.Value.{Value}
 use Rattle.au_expr.specs.declared.fault.EvalFault.{EvalFault}
 use Rattle.au_exec.specs.Chains.{CanChain, chain_fit, chain_rows}
-use Rattle.au_exec.specs.Left.{CanPull, Gave, Pulled, WorksNext, chunk_rows, fits_left, pulls, rows_left, work}
+use Rattle.au_exec.specs.Left.{CanPull, Gave, Pulled, WorksNext, fits_left, pulls, rows_left, work}
 use Rattle.au_exec.specs.declared.node.Node.{Node}
 use Rattle.au_exec.specs.declared.node.Node.TheVariants as code
 use Rattle.au_exec.specs.declared.operators.Operator.{Operator}
 use Rattle.au_exec.specs.ChainLaws.{chain_apart, chain_fit_apart, chain_fit_none, chain_none}
 use Rattle.au_exec.proofs.ChainSteps.{chain_can_apart}
+use Rattle.au_exec.specs.Taken.{chunk_rows}
 
 pub not_true : (b : Bool) → ¬ (b ≡ true) → b ≡ false
 not_true true h = absurd (h refl)

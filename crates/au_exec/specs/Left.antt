@@ -12,11 +12,11 @@ use Rattle.au_expr.specs.declared.fault.EvalFault.TheVariants as fault
 use Rattle.au_algebra.specs.Ordinary.{Rows}
 use Rattle.au_plain.specs.PTerms.{pterm}
 use Rattle.au_exec.specs.Chains.{CanChain, chain_fit, chain_rows}
-use Rattle.au_exec.specs.Outcomes.{rows_of}
 use Rattle.au_exec.specs.Rights.{CanMatch, joined_numbers, joined_rows}
 use Rattle.au_exec.specs.declared.node.Node.{Node}
 use Rattle.au_exec.specs.declared.node.Node.TheVariants as code
 use Rattle.au_exec.specs.declared.operators.Operator.{Operator}
+use Rattle.au_exec.specs.Taken.{chunk_rows}
 
 -- left rows that wait for their pairs, and those that are still to come
 abbrev pub left_rows : IntoIter (Vec Value Global) Global → Rows → Rows
@@ -49,11 +49,6 @@ CanPull (code.Source rows) = Unit {0}
 CanPull (code.Chain' operators p n) = CanPull n × CanChain operators.items (rows_left n)
 CanPull (code.Join' e right waiting p n) = CanPull n × AllByRecursion (CanMatch (pterm e) right) (left_rows waiting (rows_left n))
 CanPull (code.Union' p a q b) = CanPull a × CanPull b
-
--- the rows of a chunk, and none at the end
-abbrev pub chunk_rows : Option (Vec (Vec Value Global) Global) → Rows
-chunk_rows None = []
-chunk_rows (Some rows) = rows_of rows
 
 -- one where there is a chunk, and 0 at the end
 abbrev pub pulls : Option (Vec (Vec Value Global) Global) → ℕ

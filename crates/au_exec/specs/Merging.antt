@@ -3,7 +3,7 @@
 use Rattle.std.specs.Prelude.{◌+◌, ℕ, zero, suc, Bool, true, ◌&&◌, List, [], ◌∷◌, ◌++◌, ℤ, pos}
 use Rattle.std.specs.List.{position_or_len}
 use Rattle.indexmap.specs.IndexSet.{insert_key}
-use Rattle.au_value.specs.Joining.{joined}
+use Rattle.au_value.specs.Joining.{joined_sum}
 use Rattle.au_value.specs.Ranges.{greater, lesser}
 use Rattle.au_expr.specs.Figures.{fit}
 use Rattle.au_algebra.specs.Lists.{same_row}
@@ -13,7 +13,7 @@ use Rattle.au_exec.specs.declared.fold.Fold.TheVariants.{Sum as Total, Least, Gr
 
 -- an aggregate over the rows of two
 abbrev pub joined_fold : Fold → Fold → Fold
-joined_fold (Total c s) (Total d t) = Total c (joined s t)
+joined_fold (Total c s) (Total d t) = Total c (joined_sum s t)
 joined_fold (Least c v) (Least d w) = Least c (lesser v w)
 joined_fold (Greatest c v) (Greatest d w) = Greatest c (greater v w)
 joined_fold f _ = f

@@ -1,6 +1,6 @@
 -- A plan that is run batch by batch, as callers see it: the rows that are left, whether the numbers of the plan lie in the
 -- range, and the refusal that it gave.
-use Rattle.std.specs.Prelude.{◌≡◌, Bool, true, false, [], ◌++◌, map, Option, None, Vec, IfSome, Result, MatchResult}
+use Rattle.std.specs.Prelude.{◌≡◌, Bool, true, false, [], ◌++◌, map, Option, None, Vec, IfSome, Result, MatchResult, Some}
 use Rattle.std.specs.declared.alloc.Global.{Global}
 use Rattle.std.specs.declared.vec.IntoIter.{IntoIter}
 use Rattle.au_value.specs.declared.value.Value.{Value}
@@ -12,9 +12,9 @@ use Rattle.au_physical.specs.PhysicalMeaning.{physical_rows}
 use Rattle.au_physical.specs.PhysicalNumbers.{physical_numbers}
 use Rattle.au_physical.specs.Physicals.{physical_tree}
 use Rattle.au_exec.specs.CanOpen.{CanOpen}
-use Rattle.au_exec.specs.Left.{CanPull, chunk_rows, fits_left, left_rows, rows_left}
+use Rattle.au_exec.specs.Left.{CanPull, fits_left, left_rows, rows_left}
 use Rattle.au_exec.specs.Outcomes.{rows_of}
-use Rattle.au_exec.specs.Taken.{IsBatch}
+use Rattle.au_exec.specs.Taken.{IsBatch, chunk_rows}
 use Rattle.au_exec.specs.declared.node.Node.{Node}
 use Rattle.au_exec.specs.declared.state.State.{State}
 use Rattle.au_exec.specs.declared.state.State.TheVariants.{Waiting, Going}
@@ -67,3 +67,9 @@ pub record Batched (ready : IntoIter (Vec Value Global) Global) (node : Node) (t
 
 abbrev pub Stepped : State → State → Result (Option (Vec (Vec Value Global) Global)) EvalFault → Type 0
 Stepped before after result = MatchResult result (λ batch. Step before after batch) (λ f. f ≡ fault.Overflow → state_fits before ≡ false)
+
+-- as long as nothing was refused, the numbers that are left lie in the range just where those of the plan do
+pub record IsRun (state : State) (refusal : Option EvalFault) (within : Bool) : Type 0 where
+  pub can : refusal ≡ None → CanGo state
+  pub same : refusal ≡ None → state_fits state ≡ within
+  pub over : refusal ≡ Some fault.Overflow → within ≡ false

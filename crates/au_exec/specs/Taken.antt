@@ -2,6 +2,8 @@
 -- A batch of them has a row, and at most 256.
 use Rattle.std.specs.Prelude.{◌≡◌, ◌<◌, ◌≤◌, List, [], ◌++◌, length, Option, None, Some, Vec, IfSome}
 use Rattle.std.specs.declared.alloc.Global.{Global}
+use Rattle.au_exec.specs.Outcomes.{rows_of}
+use Rattle.au_algebra.specs.Ordinary.{Rows}
 use Rattle.au_value.specs.declared.value.Value.{Value}
 
 abbrev pub chunk_items : Option (Vec (Vec Value Global) Global) → List (Vec Value Global)
@@ -20,3 +22,8 @@ pub record Taken (before after : List (Vec Value Global)) (chunk : Option (Vec (
   pub items : before ≡ chunk_items chunk ++ after
   pub ends : chunk ≡ None → after ≡ []
   pub batch : IfSome chunk IsBatch
+
+-- the rows of a chunk, and none at the end
+abbrev pub chunk_rows : Option (Vec (Vec Value Global) Global) → Rows
+chunk_rows None = []
+chunk_rows (Some rows) = rows_of rows

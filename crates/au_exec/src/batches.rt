@@ -46,8 +46,7 @@ impl<G: Gate> Model for Run<G> {
     ghost use Rattle.au_physical.specs.PhysicalNumbers.{physical_numbers};
     ghost use Rattle.au_physical.specs.Physicals.{physical_tree};
     ghost use Rattle.au_exec.specs.Outcomes.{rows_of};
-    ghost use Rattle.au_exec.specs.RunViews.{IsRun};
-    ghost use Rattle.au_exec.specs.Runs.{state_rows};
+    ghost use Rattle.au_exec.specs.Runs.{state_rows, IsRun};
 
     ghost view = { λ r. record { rows = state_rows r.state; fits = fit (physical_numbers (physical_tree r.plan.value) (map rows_of r.tables.value.items)); refusal = r.refusal } };
 

@@ -8,7 +8,7 @@ ghost use Rattle.au_plain.specs.PlanNumbers.{group_numbers};
 ghost use Rattle.au_exec.specs.Fitting.{HasArgument, HavePlaces};
 ghost use Rattle.au_exec.specs.Left.{CanPull, fits_left, rows_left};
 ghost use Rattle.au_exec.specs.Opened.{Makes};
-ghost use Rattle.au_exec.specs.Tables.{CanGrowAll, grow_all, grown_fit, table_of, table_with};
+ghost use Rattle.au_exec.specs.Tables.{CanGrowAll, grow_all, grown_fit, groups_table, table_with};
 
 use crate::boxed::boxed;
 use crate::drawn::drawn_groups;
@@ -61,7 +61,7 @@ fn node_groups<R: Threads + Sync, G: Gate + Sync>(
     requires of { CanPull of.old }
     requires keys { AllByRecursion (HavePlaces keys.now) (rows_left of.old) }
     requires aggs { AllByRecursion (HasArgument (rows_left of.old)) aggs.now }
-    ensures { MatchResult result (λ g. (table_of g ≡ grow_all keys.now aggs.now (table_with [] []) (rows_left of.old)) × (fits_left of.old ≡ true) × (grown_fit keys.now aggs.now (table_with [] []) (rows_left of.old) ≡ true)) (λ f. f ≡ fault.Overflow → fits_left of.old && grown_fit keys.now aggs.now (table_with [] []) (rows_left of.old) ≡ false) }
+    ensures { MatchResult result (λ g. (groups_table g ≡ grow_all keys.now aggs.now (table_with [] []) (rows_left of.old)) × (fits_left of.old ≡ true) × (grown_fit keys.now aggs.now (table_with [] []) (rows_left of.old) ≡ true)) (λ f. f ≡ fault.Overflow → fits_left of.old && grown_fit keys.now aggs.now (table_with [] []) (rows_left of.old) ≡ false) }
 {
     if !is_probed(of) {
         return folded_rows(alloc, keys, aggs, of);
@@ -83,7 +83,7 @@ fn folded_rows(
 ) -> Result<Groups, EvalFault>
     requires of { CanPull of.old }
     requires grows { CanGrowAll keys.now aggs.now (table_with [] []) (rows_left of.old) }
-    ensures { MatchResult result (λ g. (table_of g ≡ grow_all keys.now aggs.now (table_with [] []) (rows_left of.old)) × (fits_left of.old ≡ true) × (grown_fit keys.now aggs.now (table_with [] []) (rows_left of.old) ≡ true)) (λ f. f ≡ fault.Overflow → fits_left of.old && grown_fit keys.now aggs.now (table_with [] []) (rows_left of.old) ≡ false) }
+    ensures { MatchResult result (λ g. (groups_table g ≡ grow_all keys.now aggs.now (table_with [] []) (rows_left of.old)) × (fits_left of.old ≡ true) × (grown_fit keys.now aggs.now (table_with [] []) (rows_left of.old) ≡ true)) (λ f. f ≡ fault.Overflow → fits_left of.old && grown_fit keys.now aggs.now (table_with [] []) (rows_left of.old) ≡ false) }
 {
     let mut groups = Groups {
         seen: IndexSet::new(alloc),

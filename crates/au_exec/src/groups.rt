@@ -10,7 +10,7 @@ ghost use Rattle.au_exec.specs.Fitting.{HavePlaces};
 ghost use Rattle.au_exec.specs.Folds.{fold_value};
 ghost use Rattle.au_algebra.specs.Keys.{key_values};
 ghost use Rattle.au_exec.specs.Outcomes.{rows_of};
-ghost use Rattle.au_exec.specs.Tables.{CanGrow, CanGrowAll, CanPut, finished_row, folded_of, grow, grow_all, grow_numbers, grown_fit, put_at, put_numbers, table_of};
+ghost use Rattle.au_exec.specs.Tables.{CanGrow, CanGrowAll, CanPut, finished_row, folded_of, grow, grow_all, grow_numbers, grown_fit, put_at, put_numbers, groups_table};
 
 use crate::fold::{Fold, add_all, first_folds};
 use crate::keep::columns;
@@ -41,8 +41,8 @@ pub(crate) fn add_rows(
     groups: &mut Groups,
     rows: Vec<PRow>,
 ) -> Result<(), EvalFault>
-    requires { CanGrowAll keys.now aggs.now (table_of groups.old) (rows_of rows) }
-    ensures { MatchResult result (λ _. (table_of groups.new ≡ grow_all keys.now aggs.now (table_of groups.old) (rows_of rows)) × (grown_fit keys.now aggs.now (table_of groups.old) (rows_of rows) ≡ true)) (λ f. f ≡ fault.Overflow → grown_fit keys.now aggs.now (table_of groups.old) (rows_of rows) ≡ false) }
+    requires { CanGrowAll keys.now aggs.now (groups_table groups.old) (rows_of rows) }
+    ensures { MatchResult result (λ _. (groups_table groups.new ≡ grow_all keys.now aggs.now (groups_table groups.old) (rows_of rows)) × (grown_fit keys.now aggs.now (groups_table groups.old) (rows_of rows) ≡ true)) (λ f. f ≡ fault.Overflow → grown_fit keys.now aggs.now (groups_table groups.old) (rows_of rows) ≡ false) }
 {
     let mut key = Vec::new(alloc);
     for row in rows {
@@ -53,7 +53,7 @@ pub(crate) fn add_rows(
 
 /// The row of each group: the key values, and then the aggregates.
 pub(crate) fn finished(alloc: Global, groups: Groups) -> Result<Vec<PRow>, NoMemory>
-    ensures { IfOk result (λ v. rows_of v ≡ map finished_row (table_of groups).groups) }
+    ensures { IfOk result (λ v. rows_of v ≡ map finished_row (groups_table groups).groups) }
 {
     let mut rows = Vec::new(alloc);
     for (key, folds) in groups.held {
@@ -82,8 +82,8 @@ pub(crate) fn add_row(
     row: &LentRow<'_>,
     key: &mut Vec<Value>,
 ) -> Result<(), EvalFault>
-    requires { CanGrow keys.now aggs.now (table_of groups.old) row.now }
-    ensures { MatchResult result (λ _. (table_of groups.new ≡ grow keys.now aggs.now (table_of groups.old) row.now) × Fit (grow_numbers keys.now aggs.now (table_of groups.old) row.now)) (λ f. f ≡ fault.Overflow → ¬ (Fit (grow_numbers keys.now aggs.now (table_of groups.old) row.now))) }
+    requires { CanGrow keys.now aggs.now (groups_table groups.old) row.now }
+    ensures { MatchResult result (λ _. (groups_table groups.new ≡ grow keys.now aggs.now (groups_table groups.old) row.now) × Fit (grow_numbers keys.now aggs.now (groups_table groups.old) row.now)) (λ f. f ≡ fault.Overflow → ¬ (Fit (grow_numbers keys.now aggs.now (groups_table groups.old) row.now))) }
 {
     let recent = groups.recent;
     let place = place_near(alloc, &mut groups.seen, keys, row, key, recent)?;

@@ -8,7 +8,7 @@ ghost use Rattle.au_algebra.specs.Lists.{same_row};
 ghost use Rattle.au_exec.specs.Ends.{preferred};
 ghost use Rattle.au_algebra.specs.Keys.{key_values};
 ghost use Rattle.au_exec.specs.Merging.{absorb, absorb_all, absorb_numbers, absorbed_fit, fold_join_numbers, join_at, join_at_numbers, join_numbers, joined_fold, joined_folds};
-ghost use Rattle.au_exec.specs.Tables.{folded_of, folded_with, table_of};
+ghost use Rattle.au_exec.specs.Tables.{folded_of, folded_with, groups_table};
 
 use crate::extreme::{Extreme, comes_first};
 use crate::fold::Fold;
@@ -25,7 +25,7 @@ pub(crate) fn merged_groups(
     first: Groups,
     second: Groups,
 ) -> Result<Groups, EvalFault>
-    ensures { MatchResult result (λ g. (table_of g ≡ absorb_all (table_of first) (folded_of second.held.items)) × (absorbed_fit (table_of first) (folded_of second.held.items) ≡ true)) (λ f. f ≡ fault.Overflow → absorbed_fit (table_of first) (folded_of second.held.items) ≡ false) }
+    ensures { MatchResult result (λ g. (groups_table g ≡ absorb_all (groups_table first) (folded_of second.held.items)) × (absorbed_fit (groups_table first) (folded_of second.held.items) ≡ true)) (λ f. f ≡ fault.Overflow → absorbed_fit (groups_table first) (folded_of second.held.items) ≡ false) }
 {
     let mut groups = first;
     let mut room = Vec::new(alloc);
@@ -43,7 +43,7 @@ fn add_group(
     folds: Vec<Fold>,
     room: &mut Vec<Value>,
 ) -> Result<(), EvalFault>
-    ensures { MatchResult result (λ _. (table_of groups.new ≡ absorb (table_of groups.old) (folded_with key.items folds.items)) × Fit (absorb_numbers (table_of groups.old) (folded_with key.items folds.items))) (λ f. f ≡ fault.Overflow → ¬ (Fit (absorb_numbers (table_of groups.old) (folded_with key.items folds.items)))) }
+    ensures { MatchResult result (λ _. (groups_table groups.new ≡ absorb (groups_table groups.old) (folded_with key.items folds.items)) × Fit (absorb_numbers (groups_table groups.old) (folded_with key.items folds.items))) (λ f. f ≡ fault.Overflow → ¬ (Fit (absorb_numbers (groups_table groups.old) (folded_with key.items folds.items)))) }
 {
     room.clear();
     push_values(room, &key)?;

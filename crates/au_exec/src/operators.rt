@@ -8,8 +8,9 @@ ghost use Rattle.au_plain.specs.PTerms.{pterm};
 ghost use Rattle.au_plain.specs.PlanNumbers.{term_numbers};
 ghost use Rattle.au_exec.specs.Chains.{CanChain, CanWork, Works, WorksAll, WorksOne, places_of};
 ghost use Rattle.au_exec.specs.Fitting.{HasKind, HavePlaces};
-ghost use Rattle.au_exec.specs.Left.{WorksNext, chunk_rows};
+ghost use Rattle.au_exec.specs.Left.{WorksNext};
 ghost use Rattle.au_exec.specs.Outcomes.{rows_of};
+ghost use Rattle.au_exec.specs.Taken.{chunk_rows};
 
 use crate::evaluation::{passes, value_of};
 use crate::keep::columns;

@@ -55,14 +55,14 @@ either_int : (t : Bool) (a b : ℤ) → Int (if t then a else b) ≡ (if t then 
 either_int true a b = refl
 either_int false a b = refl
 
-least_is : (a b c d : ℤ) → Int (ints.lesser (ints.lesser a b) (ints.lesser c d)) ≡ least_of_four (Int a) (Int b) (Int c) (Int d)
+least_is : (a b c d : ℤ) → Int (ints.lesser_int (ints.lesser_int a b) (ints.lesser_int c d)) ≡ least_of_four (Int a) (Int b) (Int c) (Int d)
 least_is a b c d =
-    either_int (at_most (Int (ints.lesser a b)) (Int (ints.lesser c d))) _ _
+    either_int (at_most (Int (ints.lesser_int a b)) (Int (ints.lesser_int c d))) _ _
     ∙ (λ i. lesser (either_int (at_most (Int a) (Int b)) a b i) (either_int (at_most (Int c) (Int d)) c d i))
 
-greatest_is : (a b c d : ℤ) → Int (ints.greater (ints.greater a b) (ints.greater c d)) ≡ greatest_of_four (Int a) (Int b) (Int c) (Int d)
+greatest_is : (a b c d : ℤ) → Int (ints.greater_int (ints.greater_int a b) (ints.greater_int c d)) ≡ greatest_of_four (Int a) (Int b) (Int c) (Int d)
 greatest_is a b c d =
-    either_int (at_most (Int (ints.greater a b)) (Int (ints.greater c d))) _ _
+    either_int (at_most (Int (ints.greater_int a b)) (Int (ints.greater_int c d))) _ _
     ∙ (λ i. greater (either_int (at_most (Int a) (Int b)) b a i) (either_int (at_most (Int c) (Int d)) d c i))
 
 -- four products, their extremes and a guess, where each fits

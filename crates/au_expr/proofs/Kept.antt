@@ -11,7 +11,7 @@ use Rattle.au_value.specs.declared.comparison.Comparison.{Comparison}
 use Rattle.au_value.specs.Ranges.{Span, IsRangeOf, range, hull, lesser, greater}
 use Rattle.au_expr.specs.Ordinary.{ordinary}
 use Rattle.au_expr.specs.OnRanges.{on_ranges, chosen_between}
-use Rattle.au_expr.specs.Holding.{World, possible, guess, RangeIs, Within, GuessIs}
+use Rattle.au_expr.specs.Holding.{WhichWorld, possible, guess, RangeIs, Within, GuessIs}
 use Rattle.au_value.specs.declared.value.Value.TheVariants as value
 use Rattle.au_value.specs.declared.faults.NoMemory.{NoMemory}
 use Rattle.au_expr.specs.Truths.{IsThreeWay, range_of_truth}
@@ -20,7 +20,7 @@ use Rattle.au_expr.specs.Related.{Related}
 use Rattle.au_expr.proofs.Within.{holds_along, guess_along}
 
 -- in each world
-pub ranges_kept : (w : World) → Related (RangeIs w) on_ranges ordinary
+pub ranges_kept : (w : WhichWorld) → Related (RangeIs w) on_ranges ordinary
 ranges_kept possible = holds_along
 ranges_kept guess = guess_along
 

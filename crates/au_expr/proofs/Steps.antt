@@ -8,7 +8,7 @@ use Rattle.au_value.specs.declared.value.Value.TheVariants.{Int}
 use Rattle.au_value.specs.declared.comparison.Comparison.{Comparison}
 use Rattle.au_expr.specs.Evaluate.{Operators, evaluate, HasKind, cell_at}
 use Rattle.au_expr.specs.Figures.{Figures, Fit, numbers_of}
-use Rattle.au_expr.specs.Holding.{World}
+use Rattle.au_expr.specs.Holding.{WhichWorld}
 use Rattle.au_expr.specs.Kinds.{kind_in, is_kind, kind_if}
 use Rattle.au_expr.specs.Ordinary.{ordinary, value_of}
 use Rattle.au_expr.specs.Related.{RelatedRows}
@@ -74,8 +74,8 @@ get_or_some [] i x z h = cc
 get_or_some (y ∷ ys) zero x z h = some_is y x h
 get_or_some (y ∷ ys) (suc i) x z h = get_or_some ys i x z h
 
-module _ {C : Type 0} (d : Operators C) (is_of : Kind → C → Type 0) (n : Figures C) (R : World → Kind → C → Value → Type 0) (row : List C) where
-  cell_kept : (w : World) (ks : List Kind) (xs : List C) (vs : List Value) → RelatedRows (R w) ks xs vs → (i : ℕ) (k : Kind) (c : C) → slice_get ks i ≡ Some k → slice_get xs i ≡ Some c → R w k c (cell_at ordinary vs i)
+module _ {C : Type 0} (d : Operators C) (is_of : Kind → C → Type 0) (n : Figures C) (R : WhichWorld → Kind → C → Value → Type 0) (row : List C) where
+  cell_kept : (w : WhichWorld) (ks : List Kind) (xs : List C) (vs : List Value) → RelatedRows (R w) ks xs vs → (i : ℕ) (k : Kind) (c : C) → slice_get ks i ≡ Some k → slice_get xs i ≡ Some c → R w k c (cell_at ordinary vs i)
   cell_kept w [] [] [] rows i k c h g = cc
   cell_kept w (j ∷ ks) (x ∷ xs) (u ∷ us) rows zero k c h g = subst (λ m. R w m c u) (some_is j k h) (subst (λ y. R w j y u) (some_is x c g) rows.0)
   cell_kept w (j ∷ ks) (x ∷ xs) (u ∷ us) rows (suc i) k c h g = cell_kept w ks xs us rows.1 i k c h g

@@ -19,15 +19,15 @@ gather (Ok l) (Ok s) (Err f) = Err f
 gather (Ok l) (Ok s) (Ok h) = Ok (record { lo = l; sg = s; hi = h })
 
 -- the lesser and the greater of two numbers
-abbrev pub lesser : ℤ → ℤ → ℤ
-lesser a b = if at_most (Int a) (Int b) then a else b
+abbrev pub lesser_int : ℤ → ℤ → ℤ
+lesser_int a b = if at_most (Int a) (Int b) then a else b
 
-abbrev pub greater : ℤ → ℤ → ℤ
-greater a b = if at_most (Int a) (Int b) then b else a
+abbrev pub greater_int : ℤ → ℤ → ℤ
+greater_int a b = if at_most (Int a) (Int b) then b else a
 
 -- the least and the greatest of the four, with the guess
 abbrev pub between : ℤ → ℤ → ℤ → ℤ → ℤ → Ends
-between p q r s g = record { lo = lesser (lesser p q) (lesser r s); sg = g; hi = greater (greater p q) (greater r s) }
+between p q r s g = record { lo = lesser_int (lesser_int p q) (lesser_int r s); sg = g; hi = greater_int (greater_int p q) (greater_int r s) }
 
 -- the least and the greatest of the four, with the guess, where each is there
 abbrev pub extremes : Result ℤ Overflow → Result ℤ Overflow → Result ℤ Overflow → Result ℤ Overflow → Result ℤ Overflow → Result Ends Overflow

@@ -30,16 +30,16 @@ pub record Same (k : Kind) (u v : Value) : Type 0 where
   pub is : u ≡ v
 
 -- any possible world, and the selected-guess world
-pub data World : Type 0 where
-  possible : World
-  guess : World
+pub data WhichWorld : Type 0 where
+  possible : WhichWorld
+  guess : WhichWorld
 
 -- a value stands for itself in each world
-abbrev pub ValueIs : World → Kind → Value → Value → Type 0
+abbrev pub ValueIs : WhichWorld → Kind → Value → Value → Type 0
 ValueIs w k u v = Same k u v
 
 -- a range stands for what it holds in a possible world, and for its guess in the guess world
-abbrev pub RangeIs : World → Kind → Span → Value → Type 0
+abbrev pub RangeIs : WhichWorld → Kind → Span → Value → Type 0
 RangeIs possible k r v = Within k r v
 RangeIs guess k r v = GuessIs k r v
 

@@ -6,7 +6,7 @@ use Rattle.au_value.specs.declared.kinds.Kind.TheVariants as kind
 use Rattle.au_value.specs.declared.value.Value.{Value}
 use Rattle.au_expr.specs.Evaluate.{Operators, evaluate, HasKind}
 use Rattle.au_expr.specs.Figures.{Figures, Fit, numbers_of}
-use Rattle.au_expr.specs.Holding.{World}
+use Rattle.au_expr.specs.Holding.{WhichWorld}
 use Rattle.au_expr.specs.Kinds.{kind_in}
 use Rattle.au_expr.specs.Ordinary.{ordinary, value_of}
 use Rattle.au_expr.specs.Related.{RelatedRows}
@@ -84,21 +84,21 @@ Held n (Literal v) x y = Unit {0}
 Held n (Case c a b) x y = Unit {0}
 
 -- a cell that an operator gave on two cells
-pub record Combined {C : Type 0} (d : Operators C) (is_kind : Kind → C → Type 0) (n : Figures C) (stands_for : World → Kind → C → Value → Type 0) (e : Term) (x y c : C) : Type 0 where
+pub record Combined {C : Type 0} (d : Operators C) (is_kind : Kind → C → Type 0) (n : Figures C) (stands_for : WhichWorld → Kind → C → Value → Type 0) (e : Term) (x y c : C) : Type 0 where
   pub value : c ≡ combined d e x y
   pub kind : is_kind (kind_given e) c
   pub held : Held n e x y
   pub fits : Fit (formed d n e x y)
   pub keeps :
-      (w : World) (u v : Value) →
+      (w : WhichWorld) (u v : Value) →
       Both (λ k. stands_for w k x u) (λ k. stands_for w k y v) e →
       stands_for w (kind_given e) (combined d e x y) (combined ordinary e u v)
 
 -- a cell that an evaluation found; where its own numbers fit, all fit that were formed below it
-pub record Found {C : Type 0} (d : Operators C) (is_kind : Kind → C → Type 0) (n : Figures C) (stands_for : World → Kind → C → Value → Type 0) (row : List C) (e : Term) (c : C) : Type 0 where
+pub record Found {C : Type 0} (d : Operators C) (is_kind : Kind → C → Type 0) (n : Figures C) (stands_for : WhichWorld → Kind → C → Value → Type 0) (row : List C) (e : Term) (c : C) : Type 0 where
   pub value : c ≡ evaluate d e row
   pub kind : (k : Kind) → HasKind is_kind row e k → is_kind k c
   pub fits : Fit (n.components c) → Fit (numbers_of d n e row)
   pub keeps :
-      (w : World) (ks : List Kind) (vs : List Value) (k : Kind) →
+      (w : WhichWorld) (ks : List Kind) (vs : List Value) (k : Kind) →
       RelatedRows (stands_for w) ks row vs → kind_in ks e ≡ Some k → stands_for w k c (value_of e vs)

@@ -4,7 +4,7 @@ ghost use Rattle.au_value.specs.declared.kinds.Kind.{Kind};
 ghost use Rattle.au_value.specs.declared.value.Value.{Value};
 ghost use Rattle.au_expr.specs.Evaluate.{evaluate as value_over, HasKind};
 ghost use Rattle.au_expr.specs.Figures.{Fit, numbers_of};
-ghost use Rattle.au_expr.specs.Holding.{World};
+ghost use Rattle.au_expr.specs.Holding.{WhichWorld};
 ghost use Rattle.au_expr.specs.Kinds.{kind_in};
 ghost use Rattle.au_expr.specs.Ordinary.{value_of};
 ghost use Rattle.au_expr.specs.Related.{RelatedRows};
@@ -28,7 +28,7 @@ pub fn evaluate<D: Domain>(tree: &Expr, row: &[D::Cell]) -> Result<D::Cell, Eval
     ensures kind { IfOk result (λ c. (k : Kind) → HasKind D.is_kind row.now (term tree.now) k → D.is_kind k c) }
     ensures fits { IfOk result (λ _. Fit (numbers_of D.operators D.figures (term tree.now) row.now)) }
     ensures overflow { IfErr result (λ f. f ≡ fault.Overflow → ¬ (Fit (numbers_of D.operators D.figures (term tree.now) row.now))) }
-    ensures keeps { IfOk result (λ c. (w : World) (ks : List Kind) (vs : List Value) (k : Kind) → RelatedRows (D.stands_for w) ks row.now vs → kind_in ks (term tree.now) ≡ Some k → D.stands_for w k c (value_of (term tree.now) vs)) }
+    ensures keeps { IfOk result (λ c. (w : WhichWorld) (ks : List Kind) (vs : List Value) (k : Kind) → RelatedRows (D.stands_for w) ks row.now vs → kind_in ks (term tree.now) ≡ Some k → D.stands_for w k c (value_of (term tree.now) vs)) }
 {
     match part_of::<D>(tree, row)? {
         View::Lent(c) => Ok(D::copy(c)?),

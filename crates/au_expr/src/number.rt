@@ -2,7 +2,7 @@
 ghost use Rattle.std.specs.Prelude.{◌≡◌, IsTrue, OkIff, ◌+ℤ◌, ◌-ℤ◌, ◌*ℤ◌, neg_ℤ};
 ghost use Rattle.au_value.specs.Numeral.{is_i128};
 ghost use Rattle.au_value.specs.Order.{kind_of};
-ghost use Rattle.au_expr.specs.Ends.{lesser as lesser_of, greater as greater_of};
+ghost use Rattle.au_expr.specs.Ends.{lesser_int as lesser_of, greater_int as greater_of};
 ghost use Rattle.au_value.specs.declared.kinds.Kind.{Kind};
 ghost use Rattle.au_expr.specs.Figures.{Fit};
 ghost use Rattle.au_expr.specs.Numbers.{number_if_any};

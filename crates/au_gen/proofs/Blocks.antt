@@ -3,7 +3,7 @@ use Rattle.std.proofs.Common.{◌≡◌, ℕ, suc, ◌+◌, ◌*◌, ◌/◌, Li
 use Rattle.std.specs.List.{flat_map, range_with_len}
 use Rattle.std.proofs.lemmas.List.{flat_map_more}
 use Rattle.std.proofs.lemmas.List.FromFn.{map-range_with_len_more}
-use Rattle.au_gen.specs.Generator.{next, state, block_of, drawn_block, header}
+use Rattle.au_gen.specs.Generator.{next, state, block_text, drawn_block, header}
 
 -- the state after one, two and three more draws
 state_one : (s k : ℕ) → state s (k + 1) ≡ next (state s k)
@@ -35,7 +35,7 @@ range_more n =
     ∙ ap (λ ys. ys ++ n ∷ []) (map-id (range_with_len 0 n))
 
 -- the records of the next three draws
-block_drawn : (s j d : ℕ) → d ≡ state s (3 * j) → block_of (j + 1) (next d / 65536) (next (next d) / 65536) (next (next (next d)) / 65536) ≡ drawn_block s j
+block_drawn : (s j d : ℕ) → d ≡ state s (3 * j) → block_text (j + 1) (next d / 65536) (next (next d) / 65536) (next (next (next d)) / 65536) ≡ drawn_block s j
 block_drawn s j d at =
     let x = next d in
     let y = next (next d) in
@@ -43,13 +43,13 @@ block_drawn s j d at =
     let ex : x ≡ state s (3 * j + 1) = ap next at ∙ sym (state_one s (3 * j)) in
     let ey : y ≡ state s (3 * j + 2) = ap (λ v. next (next v)) at ∙ sym (state_two s (3 * j)) in
     let ez : z ≡ state s (3 * j + 3) = ap (λ v. next (next (next v))) at ∙ sym (state_three s (3 * j)) in
-    three (λ a b c. block_of (j + 1) (a / 65536) (b / 65536) (c / 65536)) ex ey ez
+    three (λ a b c. block_text (j + 1) (a / 65536) (b / 65536) (c / 65536)) ex ey ez
   where
     three : (f : ℕ → ℕ → ℕ → List ℕ) {a a' b b' c c' : ℕ} → a ≡ a' → b ≡ b' → c ≡ c' → f a b c ≡ f a' b' c'
     three f {a} {a'} {b} {b'} {c} {c'} p q r = ap (λ v. f v b c) p ∙ ap (λ v. f a' v c) q ∙ ap (f a' b') r
 
 -- the text of one more block
-pub text_more : (s j d : ℕ) (old new : List ℕ) → old ≡ header ++ flat_map (drawn_block s) (range_with_len 0 j) → d ≡ state s (3 * j) → new ≡ old ++ block_of (j + 1) (next d / 65536) (next (next d) / 65536) (next (next (next d)) / 65536) → new ≡ header ++ flat_map (drawn_block s) (range_with_len 0 (j + 1))
+pub text_more : (s j d : ℕ) (old new : List ℕ) → old ≡ header ++ flat_map (drawn_block s) (range_with_len 0 j) → d ≡ state s (3 * j) → new ≡ old ++ block_text (j + 1) (next d / 65536) (next (next d) / 65536) (next (next (next d)) / 65536) → new ≡ header ++ flat_map (drawn_block s) (range_with_len 0 (j + 1))
 text_more s j d old new written drawn more =
     more
     ∙ ap (λ ys. old ++ ys) (block_drawn s j d drawn)

@@ -2,7 +2,7 @@
 use Rattle.std.proofs.Common.{ℕ, zero, suc, ◌+◌, ◌*◌, ◌%◌, ◌<◌, ◌≤◌, ◌==◌, Bool, true, false, cond, List, [], ◌++◌, length, decimal, arith, length-append}
 use Rattle.std.specs.List.{flat_map, range_with_len}
 use Rattle.std.proofs.lemmas.Fmt.{length-decimal-le}
-use Rattle.au_gen.specs.Generator.{guess_record, alternative_record, absent_record, block_of, draw, drawn_block, header, text}
+use Rattle.au_gen.specs.Generator.{guess_record, alternative_record, absent_record, block_text, draw, drawn_block, header, text}
 
 -- a number of at most six digits
 six : (i : ℕ) → i ≤ 100000 → length (decimal i) ≤ 6
@@ -36,7 +36,7 @@ three_lengths : (xs ys zs : List ℕ) (l m n : ℕ) → length xs ≤ l → leng
 three_lengths xs ys zs l m n hx hy hz = simp length-append (omega arith)
 
 -- the records of a block
-block_length : (i a b c : ℕ) → i ≤ 100000 → length (block_of i a b c) ≤ 68
+block_length : (i a b c : ℕ) → i ≤ 100000 → length (block_text i a b c) ≤ 68
 block_length i a b c few =
     three_lengths (guess_record i a b) (cond (c % 3 == 0) (alternative_record i a b) []) (cond (c % 5 == 0) (absent_record i) []) 26 25 17
     (guess_length i a b few)

@@ -31,13 +31,13 @@ abbrev pub absent_record : ℕ → List ℕ
 absent_record i = decimal i ++ codes ",absent,,,\n"
 
 -- the records of block i: one block in three has a second alternative, and one in five may be absent
-abbrev pub block_of : ℕ → ℕ → ℕ → ℕ → List ℕ
-block_of i a b c =
+abbrev pub block_text : ℕ → ℕ → ℕ → ℕ → List ℕ
+block_text i a b c =
     guess_record i a b ++ (if c % 3 == 0 then alternative_record i a b else []) ++ (if c % 5 == 0 then absent_record i else [])
 
 -- the records of block j + 1, which has draws 3j + 1 to 3j + 3
 abbrev pub drawn_block : ℕ → ℕ → List ℕ
-drawn_block start j = block_of (j + 1) (draw start (3 * j + 1)) (draw start (3 * j + 2)) (draw start (3 * j + 3))
+drawn_block start j = block_text (j + 1) (draw start (3 * j + 1)) (draw start (3 * j + 2)) (draw start (3 * j + 3))
 
 -- the names and kinds of the columns
 abbrev pub header : List ℕ

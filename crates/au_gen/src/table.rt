@@ -1,6 +1,6 @@
 //! The text of a block table, block by block.
 ghost use Rattle.std.specs.Prelude.{◌≡◌, ◌+◌, ◌*◌, ◌/◌, ◌%◌, ◌^◌, ◌==◌, ◌<◌, ◌≤◌, ◌++◌, [], vec_len, string_bytes, IfOk, OnOk, if◌then◌else◌};
-ghost use Rattle.au_gen.specs.Generator.{next, guess_record, alternative_record, absent_record, block_of, text as text_of};
+ghost use Rattle.au_gen.specs.Generator.{next, guess_record, alternative_record, absent_record, block_text, text as text_of};
 
 use crate::draws::Draws;
 use au_value::NoMemory;
@@ -29,7 +29,7 @@ pub fn table_text(alloc: Global, start: u32, blocks: u32) -> Result<Vec<u8>, NoM
 
 // Appends the records of a block, of the next three draws.
 fn write_block(text: &mut String, block: u32, draws: &mut Draws) -> Result<(), NoMemory>
-    ensures ok { OnOk result (string_bytes text.new ≡ string_bytes text.old ++ block_of block (next draws.old / 65536) (next (next draws.old) / 65536) (next (next (next draws.old)) / 65536)) }
+    ensures ok { OnOk result (string_bytes text.new ≡ string_bytes text.old ++ block_text block (next draws.old / 65536) (next (next draws.old) / 65536) (next (next (next draws.old)) / 65536)) }
     ensures draws { OnOk result (draws.new ≡ next (next (next draws.old))) }
 {
     let a = draws.draw();

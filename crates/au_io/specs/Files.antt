@@ -21,8 +21,8 @@ abbrev pub Lacks : Option (List File) → List ℕ → Type 0
 Lacks told path = IfSome told (λ files. bytes_at files path ≡ None)
 
 -- the first n bytes are the next n of those left, where these are told
-abbrev pub Gives : Option (List ℕ) → Option (List ℕ) → List ℕ → ℕ → Type 0
-Gives old new into n = (n ≤ length into) × IfSome old (λ bytes. (take n into ≡ take n bytes) × (n ≤ length bytes) × (new ≡ Some (drop n bytes)))
+abbrev pub TakesNext : Option (List ℕ) → Option (List ℕ) → List ℕ → ℕ → Type 0
+TakesNext old new into n = (n ≤ length into) × IfSome old (λ bytes. (take n into ≡ take n bytes) × (n ≤ length bytes) × (new ≡ Some (drop n bytes)))
 
 -- with room, n is 0 exactly where no told byte was left
 abbrev pub EndsWith : Option (List ℕ) → List ℕ → ℕ → Type 0

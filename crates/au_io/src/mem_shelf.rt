@@ -2,7 +2,7 @@
 ghost use Rattle.std.specs.Prelude.{◌≡◌, ◌+◌, ◌-◌, ◌^◌, ◌<◌, ◌≤◌, ◌==◌, ◌↔◌, if◌then◌else◌, [], Some, None, true, false, IfSome, IfNone, IfOk, OnOk, OnErr, IsSome, IsErrOf, IsErr, IsTrue, find, option_map, option_copied, bytes_eq, take, drop, length};
 ghost use Rattle.std.specs.List.{list_any};
 ghost use Rattle.au_io.specs.Counts.{Rose, next_count};
-ghost use Rattle.au_io.specs.Files.{Opens, Lacks, Gives, EndsWith, is_listed, files_told, bytes_at, left_behind};
+ghost use Rattle.au_io.specs.Files.{Opens, Lacks, TakesNext, EndsWith, is_listed, files_told, bytes_at, left_behind};
 
 use crate::{Failed, Shelf, StartFault};
 use au_value::Word;
@@ -163,7 +163,7 @@ impl Shelf for MemShelf {
         ensures counts { (shelf_faults self.old ≤ shelf_faults self.new) × (shelf_absences self.old ≤ shelf_absences self.new) }
         ensures started { shelf_started self.new ≡ shelf_started self.old }
 
-        ensures bytes { IfOk result (Gives (shelf_left self.old) (shelf_left self.new) into.new) }
+        ensures bytes { IfOk result (TakesNext (shelf_left self.old) (shelf_left self.new) into.new) }
         ensures end { IfOk result (EndsWith (shelf_left self.old) into.new) }
         ensures idle { shelf_started self.old ≡ false → IfOk result (λ n. n ≡ 0) }
 

@@ -1,7 +1,7 @@
 //! The shelf of the host's file system.
 ghost use Rattle.std.specs.Prelude.{◌≡◌, ◌≤◌, ◌-◌, ◌^◌, refl, ◌<◌, false, true, None, IfOk, OnOk, OnErr, IsSome, IsErr, IsErrOf, is_some, length};
 ghost use Rattle.au_io.specs.Counts.{Rose};
-ghost use Rattle.au_io.specs.Files.{Opens, Lacks, Gives, EndsWith};
+ghost use Rattle.au_io.specs.Files.{Opens, Lacks, TakesNext, EndsWith};
 
 use crate::{Failed, Shelf, StartFault};
 use std::alloc::Global;

@@ -1,7 +1,7 @@
 //! A place of files.
 ghost use Rattle.std.specs.Prelude.{◌≡◌, ◌≤◌, ◌<◌, ◌-◌, ◌^◌, ℕ, Bool, true, false, List, length, Option, None, IfOk, OnOk, OnErr, IsSome, IsErrOf};
 ghost use Rattle.au_io.specs.Counts.{Rose};
-ghost use Rattle.au_io.specs.Files.{Opens, Lacks, Gives, EndsWith};
+ghost use Rattle.au_io.specs.Files.{Opens, Lacks, TakesNext, EndsWith};
 
 use std::alloc::Global;
 
@@ -57,7 +57,7 @@ pub trait Shelf {
         ensures counts { (faults self.old ≤ faults self.new) × (absences self.old ≤ absences self.new) }
         ensures started { is_started self.new ≡ is_started self.old }
 
-        ensures bytes { IfOk result (Gives (left self.old) (left self.new) into.new) }
+        ensures bytes { IfOk result (TakesNext (left self.old) (left self.new) into.new) }
         ensures end { IfOk result (EndsWith (left self.old) into.new) }
         ensures idle { is_started self.old ≡ false → IfOk result (λ n. n ≡ 0) }
 

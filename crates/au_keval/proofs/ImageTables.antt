@@ -7,7 +7,7 @@ use Rattle.au_algebra.specs.Entries.{Entry, entry}
 use Rattle.au_algebra.specs.Positive.{Annotations}
 use Rattle.au_algebra.proofs.Each.{all_filter}
 use Rattle.au_keval.specs.Homs.{KeepsKinds, KeepsValid, StaysPositive, images}
-use Rattle.au_keval.specs.Reading.{IsRow, IsRelation}
+use Rattle.au_keval.specs.Reading.{IsRow, IsRelationOver}
 
 module _ {C D K L : Type 0} (V : Kind → C → Type 0) (W : K → Type 0) (V' : Kind → D → Type 0) (W' : L → Type 0) (d : Operators D) (b : Annotations D L) (f : C → D) (h : K → L) (keeps_kinds : KeepsKinds V V' f) (keeps_valid : KeepsValid W W' h) where
   image_cells : (ks : List Kind) (xs : List C) → AllZip V ks xs → AllZip V' ks (map f xs)
@@ -19,12 +19,12 @@ module _ {C D K L : Type 0} (V : Kind → C → Type 0) (W : K → Type 0) (V' :
   abbrev image : Entry C K → Entry D L
   image r = entry (map f r.cells) (h r.annot)
 
-  image_rows : (ks : List Kind) (rows : List (Entry C K)) → IsRelation V W ks rows → AllByRecursion (IsRow V' W' ks) (map image rows)
+  image_rows : (ks : List Kind) (rows : List (Entry C K)) → IsRelationOver V W ks rows → AllByRecursion (IsRow V' W' ks) (map image rows)
   image_rows ks [] ok = tt
   image_rows ks (r ∷ rows) ok =
       (record { cells = image_cells ks r.cells ok.0.cells; annot = keeps_valid r.annot ok.0.annot }, image_rows ks rows ok.1)
 
-  image_tables : (kinds : List (List Kind)) (ts : List (List (Entry C K))) → AllZip (IsRelation V W) kinds ts → AllZip (IsRelation V' W') kinds (map (images d b f h) ts)
+  image_tables : (kinds : List (List Kind)) (ts : List (List (Entry C K))) → AllZip (IsRelationOver V W) kinds ts → AllZip (IsRelationOver V' W') kinds (map (images d b f h) ts)
   image_tables [] [] z = tt
   image_tables [] (rows ∷ ts) z = elim z [ ]
   image_tables (ks ∷ kinds) [] z = elim z [ ]

@@ -9,8 +9,8 @@ use Rattle.au_algebra.specs.Typing.{kinds_of}
 use Rattle.au_algebra.proofs.PositiveMaps.{KeepsOperations, IsValid, images-positive}
 use Rattle.au_algebra.proofs.TreeRelation.{its_kinds}
 use Rattle.au_algebra.proofs.Each.{all_from, zip_from}
-use Rattle.au_keval.specs.Homs.{Commutes, Keeps, KeepsCells, KeepsTruth, KeepsWeight}
-use Rattle.au_keval.specs.Reading.{annotations, IsRow, IsRelation}
+use Rattle.au_keval.specs.Homs.{Commutes, KeepsOperation, KeepsCells, KeepsTruth, KeepsWeight}
+use Rattle.au_keval.specs.Reading.{annotations, IsRow, IsRelationOver}
 
 -- what is at most zero stays so under an operation that keeps zero
 module _ {L : Type 0} (zero one : L) (plus times : L → L → L) (below : L → L → Bool) (order : IsPartialOrder below) (laws : IsCommutativeSemiring zero one plus times) (least : IsLeast below zero) where
@@ -24,7 +24,7 @@ module _ {L : Type 0} (zero one : L) (plus times : L → L → L) (below : L →
 
 module _ {C D T U K L : Type 0} (V : Kind → C → Type 0) (valid : T → Type 0) (W : K → Type 0) (c : Operators C) (d : Operators D) (t : C → T) (u : D → U) (zero one : K) (plus times : K → K → K) (below : K → K → Bool) (weight : T → K) (zero' one' : L) (plus' times' : L → L → L) (below' : L → L → Bool) (weight' : U → L) (f : C → D) (g : T → U) (h : K → L) where
   -- the images of a tree's rows are the tree's rows over the images
-  pub commutes : KeepsCells V c d f → KeepsTruth V valid t u f g → KeepsWeight valid weight weight' g h → h zero ≡ zero' → Keeps times times' h → ((k l : K) → W k → W l → W (times k l)) → ((x : T) → valid x → W (weight x)) → IsPartialOrder below → IsLeast below zero → IsPartialOrder below' → IsCommutativeSemiring zero' one' plus' times' → IsLeast below' zero' → Commutes V W c d (annotations zero one plus times below weight t) (annotations zero' one' plus' times' below' weight' u) f h
+  pub commutes : KeepsCells V c d f → KeepsTruth V valid t u f g → KeepsWeight valid weight weight' g h → h zero ≡ zero' → KeepsOperation times times' h → ((k l : K) → W k → W l → W (times k l)) → ((x : T) → valid x → W (weight x)) → IsPartialOrder below → IsLeast below zero → IsPartialOrder below' → IsCommutativeSemiring zero' one' plus' times' → IsLeast below' zero' → Commutes V W c d (annotations zero one plus times below weight t) (annotations zero' one' plus' times' below' weight' u) f h
   commutes cells truths weights keeps_zero keeps_times times_valid weight_valid order least order' laws' least' q ts over =
       let keeps : KeepsOperations V W c d (annotations zero one plus times below weight t) (annotations zero' one' plus' times' below' weight' u) f h = record {
         cells = cells;
@@ -37,6 +37,6 @@ module _ {C D T U K L : Type 0} (V : Kind → C → Type 0) (valid : T → Type 
         none_right = none_right zero' one' plus' times' below' order' laws' least';
       } in
       let k = its_kinds (kinds_of over.kinds q) over.typed in
-      let tables = zip_from (IsRelation V W) (λ ks rows. AllByRecursion (IsValid V W ks) rows) over.kinds ts
+      let tables = zip_from (IsRelationOver V W) (λ ks rows. AllByRecursion (IsValid V W ks) rows) over.kinds ts
       (λ ks rows ok. all_from (IsRow V W ks) (IsValid V W ks) rows (λ r v. record { cells = v.cells; annot = v.annot }) ok) over.tables in
       images-positive V W c d (annotations zero one plus times below weight t) (annotations zero' one' plus' times' below' weight' u) f h keeps over.kinds ts tables q k.0 k.1

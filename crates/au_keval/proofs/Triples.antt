@@ -8,6 +8,7 @@ use borrow.Author.Tests.{leb-true, le-leb, lt-ltb, ltb-true}
 use Rattle.au_value.specs.declared.kinds.Kind.{Kind}
 use Rattle.au_value.specs.declared.kinds.Kind.TheVariants.{Flag}
 use Rattle.au_value.specs.Ranges.{Span}
+use Rattle.au_value.specs.Numeral.{is_i128}
 use Rattle.au_annot.specs.Triples.{Counts, IsTriple, times, none, at_most, is_none, in_range as counts_in_range}
 use Rattle.au_expr.specs.Terms.{Term}
 use Rattle.au_expr.specs.Kinds.{kind_in}
@@ -32,7 +33,7 @@ use Rattle.au_algebra.proofs.RelationRows.{IsLooseRow, IsLoose, relation_loose}
 use Rattle.au_algebra.proofs.TreeRelation.{its_kinds, tree_relation}
 use Rattle.au_keval.specs.Links.{over_ranges, tables_fit, ReadingIsBounded, ReadingIsCounted, ConditionIsNumbers}
 use Rattle.au_keval.specs.Reading.{fits, select_fits, project_fits, product_fits}
-use Rattle.au_keval.specs.Weights.{count_of, triple_of}
+use Rattle.au_keval.specs.Weights.{truth_count, truth_triple}
 
 -- two tests that follow from each other
 both_ways : (p q : Bool) → (p ≡ true → q ≡ true) → (q ≡ true → p ≡ true) → p ≡ q
@@ -41,7 +42,7 @@ both_ways false true f g = g refl
 both_ways false false f g = refl
 
 -- a truth weighs as its range does
-weight_same : (r : Span) → triple_of (three_way r) ≡ weight r
+weight_same : (r : Span) → truth_triple (three_way r) ≡ weight r
 weight_same r = refl
 
 no_more : (k : Counts) → IsTriple k → k.most ≡ 0 → (k.least ≤ 0) × (k.guess ≤ 0)
@@ -63,7 +64,7 @@ pub present_same : (ks : List Kind) (rows : Bounded) → IsLoose ks rows → kee
 present_same ks [] l = refl
 present_same ks (r ∷ rows) l = λ i. cond (not (zero_same r.annot l.0.triple i)) (r ∷ present_same ks rows l.1 i) (present_same ks rows l.1 i)
 
-weighed_same : (e : Term) (rows : Bounded) → map (λ r. entry r.cells (times r.annot (triple_of (three_way (range_of e r.cells))))) rows ≡ map (λ r. entry r.cells (times r.annot (weight (range_of e r.cells)))) rows
+weighed_same : (e : Term) (rows : Bounded) → map (λ r. entry r.cells (times r.annot (truth_triple (three_way (range_of e r.cells))))) rows ≡ map (λ r. entry r.cells (times r.annot (weight (range_of e r.cells)))) rows
 weighed_same e [] = refl
 weighed_same e (r ∷ rows) = λ i. entry r.cells (times r.annot (weight_same (range_of e r.cells) i)) ∷ weighed_same e rows i
 
@@ -113,13 +114,13 @@ none_same n = both_ways (nat_le n 0) (n == 0) (λ h. let m = leb-true n 0 h in e
 
 -- the general reading is the counted answer
 pub reading_is_counted : ReadingIsCounted
-reading_is_counted q ts = λ i. positive.positive ordinary (record { zero = 0; one = 1; plus = λ m n. m + n; times = λ m n. m * n; is_zero = λ n. none_same n i; weight = λ v. count_of (is_true v) }) q ts
+reading_is_counted q ts = λ i. positive.positive ordinary (record { zero = 0; one = 1; plus = λ m n. m + n; times = λ m n. m * n; is_zero = λ n. none_same n i; weight = λ v. truth_count (is_true v) }) q ts
 
 -- ---- the numbers of the bounded relation
 
-count_in : (n : ℕ) → ints.in_range (pos n) ≡ nat_lt n (2 ^ 127)
+count_in : (n : ℕ) → is_i128 (pos n) ≡ nat_lt n (2 ^ 127)
 count_in n =
-    both_ways (ints.in_range (pos n)) (nat_lt n (2 ^ 127))
+    both_ways (is_i128 (pos n)) (nat_lt n (2 ^ 127))
     (λ h. let m = leb-true n (2 ^ 127 - 1) h in lt-ltb n (2 ^ 127) (omega (arith, m)))
     (λ h. let m = ltb-true n (2 ^ 127) h in let le : n ≤ 2 ^ 127 - 1 = omega (arith, m) in le-leb n (2 ^ 127 - 1) le)
 
@@ -129,9 +130,9 @@ three true true false = refl
 three true false c = refl
 three false b c = refl
 
-triple_in : (k : Counts) → list_all ints.in_range (pos k.least ∷ pos k.guess ∷ pos k.most ∷ []) ≡ counts_in_range k
+triple_in : (k : Counts) → list_all is_i128 (pos k.least ∷ pos k.guess ∷ pos k.most ∷ []) ≡ counts_in_range k
 triple_in k =
-    three (ints.in_range (pos k.least)) (ints.in_range (pos k.guess)) (ints.in_range (pos k.most))
+    three (is_i128 (pos k.least)) (is_i128 (pos k.guess)) (is_i128 (pos k.most))
     ∙ (λ i. count_in k.least i && count_in k.guess i && count_in k.most i)
 
 -- a triple with no copy lies in the range
@@ -167,7 +168,7 @@ within r = counts_in_range r.annot
 present_if : (b : Bool) (r : RangeRow) (rest : Bounded) → is_none r.annot ≡ b → IsTriple r.annot → ints.triples_fit (cond (not b) (r ∷ rest) rest) ≡ (within r && ints.triples_fit rest)
 present_if true r rest e ok = sym (ap (λ t. t && ints.triples_fit rest) (none_in r.annot ok (eqb-true r.annot.most 0 e)))
 present_if false r rest e ok =
-    list_all-append ints.in_range (pos r.annot.least ∷ pos r.annot.guess ∷ pos r.annot.most ∷ []) (ints.triple_numbers rest)
+    list_all-append is_i128 (pos r.annot.least ∷ pos r.annot.guess ∷ pos r.annot.most ∷ []) (ints.triple_numbers rest)
     ∙ ap (λ t. t && ints.triples_fit rest) (triple_in r.annot)
 
 -- the triples that are present lie in the range where all do
@@ -175,20 +176,20 @@ present_in : (ks : List Kind) (rows : Bounded) → IsLoose ks rows → ints.trip
 present_in ks [] l = refl
 present_in ks (r ∷ rows) l = present_if (is_none r.annot) r (bounded.present rows) refl l.0.triple ∙ ap (λ t. within r && t) (present_in ks rows l.1)
 
-pub select_numbers : (ks : List Kind) (e : Term) (rows : Bounded) → kind_in ks e ≡ Some Flag → IsRelation ks rows → list_all ints.in_range (flat_map (λ r. expr_numbers e r.cells) rows ++ ints.triple_numbers (bounded.select e rows)) ≡ list_all (select_fits on_ranges of_ranges over_ranges counts_in_range e) rows
+pub select_numbers : (ks : List Kind) (e : Term) (rows : Bounded) → kind_in ks e ≡ Some Flag → IsRelation ks rows → list_all is_i128 (flat_map (λ r. expr_numbers e r.cells) rows ++ ints.triple_numbers (bounded.select e rows)) ≡ list_all (select_fits on_ranges of_ranges over_ranges counts_in_range e) rows
 unfolding selected
 select_numbers ks e rows typed ok =
     let sel : RangeRow → RangeRow = λ r. entry r.cells (times r.annot (weight (range_of e r.cells))) in
-    list_all-append ints.in_range (flat_map (λ r. expr_numbers e r.cells) rows) (ints.triple_numbers (bounded.select e rows))
-    ∙ (λ i. all_flat ints.in_range (λ r. expr_numbers e r.cells) rows i && present_in ks (map sel rows) (select_loose ks e typed rows ok) i)
-    ∙ (λ i. list_all (λ r. list_all ints.in_range (expr_numbers e r.cells)) rows && all_map within sel rows i)
-    ∙ sym (all_both (λ r. list_all ints.in_range (expr_numbers e r.cells)) (λ r. within (sel r)) rows)
-    ∙ (λ i. list_all (λ r. list_all ints.in_range (expr_numbers e r.cells) && counts_in_range (times r.annot (sym (weight_same (range_of e r.cells)) i))) rows)
+    list_all-append is_i128 (flat_map (λ r. expr_numbers e r.cells) rows) (ints.triple_numbers (bounded.select e rows))
+    ∙ (λ i. all_flat is_i128 (λ r. expr_numbers e r.cells) rows i && present_in ks (map sel rows) (select_loose ks e typed rows ok) i)
+    ∙ (λ i. list_all (λ r. list_all is_i128 (expr_numbers e r.cells)) rows && all_map within sel rows i)
+    ∙ sym (all_both (λ r. list_all is_i128 (expr_numbers e r.cells)) (λ r. within (sel r)) rows)
+    ∙ (λ i. list_all (λ r. list_all is_i128 (expr_numbers e r.cells) && counts_in_range (times r.annot (sym (weight_same (range_of e r.cells)) i))) rows)
 
-pub project_numbers : (items : List Term) (rows : Bounded) → list_all ints.in_range (flat_map (λ r. flat_map (λ e. expr_numbers e r.cells) items) rows) ≡ list_all (project_fits on_ranges of_ranges over_ranges counts_in_range items) rows
+pub project_numbers : (items : List Term) (rows : Bounded) → list_all is_i128 (flat_map (λ r. flat_map (λ e. expr_numbers e r.cells) items) rows) ≡ list_all (project_fits on_ranges of_ranges over_ranges counts_in_range items) rows
 project_numbers items rows =
-    all_flat ints.in_range (λ r. flat_map (λ e. expr_numbers e r.cells) items) rows
-    ∙ (λ i. list_all (λ r. all_flat ints.in_range (λ e. expr_numbers e r.cells) items i) rows)
+    all_flat is_i128 (λ r. flat_map (λ e. expr_numbers e r.cells) items) rows
+    ∙ (λ i. list_all (λ r. all_flat is_i128 (λ e. expr_numbers e r.cells) items i) rows)
 
 pub product_numbers : (ks js : List Kind) (xs ys : Bounded) → IsRelation ks xs → IsRelation js ys → ints.triples_fit (bounded.product xs ys) ≡ list_all (product_fits on_ranges of_ranges over_ranges counts_in_range ys) xs
 product_numbers ks js xs ys p q =
@@ -211,7 +212,7 @@ module _ (kinds : List (List Kind)) (ts : List Bounded) (ok : AllZip IsRelation 
   holds q = fits on_ranges of_ranges over_ranges counts_in_range q ts
 
   abbrev all_in : Tree → Bool
-  all_in q = list_all ints.in_range (ints.numbers q ts)
+  all_in q = list_all is_i128 (ints.numbers q ts)
 
   numbers_same : (q : Tree) (ks : List Kind) → positive.is_positive q ≡ true → kinds_of kinds q ≡ Some ks → all_in q ≡ (holds q && tables_fit q ts)
   numbers_same (Table i) ks p h = refl
@@ -219,14 +220,14 @@ module _ (kinds : List (List Kind)) (ts : List Bounded) (ok : AllZip IsRelation 
       let k = and_then_is _ (kinds_of kinds q) ks h in
       let s = chosen_is _ (Some k.0) ks k.2 in
       let test = select_fits on_ranges of_ranges over_ranges counts_in_range e in
-      list_all-append ints.in_range (ints.numbers q ts) _
+      list_all-append is_i128 (ints.numbers q ts) _
       ∙ (λ i. numbers_same q k.0 p k.1 i && select_numbers k.0 e (bounded q ts) (is_kind_is Flag (kind_in k.0 e) s.0) (tree_relation kinds ts ok q k.0 k.1) i)
       ∙ behind (holds q) (tables_fit q ts) (list_all test (bounded q ts))
       ∙ (λ i. (holds q && list_all test (sym (reading_same kinds ts ok q k.0 p k.1) i)) && tables_fit q ts)
   numbers_same (Project items q) ks p h =
       let k = and_then_is _ (kinds_of kinds q) ks h in
       let test = project_fits on_ranges of_ranges over_ranges counts_in_range items in
-      list_all-append ints.in_range (ints.numbers q ts) _
+      list_all-append is_i128 (ints.numbers q ts) _
       ∙ (λ i. numbers_same q k.0 p k.1 i && project_numbers items (bounded q ts) i)
       ∙ behind (holds q) (tables_fit q ts) (list_all test (bounded q ts))
       ∙ (λ i. (holds q && list_all test (sym (reading_same kinds ts ok q k.0 p k.1) i)) && tables_fit q ts)
@@ -235,8 +236,8 @@ module _ (kinds : List (List Kind)) (ts : List Bounded) (ok : AllZip IsRelation 
       let k = and_then_is _ (kinds_of kinds a) ks h in
       let s = and_then_is _ (kinds_of kinds b) ks k.2 in
       let test = product_fits on_ranges of_ranges over_ranges counts_in_range in
-      list_all-append ints.in_range (ints.numbers a ts) _
-      ∙ ap (λ c. all_in a && c) (list_all-append ints.in_range (ints.numbers b ts) _)
+      list_all-append is_i128 (ints.numbers a ts) _
+      ∙ ap (λ c. all_in a && c) (list_all-append is_i128 (ints.numbers b ts) _)
       ∙ (λ i. numbers_same a k.0 t.0 k.1 i && (numbers_same b s.0 t.1 s.1 i && product_numbers k.0 s.0 (bounded a ts) (bounded b ts) (tree_relation kinds ts ok a k.0 k.1) (tree_relation kinds ts ok b s.0 s.1) i))
       ∙ between (holds a) (tables_fit a ts) (holds b) (tables_fit b ts) (list_all (test (bounded b ts)) (bounded a ts))
       ∙ (λ i. (holds a && (holds b && list_all (test (sym (reading_same kinds ts ok b s.0 t.1 s.1) i)) (sym (reading_same kinds ts ok a k.0 t.0 k.1) i))) && (tables_fit a ts && tables_fit b ts))
@@ -244,7 +245,7 @@ module _ (kinds : List (List Kind)) (ts : List Bounded) (ok : AllZip IsRelation 
       let t = and_parts (positive.is_positive a) (positive.is_positive b) p in
       let k = and_then_is _ (kinds_of kinds a) ks h in
       let s = and_then_is _ (kinds_of kinds b) ks k.2 in
-      list_all-append ints.in_range (ints.numbers a ts) (ints.numbers b ts)
+      list_all-append is_i128 (ints.numbers a ts) (ints.numbers b ts)
       ∙ (λ i. numbers_same a k.0 t.0 k.1 i && numbers_same b s.0 t.1 s.1 i)
       ∙ crossed (holds a) (tables_fit a ts) (holds b) (tables_fit b ts)
   numbers_same (Difference a b) ks p h = absurd (true≢false (sym p))

@@ -15,7 +15,7 @@ use Rattle.au_keval.specs.declared.rows.Rows.{Rows}
 use Rattle.au_keval.specs.declared.rows.Rows.TheVariants.{Lent, Made}
 use Rattle.au_keval.specs.Held.{held_entries}
 use Rattle.au_keval.specs.Passes.{kept}
-use Rattle.au_keval.specs.Reading.{IsRelation, fits}
+use Rattle.au_keval.specs.Reading.{IsRelationOver, fits}
 
 abbrev pub rows_in : {C K : Type 0} → Rows C K → List (Entry C K)
 rows_in (Lent rows) = held_entries rows.now
@@ -29,7 +29,7 @@ IsPresent a (Made rows) = flat_map (kept a) (held_entries rows.items) ≡ held_e
 -- rows of the kinds that the tree is typed with
 abbrev pub HasRows : {C K : Type 0} → (Kind → C → Type 0) → (K → Type 0) → Tree → List (List (Entry C K)) → List (Entry C K) → Type 0
 HasRows is_kind is_valid q ts rows =
-    (kinds : List (List Kind)) (ks : List Kind) → AllZip (IsRelation is_kind is_valid) kinds ts → kinds_of kinds q ≡ Some ks → IsRelation is_kind is_valid ks rows
+    (kinds : List (List Kind)) (ks : List Kind) → AllZip (IsRelationOver is_kind is_valid) kinds ts → kinds_of kinds q ≡ Some ks → IsRelationOver is_kind is_valid ks rows
 
 -- the rows are the tree's, whose numbers fit
 pub record Answered {C K : Type 0} (d : Operators C) (n : Figures C) (a : Annotations C K) (in_range : K → Bool) (is_kind : Kind → C → Type 0) (is_valid : K → Type 0) (q : Tree) (ts : List (List (Entry C K))) (rows : Rows C K) : Type 0 where

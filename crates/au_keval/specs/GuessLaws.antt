@@ -15,8 +15,8 @@ use Rattle.au_expr.specs.Ordinary.{IsKind, ordinary, is_true}
 use Rattle.au_expr.specs.Truths.{IsThreeWay, three_way}
 use Rattle.au_algebra.proofs.PositiveGuesses.{guess_keeps}
 use Rattle.au_expr.proofs.Kept.{three_way_from}
-use Rattle.au_keval.specs.Homs.{KeepsCells, KeepsKinds, KeepsTruth, KeepsValid, KeepsWeight, Keeps}
-use Rattle.au_keval.specs.Weights.{count_of, triple_of}
+use Rattle.au_keval.specs.Homs.{KeepsCells, KeepsKinds, KeepsTruth, KeepsValid, KeepsWeight, KeepsOperation}
+use Rattle.au_keval.specs.Weights.{truth_count, truth_triple}
 
 pub guess_cells : KeepsCells IsRangeOf on_ranges ordinary (λ r. r.sg)
 guess_cells = guess_keeps.cells
@@ -39,7 +39,7 @@ flags_are r ok = λ i. range (flag_is r.lo (ok.range.lo_kind ∙ ok.kind) i) (fl
 pub guess_truth : KeepsTruth IsRangeOf IsThreeWay three_way is_true (λ r. r.sg) (λ t. t.guess)
 guess_truth r ok = (three_way_from (three_way r) r (flags_are r ok) ok, refl)
 
-pub guess_weight : KeepsWeight IsThreeWay triple_of count_of (λ t. t.guess) (λ k. k.guess)
+pub guess_weight : KeepsWeight IsThreeWay truth_triple truth_count (λ t. t.guess) (λ k. k.guess)
 guess_weight t ok = refl
 
 pub guess_zero : none.guess ≡ 0
@@ -48,8 +48,8 @@ guess_zero = refl
 pub guess_one : one.guess ≡ 1
 guess_one = refl
 
-pub guess_plus : Keeps plus (λ m n. m + n) (λ k. k.guess)
+pub guess_plus : KeepsOperation plus (λ m n. m + n) (λ k. k.guess)
 guess_plus s t = refl
 
-pub guess_times : Keeps times (λ m n. m * n) (λ k. k.guess)
+pub guess_times : KeepsOperation times (λ m n. m * n) (λ k. k.guess)
 guess_times s t = refl

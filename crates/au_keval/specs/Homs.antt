@@ -32,8 +32,8 @@ abbrev pub KeepsWeight : {T U K L : Type 0} → (T → Type 0) → (T → K) →
 KeepsWeight {T} is_valid v w g h = (t : T) → is_valid t → h (v t) ≡ w (g t)
 
 -- an operation goes along
-abbrev pub Keeps : {K L : Type 0} → (K → K → K) → (L → L → L) → (K → L) → Type 0
-Keeps {K} op to h = (k l : K) → h (op k l) ≡ to (h k) (h l)
+abbrev pub KeepsOperation : {K L : Type 0} → (K → K → K) → (L → L → L) → (K → L) → Type 0
+KeepsOperation {K} op to h = (k l : K) → h (op k l) ≡ to (h k) (h l)
 
 -- the images of rows, without those of annotation zero
 abbrev pub images : {C D K L : Type 0} → Operators D → Annotations D L → (C → D) → (K → L) → List (Entry C K) → List (Entry D L)

@@ -3,9 +3,8 @@ pub mod Reading
 pub mod Weights
 pub mod Homs
 pub mod Links
--- What contracts of operators, and proofs, use besides.
 pub mod Held
 pub mod Passes
 pub mod Evaluation
--- What proofs alone use.
+-- What the contracts of inner calls and the proofs speak of.
 pub mod GuessLaws

@@ -5,6 +5,7 @@ use Rattle.std.specs.List.{list_all, AllZip}
 use Rattle.au_value.specs.declared.kinds.Kind.{Kind}
 use Rattle.au_value.specs.declared.value.Value.{Value}
 use Rattle.au_value.specs.Ranges.{Span}
+use Rattle.au_value.specs.Numeral.{is_i128}
 use Rattle.au_annot.specs.Triples.{Counts, plus, times, none, one, at_most, in_range as counts_in_range}
 use Rattle.au_expr.specs.Numbers.{of_ranges}
 use Rattle.au_expr.specs.OnRanges.{on_ranges}
@@ -19,15 +20,15 @@ use Rattle.au_algebra.specs.Positive.{Annotations, is_positive, positive}
 use Rattle.au_algebra.specs.Trees.{Tree, Table, Select, Project, Product, Union, Difference, Distinct, Group, Total}
 use Rattle.au_algebra.specs.Typing.{IsTyped}
 use Rattle.au_keval.specs.Reading.{annotations, fits}
-use Rattle.au_keval.specs.Weights.{count_of, triple_of}
+use Rattle.au_keval.specs.Weights.{truth_count, truth_triple}
 
 -- triples with their order, which weigh ranges
 abbrev pub over_ranges : Annotations Span Counts
-over_ranges = annotations none one plus times at_most triple_of three_way
+over_ranges = annotations none one plus times at_most truth_triple three_way
 
 -- counts with their order, which weigh values
 abbrev pub over_values : Annotations Value ℕ
-over_values = annotations 0 1 (λ m n. m + n) (λ m n. m * n) nat_le count_of is_true
+over_values = annotations 0 1 (λ m n. m + n) (λ m n. m * n) nat_le truth_count is_true
 
 -- At ranges and triples the general reading is the bounded relation.
 abbrev pub ReadingIsBounded : Type 0
@@ -39,7 +40,7 @@ ReadingIsBounded =
 -- At values and counts it is the counted answer.
 abbrev pub ReadingIsCounted : Type 0
 ReadingIsCounted =
-    (q : Tree) (ts : List (List (Entry Value ℕ))) → positive ordinary over_values q ts ≡ positive ordinary counted.numbers q ts
+    (q : Tree) (ts : List (List (Entry Value ℕ))) → positive ordinary over_values q ts ≡ positive ordinary counted.counting_annotations q ts
 
 -- whether the triples of the tables that a tree names lie in the range
 abbrev pub tables_fit : Tree → List Bounded → Bool
@@ -59,4 +60,4 @@ abbrev pub ConditionIsNumbers : Type 0
 ConditionIsNumbers =
     (q : Tree) (kinds : List (List Kind)) (ts : List Bounded) →
     IsTrue (is_positive q) → IsTyped kinds q → AllZip IsRelation kinds ts →
-    list_all ints.in_range (ints.numbers q ts) ≡ (fits on_ranges of_ranges over_ranges counts_in_range q ts && tables_fit q ts)
+    list_all is_i128 (ints.numbers q ts) ≡ (fits on_ranges of_ranges over_ranges counts_in_range q ts && tables_fit q ts)

@@ -49,12 +49,12 @@ pub record IsRow {C K : Type 0} (is_kind : Kind → C → Type 0) (is_valid : K 
   pub cells : AllZip is_kind ks r.cells
   pub annot : is_valid r.annot
 
-abbrev pub IsRelation : {C K : Type 0} → (Kind → C → Type 0) → (K → Type 0) → List Kind → List (Entry C K) → Type 0
-IsRelation is_kind is_valid ks rows = AllByRecursion (IsRow is_kind is_valid ks) rows
+abbrev pub IsRelationOver : {C K : Type 0} → (Kind → C → Type 0) → (K → Type 0) → List Kind → List (Entry C K) → Type 0
+IsRelationOver is_kind is_valid ks rows = AllByRecursion (IsRow is_kind is_valid ks) rows
 
 -- a tree of the four operators, which is typed for the tables
 pub record IsPositiveOver {C K : Type 0} (is_kind : Kind → C → Type 0) (is_valid : K → Type 0) (q : Tree) (ts : List (List (Entry C K))) : Type 0 where
   pub kinds : List (List Kind)
-  pub tables : AllZip (IsRelation is_kind is_valid) kinds ts
+  pub tables : AllZip (IsRelationOver is_kind is_valid) kinds ts
   pub typed : IsTyped kinds q
   pub positive : IsTrue (is_positive q)

@@ -10,16 +10,16 @@ use Rattle.au_expr.specs.Truths.{IsAnyBool, IsThreeWay}
 use Rattle.au_expr.specs.declared.truth.ThreeWay.{ThreeWay}
 
 -- 1 for true and 0 for false
-abbrev pub count_of : Bool → ℕ
-count_of t = if t then 1 else 0
+abbrev pub truth_count : Bool → ℕ
+truth_count t = if t then 1 else 0
 
 -- the same in every world and in the guess world
 abbrev pub twice_of : Bool → PairCounts
-twice_of t = pair_of (count_of t) (count_of t)
+twice_of t = pair_of (truth_count t) (truth_count t)
 
 -- the same of each of the three
-abbrev pub triple_of : ThreeWay → Counts
-triple_of t = counts (count_of t.least) (count_of t.guess) (count_of t.most)
+abbrev pub truth_triple : ThreeWay → Counts
+truth_triple t = counts (truth_count t.least) (truth_count t.guess) (truth_count t.most)
 
 pub counts_valid : (t : Bool) → IsAnyBool t → Unit {0}
 counts_valid t ok = tt
@@ -28,17 +28,17 @@ pub counts_times : (m n : ℕ) → Unit {0} → Unit {0} → Unit {0}
 counts_times m n p q = tt
 
 pub pairs_valid : (t : Bool) → IsAnyBool t → IsPair (twice_of t)
-pairs_valid t ok = record { certain_guess = le_refl (count_of t) }
+pairs_valid t ok = record { certain_guess = le_refl (truth_count t) }
 
 pub pairs_times : (s t : PairCounts) → IsPair s → IsPair t → IsPair (pairs.times s t)
 pairs_times s t p q = record { certain_guess = mul-le-mul p.certain_guess q.certain_guess }
 
-rising : (p q : Bool) → (p ≡ true → q ≡ true) → count_of p ≤ count_of q
+rising : (p q : Bool) → (p ≡ true → q ≡ true) → truth_count p ≤ truth_count q
 rising true true h = le_refl 1
 rising true false h = absurd (true≢false (sym (h refl)))
 rising false q h = zero-le
 
-pub triples_valid : (t : ThreeWay) → IsThreeWay t → IsTriple (triple_of t)
+pub triples_valid : (t : ThreeWay) → IsThreeWay t → IsTriple (truth_triple t)
 triples_valid t ok = record {
   least_guess = rising t.least t.guess ok.least_guess;
   guess_most = rising t.guess t.most ok.guess_most;

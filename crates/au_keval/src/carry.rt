@@ -1,7 +1,7 @@
 //! Maps between two domains and two annotations.
 ghost use Rattle.std.specs.Prelude.{◌≡◌};
 ghost use Rattle.au_keval.specs.GuessLaws.{guess_cells, guess_kinds, guess_truth, guess_valid, guess_weight, guess_zero, guess_one, guess_plus, guess_times};
-ghost use Rattle.au_keval.specs.Homs.{Commutes, Keeps, KeepsCells, KeepsKinds, KeepsTruth, KeepsValid, KeepsWeight, StaysPositive};
+ghost use Rattle.au_keval.specs.Homs.{Commutes, KeepsOperation, KeepsCells, KeepsKinds, KeepsTruth, KeepsValid, KeepsWeight, StaysPositive};
 ghost use Rattle.au_keval.specs.Reading.{annotations};
 
 use crate::weigh::Weigh;
@@ -36,9 +36,9 @@ pub trait Carry<D: Domain, K: Weigh<D>, E: Domain, L: Weigh<E>> {
 
     ghost keeps_one: { annot K.one ≡ L.one };
 
-    ghost keeps_plus: { Keeps K.plus L.plus annot };
+    ghost keeps_plus: { KeepsOperation K.plus L.plus annot };
 
-    ghost keeps_times: { Keeps K.times L.times annot };
+    ghost keeps_times: { KeepsOperation K.times L.times annot };
 }
 
 /// Takes the guess of a range, of a truth and of a triple.

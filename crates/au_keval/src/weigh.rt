@@ -1,6 +1,6 @@
 //! The annotations of conditions.
 ghost use Rattle.std.specs.Prelude.{◌≡◌};
-ghost use Rattle.au_keval.specs.Weights.{count_of, twice_of, triple_of, counts_valid, counts_times, pairs_valid, pairs_times, triples_valid, triples_times};
+ghost use Rattle.au_keval.specs.Weights.{truth_count, twice_of, truth_triple, counts_valid, counts_times, pairs_valid, pairs_times, triples_valid, triples_times};
 
 use au_annot::{Annot, Count, Pair, Triple};
 use au_expr::{Domain, PlainDomain, RangeDomain, ThreeWay};
@@ -24,7 +24,7 @@ pub trait Weigh<D: Domain>: Annot {
 
 /// 1 where the condition holds, else 0.
 impl Weigh<PlainDomain> for Count {
-    ghost weight = { count_of };
+    ghost weight = { truth_count };
 
     fn weight(truth: &bool) -> Count {
         zero_or_one(*truth)
@@ -50,7 +50,7 @@ impl Weigh<PlainDomain> for Pair {
 
 /// 1 or 0 for whether the condition holds certainly, in the guess and possibly.
 impl Weigh<RangeDomain> for Triple {
-    ghost weight = { triple_of };
+    ghost weight = { truth_triple };
 
     fn weight(truth: &ThreeWay) -> Triple {
         let least = zero_or_one(truth.least);
@@ -66,7 +66,7 @@ impl Weigh<RangeDomain> for Triple {
 
 /// 1 where a test holds, else 0.
 pub fn zero_or_one(holds: bool) -> Count
-    ensures { result ≡ count_of holds }
+    ensures { result ≡ truth_count holds }
 {
     if holds { Count::one() } else { Count::zero() }
 }

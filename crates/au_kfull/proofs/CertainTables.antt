@@ -23,7 +23,7 @@ use Rattle.au_algebra.proofs.Counted.{count_of-cons, count_of-if}
 use Rattle.au_algebra.proofs.GuessCounts.{guess-cons}
 use Rattle.au_algebra.proofs.TreeGuesses.{guess_is_exact}
 use Rattle.au_algebra.proofs.TreeRelation.{tree_relation}
-use Rattle.au_kfull.specs.Embedding.{IsTable, embedded, embedded_row}
+use Rattle.au_kfull.specs.Embedding.{IsCountedTable, embedded, embedded_row}
 use Rattle.au_kfull.specs.Typed.{IsTypedOver, IsTypedOverValues, HasValueKinds}
 
 -- ---- the kinds of the ranges
@@ -44,11 +44,11 @@ relation_if false ks r rows e z ok =
     (record { cells = certain_kinds ks r.cells z; triple = record { least_guess = omega arith; guess_most = omega arith }; present = some_copy r.annot e }, ok)
 
 -- a table of values is a relation of its kinds
-pub embedded_relation : (ks : List Kind) (rows : List CountedRow) → IsTable ks rows → IsRelation ks (embedded rows)
+pub embedded_relation : (ks : List Kind) (rows : List CountedRow) → IsCountedTable ks rows → IsRelation ks (embedded rows)
 embedded_relation ks [] ok = tt
 embedded_relation ks (r ∷ rows) ok = relation_if (r.annot == 0) ks r _ refl ok.0.cells (embedded_relation ks rows ok.1)
 
-all_relations : (kinds : List (List Kind)) (ts : List (List CountedRow)) → AllZip IsTable kinds ts → AllZip IsRelation kinds (map embedded ts)
+all_relations : (kinds : List (List Kind)) (ts : List (List CountedRow)) → AllZip IsCountedTable kinds ts → AllZip IsRelation kinds (map embedded ts)
 all_relations [] [] z = tt
 all_relations [] (t ∷ ts) z = elim z [ ]
 all_relations (k ∷ kinds) [] z = elim z [ ]
@@ -107,12 +107,12 @@ guess_kinds [] (r ∷ rs) z = elim z [ ]
 guess_kinds (k ∷ ks) [] z = elim z [ ]
 guess_kinds (k ∷ ks) (r ∷ rs) z = (z.0.kind, guess_kinds ks rs z.1)
 
-table_if : (b : Bool) (ks : List Kind) (r : CountedRow) (rows : List CountedRow) → AllZip IsKind ks r.cells → IsTable ks rows → IsTable ks (cond b (r ∷ rows) rows)
+table_if : (b : Bool) (ks : List Kind) (r : CountedRow) (rows : List CountedRow) → AllZip IsKind ks r.cells → IsCountedTable ks rows → IsCountedTable ks (cond b (r ∷ rows) rows)
 table_if true ks r rows z ok = (record { cells = z; annot = tt }, ok)
 table_if false ks r rows z ok = ok
 
 -- the guessed rows have the relation's kinds
-pub guessed_table : (ks : List Kind) (rows : Bounded) → IsRelation ks rows → IsTable ks (guessed_rows rows)
+pub guessed_table : (ks : List Kind) (rows : Bounded) → IsRelation ks rows → IsCountedTable ks (guessed_rows rows)
 guessed_table ks [] ok = tt
 guessed_table ks (r ∷ rows) ok =
     table_if (not (r.annot.guess == 0)) ks (entry (guesses r.cells) r.annot.guess) (guessed_rows rows) (guess_kinds ks r.cells ok.0.cells) (guessed_table ks rows ok.1)
@@ -128,7 +128,7 @@ module _ (q : Tree) (ts : List (List CountedRow)) (rel : List CountedRow) (same 
   -- and have the tree's kinds
   pub has_value_kinds : HasValueKinds q ts rel
   has_value_kinds kinds ks ok h =
-      subst (IsTable ks) (sym same) (guessed_table ks (bounded q (map embedded ts)) (tree_relation kinds (map embedded ts) (all_relations kinds ts ok) q ks h))
+      subst (IsCountedTable ks) (sym same) (guessed_table ks (bounded q (map embedded ts)) (tree_relation kinds (map embedded ts) (all_relations kinds ts ok) q ks h))
 
 -- ---- tables without rows of no copy
 

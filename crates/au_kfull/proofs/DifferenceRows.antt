@@ -7,9 +7,10 @@ use Rattle.std.proofs.lemmas.List.Folds.{list_all-append}
 use borrow.Author.Tests.{ltb-true, lt-ltb}
 use Rattle.au_value.specs.declared.kinds.Kind.{Kind}
 use Rattle.au_value.specs.Ranges.{Span, IsRangeOf}
+use Rattle.au_value.specs.Numeral.{is_i128}
 use Rattle.au_annot.specs.Triples.{is_none}
 use Rattle.au_algebra.specs.Bounded.{RangeRow, Bounded, combine, difference, less, present}
-use Rattle.au_algebra.specs.Fits.{in_range, triples_fit, triple_numbers, difference_sums}
+use Rattle.au_algebra.specs.Fits.{triples_fit, triple_numbers, difference_sums}
 use Rattle.au_algebra.specs.Laws.{IsRangeRow, IsRelation}
 use Rattle.au_algebra.proofs.DifferenceRelation.{each_less}
 use Rattle.au_algebra.proofs.Each.{all_from}
@@ -46,12 +47,12 @@ pub list_all-flat_map : {A B : Type 0} (test : B → Bool) (f : A → List B) (x
 list_all-flat_map test f [] = refl
 list_all-flat_map test f (x ∷ xs) = list_all-append test (f x) (flat_map f xs) ∙ ap (λ b. list_all test (f x) && b) (list_all-flat_map test f xs)
 
-lower_fits : (m k : ℕ) → in_range (pos m) ≡ true → in_range (pos (m - k)) ≡ true
+lower_fits : (m k : ℕ) → is_i128 (pos m) ≡ true → is_i128 (pos (m - k)) ≡ true
 lower_fits m k h =
     let lt = ltb-true m (2 ^ 127) (sym (count_in_range m) ∙ h) in
     count_in_range (m - k) ∙ lt-ltb (m - k) (2 ^ 127) (let less : m - k < 2 ^ 127 = omega (arith, lt) in less)
 
-fit_if : (b : Bool) (r : RangeRow) (rows : Bounded) → in_range (pos r.annot.least) ≡ true → in_range (pos r.annot.guess) ≡ true → in_range (pos r.annot.most) ≡ true → triples_fit rows ≡ true → triples_fit (cond b (r ∷ rows) rows) ≡ true
+fit_if : (b : Bool) (r : RangeRow) (rows : Bounded) → is_i128 (pos r.annot.least) ≡ true → is_i128 (pos r.annot.guess) ≡ true → is_i128 (pos r.annot.most) ≡ true → triples_fit rows ≡ true → triples_fit (cond b (r ∷ rows) rows) ≡ true
 fit_if true r rows l g m h = and_from _ _ l (and_from _ _ g (and_from _ _ m h))
 fit_if false r rows l g m h = h
 
@@ -59,19 +60,19 @@ fit_if false r rows l g m h = h
 pub rest_fits : (right rows : Bounded) → triples_fit rows ≡ true → triples_fit (present (map (less right) rows)) ≡ true
 rest_fits right [] h = refl
 rest_fits right (t ∷ rows) h =
-    let p = and_parts (in_range (pos t.annot.least)) _ h in
-    let q = and_parts (in_range (pos t.annot.guess)) _ p.1 in
-    let r = and_parts (in_range (pos t.annot.most)) (triples_fit rows) q.1 in
+    let p = and_parts (is_i128 (pos t.annot.least)) _ h in
+    let q = and_parts (is_i128 (pos t.annot.guess)) _ p.1 in
+    let r = and_parts (is_i128 (pos t.annot.most)) (triples_fit rows) q.1 in
     fit_if (not (is_none (less right t).annot)) (less right t) (present (map (less right) rows))
     (lower_fits t.annot.least _ p.0) (lower_fits t.annot.guess _ q.0) (lower_fits t.annot.most _ r.0) (rest_fits right rows r.1)
 
 -- whether the numbers fit, from those of each part
 pub fits_by_parts : (left right : Bounded) → difference_fits left right ≡ (triples_fit (combine left) && (list_all (sums_fit right) (combine left) && triples_fit (difference left right)))
 fits_by_parts left right =
-    list_all-append in_range (triple_numbers (combine left)) (flat_map (difference_sums right) (combine left) ++ triple_numbers (difference left right))
+    list_all-append is_i128 (triple_numbers (combine left)) (flat_map (difference_sums right) (combine left) ++ triple_numbers (difference left right))
     ∙ ap (λ b. triples_fit (combine left) && b)
-    (list_all-append in_range (flat_map (difference_sums right) (combine left)) (triple_numbers (difference left right))
-    ∙ ap (λ b. b && triples_fit (difference left right)) (list_all-flat_map in_range (difference_sums right) (combine left)))
+    (list_all-append is_i128 (flat_map (difference_sums right) (combine left)) (triple_numbers (difference left right))
+    ∙ ap (λ b. b && triples_fit (difference left right)) (list_all-flat_map is_i128 (difference_sums right) (combine left)))
 
 -- a test that fails fails with any other
 pub and_false : (a b : Bool) → b ≡ false → (a && b) ≡ false

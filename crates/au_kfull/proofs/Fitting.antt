@@ -3,20 +3,21 @@ use Rattle.std.specs.Prelude.{◌≡◌, ℕ, zero, suc, ◌+◌, ◌-◌, ◌^�
 use Rattle.std.specs.List.{list_all}
 use Rattle.std.proofs.Common.{arith, refl, sym, ◌∙◌, ap, inl, inr, get_or}
 use Rattle.std.proofs.lemmas.Bool.{false_from_ne_true, cases_lt}
+use Rattle.au_value.specs.Numeral.{is_i128}
 use borrow.Author.Tests.{leb-true, ltb-true, le-leb, lt-ltb}
-use Rattle.au_annot.specs.Counts.{fits}
+use Rattle.au_annot.specs.Counts.{count_fits}
 use Rattle.au_annot.specs.Triples as triples
 use Rattle.au_algebra.specs.Bounded.{RangeRow}
-use Rattle.au_algebra.specs.Fits.{in_range, triples_fit}
+use Rattle.au_algebra.specs.Fits.{triples_fit}
 use Rattle.au_kfull.proofs.RowByRow.{split_at}
 
 -- a count lies in the range where it is below 2^127
-pub count_in_range : (n : ℕ) → in_range (pos n) ≡ fits n
+pub count_in_range : (n : ℕ) → is_i128 (pos n) ≡ count_fits n
 count_in_range n = elim (cases_lt n (2 ^ 127)) [
   | inl l ↦ (let le : n ≤ 2 ^ 127 - 1 = omega arith in le-leb n (2 ^ 127 - 1) le ∙ sym (lt-ltb n (2 ^ 127) l))
   | inr m ↦ (
-      false_from_ne_true (in_range (pos n)) (λ t. let le = leb-true n (2 ^ 127 - 1) t in absurd (omega (arith, le, m)))
-      ∙ sym (false_from_ne_true (fits n) (λ t. let lt = ltb-true n (2 ^ 127) t in absurd (omega (arith, lt, m)))))
+      false_from_ne_true (is_i128 (pos n)) (λ t. let le = leb-true n (2 ^ 127 - 1) t in absurd (omega (arith, le, m)))
+      ∙ sym (false_from_ne_true (count_fits n) (λ t. let lt = ltb-true n (2 ^ 127) t in absurd (omega (arith, lt, m)))))
 ]
 
 and_three : (a b c d : Bool) → (a && (b && (c && d))) ≡ ((a && b && c) && d)
@@ -30,7 +31,7 @@ pub triples_fit-map : {A : Type 0} (f : A → RangeRow) (xs : List A) → triple
 triples_fit-map f [] = refl
 triples_fit-map f (x ∷ xs) =
     let t = (f x).annot in
-    and_three (in_range (pos t.least)) (in_range (pos t.guess)) (in_range (pos t.most)) (triples_fit (map f xs))
+    and_three (is_i128 (pos t.least)) (is_i128 (pos t.guess)) (is_i128 (pos t.most)) (triples_fit (map f xs))
     ∙ (λ i. (count_in_range t.least i && count_in_range t.guess i && count_in_range t.most i) && triples_fit-map f xs i)
 
 nothing_left : {A : Type 0} (xs : List A) (i : ℕ) → length xs ≤ i → drop i xs ≡ []

@@ -9,13 +9,14 @@ use Rattle.std.proofs.lemmas.Bool.{eqb-true}
 use Rattle.au_value.specs.declared.kinds.Kind.{Kind}
 use Rattle.au_value.specs.declared.value.Value.{Value}
 use Rattle.au_value.specs.Ranges.{Span, IsRange, IsRangeOf, guesses, all_overlap}
-use Rattle.au_annot.specs.Counts.{fits}
+use Rattle.au_value.specs.Numeral.{is_i128}
+use Rattle.au_annot.specs.Counts.{count_fits}
 use Rattle.au_annot.specs.Triples.{is_none}
 use Rattle.au_algebra.specs.declared.query.Agg.{Agg}
 use Rattle.au_algebra.specs.declared.query.Agg.TheVariants.{Sum, Min, Max}
 use Rattle.au_algebra.specs.Lists.{same_row, copies}
 use Rattle.au_algebra.specs.Bounded.{RangeRow, Bounded, Grouped, grouped, aggregate, group_counts, group_by, guessed_keys, output, present, some_of}
-use Rattle.au_algebra.specs.Fits.{in_range, triples_fit, triple_numbers, agg_numbers, group_numbers}
+use Rattle.au_algebra.specs.Fits.{triples_fit, triple_numbers, agg_numbers, grouping_numbers}
 use Rattle.au_algebra.specs.Laws.{IsRangeRow, IsRelation}
 use Rattle.au_algebra.specs.Typing.{agg_kind, all_kinds}
 use Rattle.au_algebra.proofs.AggregateKinds.{kinds_parts}
@@ -134,10 +135,10 @@ module _ (ks js : List Kind) (aggs : List Agg) (rows : Bounded) (typed : all_kin
 
 -- ---- where the numbers lie in the range
 
-one_or_none : (test : RangeRow → Bool) (rows : Bounded) → in_range (pos (some_of test rows)) ≡ true
+one_or_none : (test : RangeRow → Bool) (rows : Bounded) → is_i128 (pos (some_of test rows)) ≡ true
 one_or_none test rows = elim (cases_Bool (list_any test rows)) [
-  | inl t ↦ ap (λ b. in_range (pos (cond b 1 0))) t
-  | inr f ↦ ap (λ b. in_range (pos (cond b 1 0))) f
+  | inl t ↦ ap (λ b. is_i128 (pos (cond b 1 0))) t
+  | inr f ↦ ap (λ b. is_i128 (pos (cond b 1 0))) f
 ]
 
 three_by : (l g m rest : Bool) → l ≡ true → g ≡ true → (l && (g && (m && rest))) ≡ (m && rest)
@@ -145,21 +146,21 @@ three_by true true m rest p q = refl
 three_by true false m rest p q = absurd (true≢false (sym q))
 three_by false g m rest p q = absurd (true≢false (sym p))
 
-present_by : (b : Bool) (r : RangeRow) (rows : Bounded) → is_none r.annot ≡ b → in_range (pos r.annot.least) ≡ true → in_range (pos r.annot.guess) ≡ true → (b ≡ true → fits r.annot.most ≡ true) → triples_fit (cond (not b) (r ∷ rows) rows) ≡ (fits r.annot.most && triples_fit rows)
+present_by : (b : Bool) (r : RangeRow) (rows : Bounded) → is_none r.annot ≡ b → is_i128 (pos r.annot.least) ≡ true → is_i128 (pos r.annot.guess) ≡ true → (b ≡ true → count_fits r.annot.most ≡ true) → triples_fit (cond (not b) (r ∷ rows) rows) ≡ (count_fits r.annot.most && triples_fit rows)
 present_by true r rows e l g none = ap (λ b. b && triples_fit rows) (sym (none refl))
 present_by false r rows e l g none =
-    three_by (in_range (pos r.annot.least)) (in_range (pos r.annot.guess)) (in_range (pos r.annot.most)) (triples_fit rows) l g
+    three_by (is_i128 (pos r.annot.least)) (is_i128 (pos r.annot.guess)) (is_i128 (pos r.annot.most)) (triples_fit rows) l g
     ∙ ap (λ b. b && triples_fit rows) (count_in_range r.annot.most)
 
-zero_fits : (m : ℕ) → (m == 0) ≡ true → fits m ≡ true
-zero_fits m h = let is : m ≡ 0 = eqb-true m 0 h in ap fits is
+zero_fits : (m : ℕ) → (m == 0) ≡ true → count_fits m ≡ true
+zero_fits m h = let is : m ≡ 0 = eqb-true m 0 h in ap count_fits is
 
 module _ (k : Keys) (aggs : List Agg) (rows : Bounded) where
   abbrev most_fits : List Value → Bool
-  most_fits guess = fits (group_counts (keys_of k) (grouped (keys_of k) rows guess).belonging).most
+  most_fits guess = count_fits (group_counts (keys_of k) (grouped (keys_of k) rows guess).belonging).most
 
   abbrev aggs_fit : List Value → Bool
-  aggs_fit guess = list_all in_range (flat_map (agg_numbers (grouped (keys_of k) rows guess)) aggs)
+  aggs_fit guess = list_all is_i128 (flat_map (agg_numbers (grouped (keys_of k) rows guess)) aggs)
 
   triples_by : (gs : List (List Value)) → triples_fit (present (map (output (keys_of k) aggs rows) gs)) ≡ list_all most_fits gs
   triples_by [] = refl
@@ -194,6 +195,6 @@ module _ (k : Keys) (aggs : List Agg) (rows : Bounded) where
   pub group_fits-each : group_fits k aggs rows ≡ list_all (output_fits k aggs rows) (guessed_keys (keys_of k) rows)
   group_fits-each =
       let gs = guessed_keys (keys_of k) rows in
-      list_all-append in_range (group_numbers (keys_of k) aggs rows) (triple_numbers (group_by (keys_of k) aggs rows))
-      ∙ (λ i. list_all-flat_map in_range (λ g. flat_map (agg_numbers (grouped (keys_of k) rows g)) aggs) gs i && triples_by gs i)
+      list_all-append is_i128 (grouping_numbers (keys_of k) aggs rows) (triple_numbers (group_by (keys_of k) aggs rows))
+      ∙ (λ i. list_all-flat_map is_i128 (λ g. flat_map (agg_numbers (grouped (keys_of k) rows g)) aggs) gs i && triples_by gs i)
       ∙ each_fits gs

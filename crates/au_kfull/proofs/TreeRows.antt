@@ -17,23 +17,23 @@ use Rattle.au_algebra.proofs.TreeRelation.{tree_relation}
 use Rattle.au_keval.specs.declared.rows.Rows.{Rows}
 use Rattle.au_keval.specs.Evaluation.{rows_in}
 use Rattle.au_kfull.specs.declared.keys.Keys.{Keys}
-use Rattle.au_kfull.specs.Gives.{Gives}
+use Rattle.au_kfull.specs.Gives.{GivesOrOverflows}
 use Rattle.au_kfull.specs.Keys.{keys_of}
 use Rattle.au_kfull.specs.Outputs.{group_fits, total_fits}
 use Rattle.au_kfull.specs.Typed.{IsTypedOver, HasTreeKinds}
 
 module _ (r : Result (Rows Span Counts) EvalFault) (rows below : Bounded) (same : rows ≡ below) (fits : Bool) (fit : fits ≡ true) where
   -- the outputs of the part's rows are those of the part
-  pub grouped_gives : (k : Keys) (aggs : List Agg) → Gives r (λ v. rows_in v ≡ group_by (keys_of k) aggs rows) (group_fits k aggs rows) → Gives r (λ v. rows_in v ≡ group_by (keys_of k) aggs below) (fits && group_fits k aggs below)
+  pub grouped_gives : (k : Keys) (aggs : List Agg) → GivesOrOverflows r (λ v. rows_in v ≡ group_by (keys_of k) aggs rows) (group_fits k aggs rows) → GivesOrOverflows r (λ v. rows_in v ≡ group_by (keys_of k) aggs below) (fits && group_fits k aggs below)
   grouped_gives k aggs g =
-      subst (λ b. Gives r (λ v. rows_in v ≡ group_by (keys_of k) aggs below) (b && group_fits k aggs below)) (sym fit)
-      (subst (λ xs. Gives r (λ v. rows_in v ≡ group_by (keys_of k) aggs xs) (group_fits k aggs xs)) same g)
+      subst (λ b. GivesOrOverflows r (λ v. rows_in v ≡ group_by (keys_of k) aggs below) (b && group_fits k aggs below)) (sym fit)
+      (subst (λ xs. GivesOrOverflows r (λ v. rows_in v ≡ group_by (keys_of k) aggs xs) (group_fits k aggs xs)) same g)
 
   -- and so are the sums over all
-  pub summed_gives : (aggs : List Agg) → Gives r (λ v. rows_in v ≡ total aggs rows) (total_fits aggs rows) → Gives r (λ v. rows_in v ≡ total aggs below) (fits && total_fits aggs below)
+  pub summed_gives : (aggs : List Agg) → GivesOrOverflows r (λ v. rows_in v ≡ total aggs rows) (total_fits aggs rows) → GivesOrOverflows r (λ v. rows_in v ≡ total aggs below) (fits && total_fits aggs below)
   summed_gives aggs g =
-      subst (λ b. Gives r (λ v. rows_in v ≡ total aggs below) (b && total_fits aggs below)) (sym fit)
-      (subst (λ xs. Gives r (λ v. rows_in v ≡ total aggs xs) (total_fits aggs xs)) same g)
+      subst (λ b. GivesOrOverflows r (λ v. rows_in v ≡ total aggs below) (b && total_fits aggs below)) (sym fit)
+      (subst (λ xs. GivesOrOverflows r (λ v. rows_in v ≡ total aggs xs) (total_fits aggs xs)) same g)
 
 module _ (q : Tree) (ts : List Bounded) (rel : Bounded) (same : rel ≡ bounded q ts) where
   -- the rows have the tree's kinds

@@ -11,8 +11,8 @@ use Rattle.au_algebra.specs.Entries.{entry}
 use Rattle.au_keval.specs.Reading as reading
 
 -- rows of values of these kinds
-abbrev pub IsTable : List Kind → List CountedRow → Type 0
-IsTable ks rows = reading.IsRelation IsKind (λ n. Unit {0}) ks rows
+abbrev pub IsCountedTable : List Kind → List CountedRow → Type 0
+IsCountedTable ks rows = reading.IsRelationOver IsKind (λ n. Unit {0}) ks rows
 
 -- each value is a range of its own, and the count is least, guess and most
 abbrev pub embedded_row : CountedRow → RangeRow

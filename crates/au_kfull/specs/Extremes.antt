@@ -7,7 +7,7 @@ use Rattle.au_value.specs.declared.value.Value.{Value}
 use Rattle.au_value.specs.Ranges.{IsRangeOf, lesser, greater}
 use Rattle.au_algebra.specs.declared.query.Agg.{Agg}
 use Rattle.au_algebra.specs.declared.query.Agg.TheVariants.{Sum, Min, Max}
-use Rattle.au_algebra.specs.Bounded.{RangeRow, Bounded, Grouped, column, guessed_there}
+use Rattle.au_algebra.specs.Bounded.{RangeRow, Bounded, Grouped, range_at, guessed_there}
 use Rattle.au_algebra.specs.Lists.{least, greatest}
 use Rattle.au_kfull.specs.declared.extremes.Extreme.{Extreme}
 use Rattle.au_kfull.specs.declared.extremes.Extreme.TheVariants.{Least, Greatest}
@@ -30,12 +30,12 @@ opposite Greatest = Least
 
 -- one of the values of a column, row by row
 abbrev pub values_at : Bound → ℕ → Bounded → List Value
-values_at bound c rows = map (λ r. end_of bound (column c r)) rows
+values_at bound c rows = map (λ r. end_of bound (range_at c r)) rows
 
 -- the row has the column, with a range of this kind
 pub record HasColumn (k : Kind) (c : ℕ) (r : RangeRow) : Type 0 where
   pub inside : c < length r.cells
-  pub range : IsRangeOf k (column c r)
+  pub range : IsRangeOf k (range_at c r)
 
 -- rows that have the column
 abbrev pub HaveColumn : Kind → ℕ → Bounded → Type 0

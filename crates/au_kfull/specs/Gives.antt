@@ -5,5 +5,5 @@ use Rattle.au_expr.specs.declared.fault.EvalFault.{EvalFault}
 use Rattle.au_expr.specs.declared.fault.EvalFault.TheVariants as fault
 
 -- the result is so, and the numbers fit, or they do not, unless memory was wanting
-abbrev pub Gives : {T : Type 0} → Result T EvalFault → (T → Type 0) → Bool → Type 0
-Gives result P fits = MatchResult result (λ v. P v × IsTrue fits) (λ f. f ≡ fault.Overflow → fits ≡ false)
+abbrev pub GivesOrOverflows : {T : Type 0} → Result T EvalFault → (T → Type 0) → Bool → Type 0
+GivesOrOverflows result P fits = MatchResult result (λ v. P v × IsTrue fits) (λ f. f ≡ fault.Overflow → fits ≡ false)

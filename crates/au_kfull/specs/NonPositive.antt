@@ -1,7 +1,7 @@
 -- The three operators that are not positive, over cells with any annotations: at ranges with triples those of bounded
 -- relations, at values with counts the guesses of these over the embedded rows.
 use Rattle.std.specs.Prelude.{ℕ, Bool, List}
-use Rattle.au_expr.specs.Holding.{World, possible, guess}
+use Rattle.au_expr.specs.Holding.{WhichWorld, possible, guess}
 use Rattle.au_algebra.specs.Counted.{CountedRow, StandsFor}
 use Rattle.au_algebra.specs.declared.query.Agg.{Agg}
 use Rattle.au_algebra.specs.Bounded as bounded
@@ -22,8 +22,8 @@ pub record NonPositive (Row R : Type 0) : Type 0 where
   pub total : List Agg → List Row → R
 
 -- the bounded operators, and whether their numbers lie in the range
-abbrev pub on_ranges : NonPositive RangeRow Bounded
-on_ranges = record { difference = bounded.difference; group = bounded.group; total = bounded.total }
+abbrev pub bounded_operators : NonPositive RangeRow Bounded
+bounded_operators = record { difference = bounded.difference; group = bounded.group; total = bounded.total }
 
 abbrev pub ranges_fit : NonPositive RangeRow Bool
 ranges_fit = record {
@@ -33,13 +33,13 @@ ranges_fit = record {
 }
 
 -- a relation stands for the lists that it bounds in a possible world, and for those that it guesses in the guess world
-abbrev pub RangesStandFor : World → Bounded → Rows → Type 0
+abbrev pub RangesStandFor : WhichWorld → Bounded → Rows → Type 0
 RangesStandFor possible rows world = Bounds rows world
 RangesStandFor guess rows world = Guesses rows world
 
 -- the guesses over the embedded rows, and whether the numbers of these lie in the range
-abbrev pub on_values : NonPositive CountedRow (List CountedRow)
-on_values = record {
+abbrev pub counted_operators : NonPositive CountedRow (List CountedRow)
+counted_operators = record {
   difference = λ left right. guessed_rows (bounded.difference (embedded left) (embedded right));
   group = λ keys aggs rows. guessed_rows (bounded.group keys aggs (embedded rows));
   total = λ aggs rows. guessed_rows (bounded.total aggs (embedded rows));
@@ -53,5 +53,5 @@ values_fit = record {
 }
 
 -- rows with counts stand for a list in each world alike
-abbrev pub ValuesStandFor : World → List CountedRow → Rows → Type 0
+abbrev pub ValuesStandFor : WhichWorld → List CountedRow → Rows → Type 0
 ValuesStandFor w rows world = StandsFor rows world

@@ -2,14 +2,15 @@
 -- and what makes its work possible.
 use Rattle.std.specs.Prelude.{Bool, ◌++◌, flat_map}
 use Rattle.std.specs.List.{list_all}
+use Rattle.au_value.specs.Numeral.{is_i128}
 use Rattle.au_annot.specs.Triples.{IsTriple}
 use Rattle.au_algebra.specs.Bounded.{RangeRow, Bounded, combine, difference, less}
-use Rattle.au_algebra.specs.Fits.{triple_numbers, difference_sums, in_range}
+use Rattle.au_algebra.specs.Fits.{triple_numbers, difference_sums}
 use Rattle.au_kfull.specs.Keys.{kinds, HasKinds}
 
 -- the three sums over the right rows
 abbrev pub sums_fit : Bounded → RangeRow → Bool
-sums_fit right t = list_all in_range (difference_sums right t)
+sums_fit right t = list_all is_i128 (difference_sums right t)
 
 -- the right rows have the row's kinds, and what is left of it is a triple
 pub record IsReady (right : Bounded) (t : RangeRow) : Type 0 where
@@ -19,6 +20,6 @@ pub record IsReady (right : Bounded) (t : RangeRow) : Type 0 where
 -- the combined triples, the sums of each combined row, and what is left of it
 abbrev pub difference_fits : Bounded → Bounded → Bool
 difference_fits left right =
-    list_all in_range
+    list_all is_i128
     (triple_numbers (combine left)
     ++ (flat_map (difference_sums right) (combine left) ++ triple_numbers (difference left right)))

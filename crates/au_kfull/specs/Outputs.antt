@@ -5,11 +5,12 @@ use Rattle.std.specs.List.{AllByRecursion, list_all}
 use Rattle.au_value.specs.declared.kinds.Kind.{Kind}
 use Rattle.au_value.specs.declared.value.Value.{Value}
 use Rattle.au_value.specs.Ranges.{Span, IsRange, guesses}
+use Rattle.au_value.specs.Numeral.{is_i128}
 use Rattle.au_annot.specs.Triples.{IsTriple}
-use Rattle.au_annot.specs.Counts.{fits}
+use Rattle.au_annot.specs.Counts.{count_fits}
 use Rattle.au_algebra.specs.declared.query.Agg.{Agg}
 use Rattle.au_algebra.specs.Bounded.{RangeRow, Bounded, Grouped, aggregate, all_rows, grouped, group_by, group_counts, output}
-use Rattle.au_algebra.specs.Fits.{agg_numbers, group_numbers, triple_numbers, in_range}
+use Rattle.au_algebra.specs.Fits.{agg_numbers, grouping_numbers, triple_numbers}
 use Rattle.au_algebra.specs.Typing.{agg_kind, all_kinds, is_sum}
 use Rattle.au_kfull.specs.declared.keys.Keys.{Keys}
 use Rattle.au_kfull.specs.Extremes.{IsPossible}
@@ -34,8 +35,8 @@ pub record IsOutputReady (keys : Keys) (aggs : List Agg) (rows : Bounded) (head 
 -- the numbers of the aggregates, and the greatest count
 abbrev pub output_fits : Keys → List Agg → Bounded → List Value → Bool
 output_fits keys aggs rows guess =
-    fits (group_counts (keys_of keys) (grouped (keys_of keys) rows guess).belonging).most
-    && list_all in_range (flat_map (agg_numbers (grouped (keys_of keys) rows guess)) aggs)
+    count_fits (group_counts (keys_of keys) (grouped (keys_of keys) rows guess).belonging).most
+    && list_all is_i128 (flat_map (agg_numbers (grouped (keys_of keys) rows guess)) aggs)
 
 -- the output of a row's guessed keys, and whether its numbers lie in the range
 unfoldable pub made_output : Keys → List Agg → Bounded → List Span → RangeRow
@@ -51,7 +52,7 @@ pub record CanGroup (ks : List Kind) (aggs : List Agg) : Type 0 where
 
 -- the numbers of a group, those of its triples included
 abbrev pub group_fits : Keys → List Agg → Bounded → Bool
-group_fits keys aggs rows = list_all in_range (group_numbers (keys_of keys) aggs rows ++ triple_numbers (group_by (keys_of keys) aggs rows))
+group_fits keys aggs rows = list_all is_i128 (grouping_numbers (keys_of keys) aggs rows ++ triple_numbers (group_by (keys_of keys) aggs rows))
 
 -- the rows fit sums over all: each aggregate is a sum, and has a kind
 pub record CanTotal (ks : List Kind) (aggs : List Agg) : Type 0 where
@@ -61,4 +62,4 @@ pub record CanTotal (ks : List Kind) (aggs : List Agg) : Type 0 where
 
 -- the numbers of sums over all rows
 abbrev pub total_fits : List Agg → Bounded → Bool
-total_fits aggs rows = list_all in_range (flat_map (agg_numbers (all_rows rows)) aggs)
+total_fits aggs rows = list_all is_i128 (flat_map (agg_numbers (all_rows rows)) aggs)

@@ -12,7 +12,7 @@ use Rattle.au_algebra.specs.Bounded.{Bounded}
 use Rattle.au_algebra.specs.Laws.{IsRelation}
 use Rattle.au_algebra.specs.Trees.{Tree}
 use Rattle.au_algebra.specs.Typing.{items_kinds, kinds_of, IsTyped}
-use Rattle.au_kfull.specs.Embedding.{IsTable}
+use Rattle.au_kfull.specs.Embedding.{IsCountedTable}
 use Rattle.au_kfull.specs.Outputs.{CanGroup, CanTotal}
 
 -- the tree is typed for the relations
@@ -26,14 +26,14 @@ HasTreeKinds q ts rows =
 
 -- the tree is typed for tables of values with counts
 abbrev pub IsTypedOverValues : Tree → List (List CountedRow) → Type 0
-IsTypedOverValues q ts = (kinds : List (List Kind)) × IsTyped kinds q × AllZip IsTable kinds ts
+IsTypedOverValues q ts = (kinds : List (List Kind)) × IsTyped kinds q × AllZip IsCountedTable kinds ts
 
 -- rows of values of the kinds that the tree is typed with
 abbrev pub HasValueKinds : Tree → List (List CountedRow) → List CountedRow → Type 0
 HasValueKinds q ts rows =
     (kinds : List (List Kind)) (ks : List Kind) →
-    AllZip IsTable kinds ts → kinds_of kinds q ≡ Some ks →
-    IsTable ks rows
+    AllZip IsCountedTable kinds ts → kinds_of kinds q ≡ Some ks →
+    IsCountedTable ks rows
 
 -- the expression is a condition on the rows
 abbrev pub CanSelect : Term → Bounded → Type 0

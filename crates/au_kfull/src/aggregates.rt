@@ -4,11 +4,12 @@ ghost use Rattle.std.specs.List.{list_all};
 ghost use Rattle.au_value.specs.Ranges.{IsRange, all_certain, range as range_of};
 ghost use Rattle.au_value.specs.declared.kinds.Kind.{Kind};
 ghost use Rattle.au_value.specs.declared.value.Value.TheVariants as value;
+ghost use Rattle.au_value.specs.Numeral.{is_i128};
 ghost use Rattle.au_algebra.specs.Bounded.{aggregate as aggregate_of, guess_if};
-ghost use Rattle.au_algebra.specs.Fits.{agg_numbers, in_range};
+ghost use Rattle.au_algebra.specs.Fits.{agg_numbers};
 ghost use Rattle.au_algebra.specs.declared.query.Agg.TheVariants as agg;
 ghost use Rattle.au_kfull.specs.Extremes.{extreme_of, values_at, HasExtremes, HaveColumn, IsPossible};
-ghost use Rattle.au_kfull.specs.Gives.{Gives};
+ghost use Rattle.au_kfull.specs.Gives.{GivesOrOverflows};
 ghost use Rattle.au_kfull.specs.Groups.{seen, MagnitudesFit};
 ghost use Rattle.au_kfull.specs.Keys.{keys_of as the_keys};
 ghost use Rattle.au_kfull.specs.declared.sums.Bound.TheVariants as bound;
@@ -159,7 +160,7 @@ fn greatest_range(alloc: Global, group: &Grouping<'_>, at: usize) -> Result<Rang
 pub(crate) fn aggregate(alloc: Global, group: &Grouping<'_>, agg: Agg) -> Result<Range, EvalFault>
     requires possible { IsPossible (seen group.now) agg }
     requires ordered { IsRange (aggregate_of (seen group.now) agg) }
-    ensures { Gives result (λ r. r ≡ aggregate_of (seen group.now) agg) (list_all in_range (agg_numbers (seen group.now) agg)) }
+    ensures { GivesOrOverflows result (λ r. r ≡ aggregate_of (seen group.now) agg) (list_all is_i128 (agg_numbers (seen group.now) agg)) }
 {
     match agg {
         Agg::Sum(at) => Ok(sum_range(group, at)?),

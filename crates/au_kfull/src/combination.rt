@@ -2,7 +2,7 @@
 ghost use Rattle.std.specs.Prelude.{◌≡◌, IfErr, IfOk, IsTrue, List, OkIff, OnOk, false, map};
 ghost use Rattle.std.specs.List.{AllByRecursion};
 ghost use Rattle.au_expr.specs.declared.fault.EvalFault.TheVariants as fault;
-ghost use Rattle.au_annot.specs.Triples.{total, in_range};
+ghost use Rattle.au_annot.specs.Triples.{total_counts, in_range};
 ghost use Rattle.au_value.specs.declared.kinds.Kind.{Kind};
 ghost use Rattle.au_algebra.specs.Bounded.{combine as combine_of, merged as merged_of};
 ghost use Rattle.au_algebra.specs.Distribution.{Bounds};
@@ -10,7 +10,7 @@ ghost use Rattle.au_algebra.specs.Entries.{entry};
 ghost use Rattle.au_algebra.specs.Fits.{triples_fit};
 ghost use Rattle.au_algebra.specs.Laws.{Guesses, IsRelation};
 ghost use Rattle.au_algebra.specs.Ordinary.{Rows};
-ghost use Rattle.au_kfull.specs.Gives.{Gives};
+ghost use Rattle.au_kfull.specs.Gives.{GivesOrOverflows};
 ghost use Rattle.au_kfull.specs.Keys.{HasKinds};
 
 use crate::hull::hull_of;
@@ -25,7 +25,7 @@ use std::alloc::Global;
 
 // The sum of the triples of some rows.
 fn sum_of(rows: &[Tuple<'_, Range, Triple>]) -> Result<Triple, Overflow>
-    ensures { let sum = total (map (λ r. r.annot) rows.now) in OkIff result (IsTrue (in_range sum)) sum }
+    ensures { let sum = total_counts (map (λ r. r.annot) rows.now) in OkIff result (IsTrue (in_range sum)) sum }
 {
     let mut sum = Triple::zero();
     for row in rows {
@@ -40,7 +40,7 @@ fn merged(
     rows: &[Tuple<'_, Range, Triple>],
 ) -> Result<(Vec<Range>, Triple), EvalFault>
     requires { (ks : List Kind) × HasKinds ks rows.now }
-    ensures { let row = merged_of rows.now in Gives result (λ r. entry r.0.items r.1 ≡ row) (in_range row.annot) }
+    ensures { let row = merged_of rows.now in GivesOrOverflows result (λ r. entry r.0.items r.1 ≡ row) (in_range row.annot) }
 {
     let sum = sum_of(rows)?;
     Ok((hull_of(alloc, Keys::All, rows)?, sum))
@@ -52,7 +52,7 @@ fn all_merged(
     groups: &[Vec<Tuple<'_, Range, Triple>>],
 ) -> Result<Rel<Range, Triple>, EvalFault>
     requires { (ks : List Kind) × AllByRecursion (λ g. HasKinds ks g.items) groups.now }
-    ensures { let rows = map (λ g. merged_of g.items) groups.now in Gives result (λ r. r ≡ rows) (triples_fit rows) }
+    ensures { let rows = map (λ g. merged_of g.items) groups.now in GivesOrOverflows result (λ r. r ≡ rows) (triples_fit rows) }
 {
     let mut rel = Rel::new(alloc);
     for group in groups {
@@ -69,7 +69,7 @@ pub(crate) fn combined(
     rows: &[Tuple<'_, Range, Triple>],
 ) -> Result<Rel<Range, Triple>, EvalFault>
     requires { (ks : List Kind) × HasKinds ks rows.now }
-    ensures { Gives result (λ r. r ≡ combine_of rows.now) (triples_fit (combine_of rows.now)) }
+    ensures { GivesOrOverflows result (λ r. r ≡ combine_of rows.now) (triples_fit (combine_of rows.now)) }
 {
     let groups = grouped_by_guesses(alloc, rows)?;
     all_merged(alloc, &groups)

@@ -4,7 +4,7 @@ ghost use Rattle.std.specs.List.{AllByRecursion, list_all};
 ghost use Rattle.au_algebra.specs.Bounded.{difference as difference_of, less as less_of, present};
 ghost use Rattle.au_algebra.specs.Entries.{entry};
 ghost use Rattle.au_expr.specs.declared.fault.EvalFault.TheVariants as fault;
-ghost use Rattle.au_kfull.specs.Gives.{Gives};
+ghost use Rattle.au_kfull.specs.Gives.{GivesOrOverflows};
 ghost use Rattle.au_kfull.specs.Numbers.{difference_fits, sums_fit, IsReady};
 ghost use Rattle.au_kfull.specs.Typed.{AreAlike};
 
@@ -48,7 +48,7 @@ fn rest_of(
     right: &[Tuple<'_, Range, Triple>],
 ) -> Result<Rel<Range, Triple>, EvalFault>
     requires { AllByRecursion (IsReady right.now) (map (λ r. entry r.0.items r.1) left.items) }
-    ensures { let rows = map (λ r. entry r.0.items r.1) left.items in Gives result (λ r. r ≡ present (map (less_of right.now) rows)) (list_all (sums_fit right.now) rows) }
+    ensures { let rows = map (λ r. entry r.0.items r.1) left.items in GivesOrOverflows result (λ r. r ≡ present (map (less_of right.now) rows)) (list_all (sums_fit right.now) rows) }
 {
     let mut rel = Rel::new(alloc);
     for (cells, triple) in left {
@@ -65,7 +65,7 @@ pub(crate) fn subtract(
     right: &[Row<Range, Triple>],
 ) -> Result<Rel<Range, Triple>, EvalFault>
     requires { AreAlike (map (λ r. entry r.0.items r.1) left.now) (map (λ r. entry r.0.items r.1) right.now) }
-    ensures { let left = map (λ r. entry r.0.items r.1) left.now in let right = map (λ r. entry r.0.items r.1) right.now in Gives result (λ r. r ≡ difference_of left right) (difference_fits left right) }
+    ensures { let left = map (λ r. entry r.0.items r.1) left.now in let right = map (λ r. entry r.0.items r.1) right.now in GivesOrOverflows result (λ r. r ≡ difference_of left right) (difference_fits left right) }
 {
     let lent = tuples(alloc, left)?;
     let combined = combined(alloc, &lent)?;

@@ -2,7 +2,7 @@
 ghost use Rattle.std.specs.Prelude.{◌≡◌, ◌<◌, [], ◌∷◌, MatchOption, length};
 ghost use Rattle.au_value.specs.Order.{kind_of};
 ghost use Rattle.au_value.specs.declared.kinds.Kind.{Kind};
-ghost use Rattle.au_algebra.specs.Bounded.{column, or_else};
+ghost use Rattle.au_algebra.specs.Bounded.{range_at, or_else};
 ghost use Rattle.au_kfull.specs.Extremes.{better as better_of, extreme_of, opposite as opposite_of, values_at, HasColumn, HaveColumn};
 ghost use Rattle.au_kfull.specs.Groups.{end_of as end_of_range};
 
@@ -42,7 +42,7 @@ fn better<'a>(which: Extreme, a: &'a Value, b: &'a Value) -> &'a Value
 // One of the three values in a column of a row.
 fn value_at<'a>(bound: Bound, at: usize, row: &Tuple<'a, Range, Triple>) -> &'a Value
     requires { at < length row.now.cells }
-    ensures { result.now ≡ end_of_range bound (column at row.now) }
+    ensures { result.now ≡ end_of_range bound (range_at at row.now) }
 {
     let cells = row.cells();
     end_of(bound, &cells[at])

@@ -1,15 +1,15 @@
 //! Difference, groups and sums over all rows, over any domain and annotation that has them.
 ghost use Rattle.std.specs.Prelude.{◌≡◌, Bool, IfErr, IfOk, IsTrue, List, OnOk, Some, false};
 ghost use Rattle.au_value.specs.declared.kinds.Kind.{Kind};
-ghost use Rattle.au_expr.specs.Holding.{World};
+ghost use Rattle.au_expr.specs.Holding.{WhichWorld};
 ghost use Rattle.au_expr.specs.declared.fault.EvalFault.TheVariants as fault;
 ghost use Rattle.au_algebra.specs.Entries.{Entry};
 ghost use Rattle.au_algebra.specs.Laws.{IsRelation};
 ghost use Rattle.au_algebra.specs.Ordinary as ordinary;
 ghost use Rattle.au_algebra.specs.Ordinary.{Rows};
 ghost use Rattle.au_algebra.specs.Typing.{group_kinds, total_kinds};
-ghost use Rattle.au_kfull.specs.Embedding.{IsTable};
-ghost use Rattle.au_kfull.specs.NonPositive.{NonPositive, RangesStandFor, ValuesStandFor, on_ranges, on_values, ranges_fit, values_fit};
+ghost use Rattle.au_kfull.specs.Embedding.{IsCountedTable};
+ghost use Rattle.au_kfull.specs.NonPositive.{NonPositive, RangesStandFor, ValuesStandFor, bounded_operators, counted_operators, ranges_fit, values_fit};
 ghost use Rattle.au_kfull.specs.Outputs.{CanGroup, CanTotal};
 
 use crate::{differences, groups, totals, values};
@@ -36,7 +36,7 @@ pub trait Full<D: Domain>: Weigh<D> {
     ghost is_relation: { List Kind → List (Entry D.Cell Self) → Type 0 };
 
     /// The lists of rows that a relation stands for in a world.
-    ghost stands_for: { World → List (Entry D.Cell Self) → Rows → Type 0 };
+    ghost stands_for: { WhichWorld → List (Entry D.Cell Self) → Rows → Type 0 };
 
     /// The left rows without the right ones: as many copies of a row are taken out as the right side has.
     fn difference(
@@ -47,7 +47,7 @@ pub trait Full<D: Domain>: Weigh<D> {
         requires { (ks : List Kind) × is_relation ks left.now × is_relation ks right.now }
         ensures rows { IfOk result (λ r. r ≡ operators.difference left.now right.now) }
         ensures kinds { IfOk result (λ r. (ks : List Kind) → is_relation ks left.now → is_relation ks right.now → is_relation ks r) }
-        ensures stands { IfOk result (λ r. (w : World) (xs ys : Rows) → stands_for w left.now xs → stands_for w right.now ys → stands_for w r (ordinary.difference xs ys)) }
+        ensures stands { IfOk result (λ r. (w : WhichWorld) (xs ys : Rows) → stands_for w left.now xs → stands_for w right.now ys → stands_for w r (ordinary.difference xs ys)) }
         ensures fits { OnOk result (IsTrue (fits.difference left.now right.now)) }
         ensures overflow { IfErr result (λ f. f ≡ fault.Overflow → fits.difference left.now right.now ≡ false) };
 
@@ -61,7 +61,7 @@ pub trait Full<D: Domain>: Weigh<D> {
         requires { (ks : List Kind) × is_relation ks of.now × CanGroup ks aggs.now }
         ensures rows { IfOk result (λ r. r ≡ operators.group keys aggs.now of.now) }
         ensures kinds { IfOk result (λ r. (ks js : List Kind) → is_relation ks of.now → group_kinds keys aggs.now ks ≡ Some js → is_relation js r) }
-        ensures stands { IfOk result (λ r. (w : World) (xs : Rows) → stands_for w of.now xs → stands_for w r (ordinary.group keys aggs.now xs)) }
+        ensures stands { IfOk result (λ r. (w : WhichWorld) (xs : Rows) → stands_for w of.now xs → stands_for w r (ordinary.group keys aggs.now xs)) }
         ensures fits { OnOk result (IsTrue (fits.group keys aggs.now of.now)) }
         ensures overflow { IfErr result (λ f. f ≡ fault.Overflow → fits.group keys aggs.now of.now ≡ false) };
 
@@ -74,14 +74,14 @@ pub trait Full<D: Domain>: Weigh<D> {
         requires { (ks : List Kind) × is_relation ks of.now × CanTotal ks aggs.now }
         ensures rows { IfOk result (λ r. r ≡ operators.total aggs.now of.now) }
         ensures kinds { IfOk result (λ r. (ks js : List Kind) → is_relation ks of.now → total_kinds aggs.now ks ≡ Some js → is_relation js r) }
-        ensures stands { IfOk result (λ r. (w : World) (xs : Rows) → stands_for w of.now xs → stands_for w r (ordinary.total aggs.now xs)) }
+        ensures stands { IfOk result (λ r. (w : WhichWorld) (xs : Rows) → stands_for w of.now xs → stands_for w r (ordinary.total aggs.now xs)) }
         ensures fits { OnOk result (IsTrue (fits.total aggs.now of.now)) }
         ensures overflow { IfErr result (λ f. f ≡ fault.Overflow → fits.total aggs.now of.now ≡ false) };
 }
 
 /// The bounded operators.
 impl Full<RangeDomain> for Triple {
-    ghost operators = { on_ranges };
+    ghost operators = { bounded_operators };
 
     ghost fits = { ranges_fit };
 
@@ -118,11 +118,11 @@ impl Full<RangeDomain> for Triple {
 /// The ordinary operators on rows with the number of their copies: the guesses of the bounded operators, each value
 /// taken as a range of its own.
 impl Full<PlainDomain> for Count {
-    ghost operators = { on_values };
+    ghost operators = { counted_operators };
 
     ghost fits = { values_fit };
 
-    ghost is_relation = { IsTable };
+    ghost is_relation = { IsCountedTable };
 
     ghost stands_for = { ValuesStandFor };
 

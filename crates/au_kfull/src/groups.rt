@@ -6,7 +6,7 @@ ghost use Rattle.au_expr.specs.declared.fault.EvalFault.TheVariants as fault;
 ghost use Rattle.au_algebra.specs.Bounded.{distinct_rows, group as group_of, group_by, present};
 ghost use Rattle.au_algebra.specs.Entries.{entry};
 ghost use Rattle.au_algebra.specs.Laws.{IsRelation};
-ghost use Rattle.au_kfull.specs.Gives.{Gives};
+ghost use Rattle.au_kfull.specs.Gives.{GivesOrOverflows};
 ghost use Rattle.au_kfull.specs.Keys.{keys_of as the_keys};
 ghost use Rattle.au_kfull.specs.Outputs.{IsOutputReady, group_fits, made_fits, made_output};
 ghost use Rattle.au_kfull.specs.Typed.{IsGroupable};
@@ -31,7 +31,7 @@ fn outputs(
     rows: &[Tuple<'_, Range, Triple>],
 ) -> Result<Rel<Range, Triple>, EvalFault>
     requires { AllByRecursion (λ h. IsOutputReady keys aggs.now rows.now h.cells) heads.now }
-    ensures { Gives result (λ r. r ≡ present (map (λ h. made_output keys aggs.now rows.now h.cells) heads.now)) (list_all (λ h. made_fits keys aggs.now rows.now h.cells) heads.now) }
+    ensures { GivesOrOverflows result (λ r. r ≡ present (map (λ h. made_output keys aggs.now rows.now h.cells) heads.now)) (list_all (λ h. made_fits keys aggs.now rows.now h.cells) heads.now) }
 {
     let mut rel = Rel::new(alloc);
     for head in heads {
@@ -49,7 +49,7 @@ pub(crate) fn grouped(
     of: &[Row<Range, Triple>],
 ) -> Result<Rel<Range, Triple>, EvalFault>
     requires { IsGroupable aggs.now (map (λ r. entry r.0.items r.1) of.now) }
-    ensures { let rows = map (λ r. entry r.0.items r.1) of.now in Gives result (λ r. r ≡ group_by (the_keys keys) aggs.now rows) (group_fits keys aggs.now rows) }
+    ensures { let rows = map (λ r. entry r.0.items r.1) of.now in GivesOrOverflows result (λ r. r ≡ group_by (the_keys keys) aggs.now rows) (group_fits keys aggs.now rows) }
 {
     let rows = tuples(alloc, of)?;
     let heads = firsts(alloc, keys, &rows)?;

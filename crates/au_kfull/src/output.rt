@@ -1,10 +1,11 @@
 //! An output of a group.
 ghost use Rattle.std.specs.Prelude.{◌≡◌, ◌++◌, ◌∷◌, [], OnOk, flat_map, map};
 ghost use Rattle.std.specs.List.{AllByRecursion, list_all};
+ghost use Rattle.au_value.specs.Numeral.{is_i128};
 ghost use Rattle.au_algebra.specs.Bounded.{aggregate as aggregate_of};
 ghost use Rattle.au_algebra.specs.Entries.{entry};
-ghost use Rattle.au_algebra.specs.Fits.{agg_numbers, in_range};
-ghost use Rattle.au_kfull.specs.Gives.{Gives};
+ghost use Rattle.au_algebra.specs.Fits.{agg_numbers};
+ghost use Rattle.au_kfull.specs.Gives.{GivesOrOverflows};
 ghost use Rattle.au_kfull.specs.Groups.{seen};
 ghost use Rattle.au_kfull.specs.Outputs.{CanAggregate, IsOutputReady, made_fits, made_output};
 
@@ -35,7 +36,7 @@ pub(crate) fn push_aggregates(
     aggs: &[Agg],
 ) -> Result<Vec<Range>, EvalFault>
     requires { AllByRecursion (CanAggregate (seen group.now)) aggs.now }
-    ensures { Gives result (λ v. v.items ≡ cells.items ++ map (aggregate_of (seen group.now)) aggs.now) (list_all in_range (flat_map (agg_numbers (seen group.now)) aggs.now)) }
+    ensures { GivesOrOverflows result (λ v. v.items ≡ cells.items ++ map (aggregate_of (seen group.now)) aggs.now) (list_all is_i128 (flat_map (agg_numbers (seen group.now)) aggs.now)) }
 {
     let mut cells = cells;
     for agg in aggs {
@@ -53,7 +54,7 @@ pub(crate) fn output(
     rows: &[Tuple<'_, Range, Triple>],
 ) -> Result<(Vec<Range>, Triple), EvalFault>
     requires { IsOutputReady keys aggs.now rows.now head.now }
-    ensures { Gives result (λ r. entry r.0.items r.1 ≡ made_output keys aggs.now rows.now head.now) (made_fits keys aggs.now rows.now head.now) }
+    ensures { GivesOrOverflows result (λ r. entry r.0.items r.1 ≡ made_output keys aggs.now rows.now head.now) (made_fits keys aggs.now rows.now head.now) }
 {
     let (hull, group) = gather(alloc, keys, head, rows)?;
     let triple = counts(keys, &group.belonging)?;

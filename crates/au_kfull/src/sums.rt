@@ -2,7 +2,7 @@
 ghost use Rattle.std.specs.Prelude.{◌≡◌, ◌<◌, ◌^◌, ◌*ℤ◌, IsTrue, OkIff, map, nat_abs, pos, sum_by, if◌then◌else◌};
 ghost use Rattle.au_value.specs.Numeral.{is_i128};
 ghost use Rattle.au_expr.specs.Ordinary.{number as number_of};
-ghost use Rattle.au_algebra.specs.Bounded.{column, sure as sure_of};
+ghost use Rattle.au_algebra.specs.Bounded.{range_at, sure as sure_of};
 ghost use Rattle.au_algebra.specs.Lists.{int_sum};
 ghost use Rattle.au_kfull.specs.Groups.{end_of, like, term_of};
 
@@ -44,7 +44,7 @@ fn number(value: &Value) -> i128
 
 // The number in a column of a row, and 0 past the last.
 fn number_at(bound: Bound, at: usize, row: &Tuple<'_, Range, Triple>) -> i128
-    ensures value { result ≡ number_of (end_of bound (column at row.now)) }
+    ensures value { result ≡ number_of (end_of bound (range_at at row.now)) }
 {
     match row.cells().get(at) {
         Some(range) => number(end_of(bound, range)),

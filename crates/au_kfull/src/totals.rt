@@ -4,7 +4,7 @@ ghost use Rattle.au_annot.specs.Triples.{one};
 ghost use Rattle.au_expr.specs.declared.fault.EvalFault.TheVariants as fault;
 ghost use Rattle.au_algebra.specs.Bounded.{aggregate, all_rows, total as total_of};
 ghost use Rattle.au_algebra.specs.Entries.{entry};
-ghost use Rattle.au_kfull.specs.Gives.{Gives};
+ghost use Rattle.au_kfull.specs.Gives.{GivesOrOverflows};
 ghost use Rattle.au_kfull.specs.Outputs.{total_fits};
 ghost use Rattle.au_kfull.specs.Typed.{IsSummable};
 
@@ -31,7 +31,7 @@ fn single(alloc: Global, cells: Vec<Range>) -> Result<Rel<Range, Triple>, NoMemo
 // The ranges of the sums over all rows.
 fn sums(alloc: Global, aggs: &[Agg], of: &[Row<Range, Triple>]) -> Result<Vec<Range>, EvalFault>
     requires { IsSummable aggs.now (map (λ r. entry r.0.items r.1) of.now) }
-    ensures { let rows = map (λ r. entry r.0.items r.1) of.now in Gives result (λ v. v.items ≡ map (aggregate (all_rows rows)) aggs.now) (total_fits aggs.now rows) }
+    ensures { let rows = map (λ r. entry r.0.items r.1) of.now in GivesOrOverflows result (λ v. v.items ≡ map (aggregate (all_rows rows)) aggs.now) (total_fits aggs.now rows) }
 {
     let belonging = tuples(alloc, of)?;
     let members = tuples(alloc, of)?;
@@ -52,7 +52,7 @@ pub(crate) fn summed(
     of: &[Row<Range, Triple>],
 ) -> Result<Rel<Range, Triple>, EvalFault>
     requires { IsSummable aggs.now (map (λ r. entry r.0.items r.1) of.now) }
-    ensures { let rows = map (λ r. entry r.0.items r.1) of.now in Gives result (λ r. r ≡ total_of aggs.now rows) (total_fits aggs.now rows) }
+    ensures { let rows = map (λ r. entry r.0.items r.1) of.now in GivesOrOverflows result (λ r. r ≡ total_of aggs.now rows) (total_fits aggs.now rows) }
 {
     let cells = sums(alloc, aggs, of)?;
     Ok(single(alloc, cells)?)

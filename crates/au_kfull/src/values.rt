@@ -2,9 +2,9 @@
 //! certain ranges.
 ghost use Rattle.std.specs.Prelude.{◌≡◌, List};
 ghost use Rattle.au_value.specs.declared.kinds.Kind.{Kind};
-ghost use Rattle.au_kfull.specs.Gives.{Gives};
-ghost use Rattle.au_kfull.specs.Embedding.{IsTable};
-ghost use Rattle.au_kfull.specs.NonPositive.{on_values, values_fit};
+ghost use Rattle.au_kfull.specs.Gives.{GivesOrOverflows};
+ghost use Rattle.au_kfull.specs.Embedding.{IsCountedTable};
+ghost use Rattle.au_kfull.specs.NonPositive.{counted_operators, values_fit};
 ghost use Rattle.au_kfull.specs.Outputs.{CanGroup, CanTotal};
 
 use crate::embedding::{embed, guesses};
@@ -21,8 +21,8 @@ pub(crate) fn difference(
     left: &Rel<Value, Count>,
     right: &Rel<Value, Count>,
 ) -> Result<Rel<Value, Count>, EvalFault>
-    requires { (ks : List Kind) × IsTable ks left.now × IsTable ks right.now }
-    ensures { Gives result (λ r. r ≡ on_values.difference left.now right.now) (values_fit.difference left.now right.now) }
+    requires { (ks : List Kind) × IsCountedTable ks left.now × IsCountedTable ks right.now }
+    ensures { GivesOrOverflows result (λ r. r ≡ counted_operators.difference left.now right.now) (values_fit.difference left.now right.now) }
 {
     let left = embed(alloc, left.rows())?;
     let right = embed(alloc, right.rows())?;
@@ -37,8 +37,8 @@ pub(crate) fn group(
     aggs: &[Agg],
     of: &Rel<Value, Count>,
 ) -> Result<Rel<Value, Count>, EvalFault>
-    requires { (ks : List Kind) × IsTable ks of.now × CanGroup ks aggs.now }
-    ensures { Gives result (λ r. r ≡ on_values.group keys aggs.now of.now) (values_fit.group keys aggs.now of.now) }
+    requires { (ks : List Kind) × IsCountedTable ks of.now × CanGroup ks aggs.now }
+    ensures { GivesOrOverflows result (λ r. r ≡ counted_operators.group keys aggs.now of.now) (values_fit.group keys aggs.now of.now) }
 {
     let rows = embed(alloc, of.rows())?;
     let groups = groups::group(alloc, keys, aggs, &rows)?;
@@ -51,8 +51,8 @@ pub(crate) fn total(
     aggs: &[Agg],
     of: &Rel<Value, Count>,
 ) -> Result<Rel<Value, Count>, EvalFault>
-    requires { (ks : List Kind) × IsTable ks of.now × CanTotal ks aggs.now }
-    ensures { Gives result (λ r. r ≡ on_values.total aggs.now of.now) (values_fit.total aggs.now of.now) }
+    requires { (ks : List Kind) × IsCountedTable ks of.now × CanTotal ks aggs.now }
+    ensures { GivesOrOverflows result (λ r. r ≡ counted_operators.total aggs.now of.now) (values_fit.total aggs.now of.now) }
 {
     let rows = embed(alloc, of.rows())?;
     let sums = totals::total(alloc, aggs, &rows)?;

@@ -8,7 +8,7 @@ use Rattle.au_lex.specs.declared.Lexeme.TheVariants as lex
 use Rattle.au_lex.specs.declared.Symbol.{Symbol}
 use Rattle.au_lex.specs.declared.LexFault.TheVariants.{BadChar, TooManyTokens}
 use Rattle.au_lex.specs.Lexemes.{begins_name, begins_run}
-use Rattle.au_lex.specs.Tokens.{token_at, token_or_fault, one_too_many, is_open, is_bad_number, IsOther}
+use Rattle.au_lex.specs.Tokens.{token_at, token_or_fault, one_too_many, is_unclosed, is_bad_number, IsOther}
 use Rattle.au_lex.specs.Fronts.{quoted_front, symbol_front}
 use Rattle.au_lex.proofs.Longest.{name_longest}
 use Rattle.au_lex.proofs.Numbers.{digits_longest}
@@ -21,10 +21,10 @@ begins_one at false true found = refl
 begins_one at false false found = refl
 
 word_begins : (at b : ℕ) (rest : List ℕ) → begins_name b ≡ true → one_too_many (token_at at (b ∷ rest)) ≡ TooManyTokens
-word_begins at b rest is = rw (name_longest b rest is) (begins_one at (is_open (b ∷ rest)) (is_bad_number (b ∷ rest)) _)
+word_begins at b rest is = rw (name_longest b rest is) (begins_one at (is_unclosed (b ∷ rest)) (is_bad_number (b ∷ rest)) _)
 
 number_begins : (at b : ℕ) (rest : List ℕ) → is_ascii_digit b ≡ true → one_too_many (token_at at (b ∷ rest)) ≡ TooManyTokens
-number_begins at b rest is = rw (digits_longest b rest is) (begins_one at (is_open (b ∷ rest)) (is_bad_number (b ∷ rest)) _)
+number_begins at b rest is = rw (digits_longest b rest is) (begins_one at (is_unclosed (b ∷ rest)) (is_bad_number (b ∷ rest)) _)
 
 quote_begins : (at q : ℕ) (kind : List ℕ → Lexeme) (rest : List ℕ) → IsKind q kind → (found : Option (ℕ × List ℕ)) → quoted_front q false rest ≡ found → one_too_many (token_at at (q ∷ rest)) ≡ TooManyTokens
 quote_begins at q kind rest is None none = ap one_too_many (quote_open at q kind rest is none)

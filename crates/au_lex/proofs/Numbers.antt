@@ -15,7 +15,7 @@ use Rattle.au_lex.specs.declared.Lexeme.{Lexeme}
 use Rattle.au_lex.specs.declared.Lexeme.TheVariants as lex
 use Rattle.au_lex.specs.declared.LexFault.TheVariants.{BadNumber}
 use Rattle.au_lex.specs.Lexemes.{begins_name, spelled, fraction, fraction_length, whole_digits, fraction_digits, number_length, number_lexeme}
-use Rattle.au_lex.specs.Tokens.{token_at, longest, is_open, is_bad_number, Finds}
+use Rattle.au_lex.specs.Tokens.{token_at, longest, is_unclosed, is_bad_number, Finds}
 use Rattle.au_lex.specs.Fronts.{most, number_after, number_within, scaled}
 use Rattle.au_lex.proofs.Longest.{longest_is, list_all-take}
 use Rattle.au_lex.proofs.Fronts.{value_grows, digit_low, not_open, token_bad, token_ok}
@@ -238,7 +238,7 @@ bad_is b rest is =
     let some : nat_lt 0 (prefix_len is_ascii_digit (b ∷ rest)) ≡ true = let more = some_digits b rest is in grind (arith, nat_tests) in
     rw (length-prefix_len is_ascii_digit (b ∷ rest), some)
 
-whole_open : (b : ℕ) (rest : List ℕ) → is_ascii_digit b ≡ true → is_open (b ∷ rest) ≡ false
+whole_open : (b : ℕ) (rest : List ℕ) → is_ascii_digit b ≡ true → is_unclosed (b ∷ rest) ≡ false
 whole_open b rest is = let facts = digit_no_name b is in not_open b rest facts.2 facts.1
 
 last_low : (b : ℕ) (rest : List ℕ) → is_ascii_digit b ≡ true → slice_index (b ∷ rest) (number_length (b ∷ rest) - 1) < 128

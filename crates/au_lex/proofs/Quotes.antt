@@ -12,7 +12,7 @@ use Rattle.au_lex.specs.declared.Lexeme.{Lexeme}
 use Rattle.au_lex.specs.declared.Lexeme.TheVariants as lex
 use Rattle.au_lex.specs.declared.LexFault.TheVariants.{OpenText}
 use Rattle.au_lex.specs.Lexemes.{spelled, unquoted}
-use Rattle.au_lex.specs.Tokens.{token_at, is_open, is_bad_number, has_end, Finds, IsQuote}
+use Rattle.au_lex.specs.Tokens.{token_at, is_unclosed, is_bad_number, has_end, Finds, IsQuote}
 use Rattle.au_lex.specs.Fronts.{quoted_front, behind_units, behind_unit, behind_quote}
 use Rattle.au_lex.proofs.Longest.{longest_is}
 use Rattle.au_lex.proofs.Fronts.{token_ok, token_open}
@@ -123,7 +123,7 @@ found_front q rest f is = subst (λ o. IfSome o (IsFront q false rest)) is (fron
 -- the two kinds of quotation
 pub record IsKind (q : ℕ) (kind : List ℕ → Lexeme) : Type 0 where
   pub reads : (text : List ℕ) → spelled (q ∷ text) ≡ option_map kind (unquoted q false text)
-  pub opens : (text : List ℕ) → is_open (q ∷ text) ≡ not (has_end q false text)
+  pub opens : (text : List ℕ) → is_unclosed (q ∷ text) ≡ not (has_end q false text)
   pub low : q < 128
   pub no_number : (text : List ℕ) → is_bad_number (q ∷ text) ≡ false
 

@@ -9,7 +9,7 @@ use Rattle.au_lex.specs.declared.Lexeme.TheVariants as lex
 use Rattle.au_lex.specs.declared.LexFault.{LexFault}
 use Rattle.au_lex.specs.declared.Token.{Token}
 use Rattle.au_lex.specs.Lexemes.{begins_name, fraction_digits, number_lexeme, spelled, symbol_named, unquoted, whole_digits, word_lexeme, entry_of, keywords}
-use Rattle.au_lex.specs.Tokens.{HasScale, HaveScales, blank_length, is_bad_number, is_open, longest, none_may_come, token_at, token_or_fault, token_step, token_then, tokens_at, tokens_from, tokens_of}
+use Rattle.au_lex.specs.Tokens.{HasScale, HaveScales, blank_length, is_bad_number, is_unclosed, longest, none_may_come, token_at, token_or_fault, token_step, token_then, tokens_at, tokens_from, tokens_of}
 use Rattle.au_lex.proofs.Numbers.{digits_longest, bad_is}
 use Rattle.au_lex.proofs.Spans.{IsLexeme, is_found, token_lexeme}
 
@@ -63,8 +63,8 @@ scaled_token at (b ∷ rest) found is = by_digit (is_ascii_digit b) refl
         let lexeme : IsLexeme (b ∷ rest) (length (b ∷ rest)) found = token_lexeme at (b ∷ rest) found is in
         scaled_front b found.0 rest found.1 lexeme.some other lexeme.spells
     by_digit true digit =
-        let here : longest (suc (length rest)) (b ∷ rest) ≡ Some found = is_found at (is_open (b ∷ rest)) (is_bad_number (b ∷ rest)) _ found is in
-        let good : is_bad_number (b ∷ rest) ≡ false = not_bad at (is_open (b ∷ rest)) (is_bad_number (b ∷ rest)) _ found is in
+        let here : longest (suc (length rest)) (b ∷ rest) ≡ Some found = is_found at (is_unclosed (b ∷ rest)) (is_bad_number (b ∷ rest)) _ found is in
+        let good : is_bad_number (b ∷ rest) ≡ false = not_bad at (is_unclosed (b ∷ rest)) (is_bad_number (b ∷ rest)) _ found is in
         let few : nat_lt 9 (length (fraction_digits (b ∷ rest))) ≡ false = few_of _ _ _ _ (sym (bad_is b rest digit) ∙ good) in
         subst HasScale (same_found _ found (sym (digits_longest b rest digit) ∙ here)) (scaled_number (whole_digits (b ∷ rest)) (fraction_digits (b ∷ rest)) few)
 

@@ -6,7 +6,7 @@ use Rattle.au_lex.specs.declared.Lexeme.{Lexeme}
 use Rattle.au_lex.specs.declared.Token.{Token}
 use Rattle.au_lex.specs.declared.LexFault.{LexFault}
 use Rattle.au_lex.specs.Lexemes.{spelled}
-use Rattle.au_lex.specs.Tokens.{longest, or_shorter, token_at, token_or_fault, token_step, token_then, tokens_at, tokens_from, tokens_of, none_may_come, blank_length, is_open, is_bad_number, Spans}
+use Rattle.au_lex.specs.Tokens.{longest, or_shorter, token_at, token_or_fault, token_step, token_then, tokens_at, tokens_from, tokens_of, none_may_come, blank_length, is_unclosed, is_bad_number, Spans}
 
 -- the longest lexeme is the lexeme of a front
 pub record IsLexeme (text : List ℕ) (n : ℕ) (found : ℕ × Lexeme) : Type 0 where
@@ -33,7 +33,7 @@ is_found at false false None found is = cc
 is_found at false false (Some x) found is = cc
 
 pub token_lexeme : (at : ℕ) (text : List ℕ) (found : ℕ × Lexeme) → token_at at text ≡ Ok found → IsLexeme text (length text) found
-token_lexeme at text found is = longest_lexeme (length text) text found (is_found at (is_open text) (is_bad_number text) _ found is)
+token_lexeme at text found is = longest_lexeme (length text) text found (is_found at (is_unclosed text) (is_bad_number text) _ found is)
 
 -- the tokens behind a place of the text
 module _ (text : List ℕ) where

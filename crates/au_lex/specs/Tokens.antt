@@ -33,9 +33,9 @@ has_end q true (b ∷ rest) = elim (b == q) [ true ↦ has_end q false rest | fa
 has_end q false (b ∷ rest) = has_end q (b == q) rest
 
 -- whether a text or a quoted name begins here and has no end
-abbrev pub is_open : List ℕ → Bool
-is_open [] = false
-is_open (b ∷ rest) = ((b == single_quote) || (b == double_quote)) && not (has_end b false rest)
+abbrev pub is_unclosed : List ℕ → Bool
+is_unclosed [] = false
+is_unclosed (b ∷ rest) = ((b == single_quote) || (b == double_quote)) && not (has_end b false rest)
 
 -- whether digits begin here, perhaps with a point among them, that are too many, too many behind the point or too great, or run into a letter or `_`
 abbrev pub is_bad_number : List ℕ → Bool
@@ -64,7 +64,7 @@ token_or_fault at false false (Some found) = Ok found
 
 -- the length and the lexeme of the token that begins here, or the fault, of a place
 abbrev pub token_at : ℕ → List ℕ → Result (ℕ × Lexeme) LexFault
-token_at at text = token_or_fault at (is_open text) (is_bad_number text) (longest (length text) text)
+token_at at text = token_or_fault at (is_unclosed text) (is_bad_number text) (longest (length text) text)
 
 -- a token is found here: its length and its lexeme; its last byte is ASCII
 pub record Finds (at : ℕ) (text : List ℕ) (count : ℕ) (what : Lexeme) : Type 0 where

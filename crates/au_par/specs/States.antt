@@ -9,13 +9,13 @@ use Rattle.au_expr.specs.declared.fault.EvalFault.TheVariants as fault
 
 module _ {T S : Type 0} where
   -- a state for these rows, which don't overflow, or an overflow of rows that do; want of memory says nothing
-  abbrev pub Gives : (S → List T → Type 0) → (List T → Bool) → List T → Result S EvalFault → Type 0
-  Gives stands overflows rows answer = MatchResult answer (λ s. stands s rows × (overflows rows ≡ false)) (λ f. f ≡ fault.Overflow → overflows rows ≡ true)
+  abbrev pub StandsOrOverflows : (S → List T → Type 0) → (List T → Bool) → List T → Result S EvalFault → Type 0
+  StandsOrOverflows stands overflows rows answer = MatchResult answer (λ s. stands s rows × (overflows rows ≡ false)) (λ f. f ≡ fault.Overflow → overflows rows ≡ true)
 
   -- for any lists that two states stand for, the answer is of the two lists put together
   abbrev pub Merges : (T → Type 0) → (S → List T → Type 0) → (List T → Bool) → S → S → Result S EvalFault → Type 0
   Merges takes stands overflows first second answer =
-      (xs ys : List T) → All takes xs → All takes ys → stands first xs → stands second ys → Gives stands overflows (xs ++ ys) answer
+      (xs ys : List T) → All takes xs → All takes ys → stands first xs → stands second ys → StandsOrOverflows stands overflows (xs ++ ys) answer
 
   -- the states of all pieces of this size from the k-th on, in order
   abbrev pub StandInOrder : (S → List T → Type 0) → List T → ℕ → ℕ → List (ℕ × S) → Type 0

@@ -5,7 +5,7 @@ ghost use Rattle.std.specs.Int.{div_ceil};
 ghost use Rattle.std.specs.List.{All};
 ghost use Rattle.au_board.specs.Views.{AreFresh, fresh};
 ghost use Rattle.au_expr.specs.declared.fault.EvalFault.TheVariants as fault;
-ghost use Rattle.au_par.specs.States.{Gives, Drew, AllDrew, Collects, StandInOrder};
+ghost use Rattle.au_par.specs.States.{StandsOrOverflows, Drew, AllDrew, Collects, StandInOrder};
 
 use crate::gate::Gate;
 use crate::merging::{in_order, merged};

@@ -7,10 +7,10 @@ use Rattle.au_parse.specs.declared.limits.Limit.TheVariants as over
 use Rattle.au_parse.specs.declared.ParseFault.{ParseFault}
 use Rattle.au_parse.specs.declared.ParseFault.TheVariants as fault
 use Rattle.au_parse.specs.Words.{is_semicolon}
-use Rattle.au_parse.specs.Limits.{earlier, limit_fault, passes, is_from, placed, too_deep}
+use Rattle.au_parse.specs.Limits.{earlier, limit_fault, passes_limit, is_from, placed, too_deep}
 use Rattle.au_parse.specs.Words.{is_select}
 use Rattle.au_parse.specs.Parsing.{HasCause}
-use Rattle.au_parse.specs.Queries.{tree_of, without_semicolon, query_within}
+use Rattle.au_parse.specs.Queries.{parsed_tree, without_semicolon, query_within}
 use Rattle.au_parse.specs.Tree.{QueryTree}
 use Rattle.au_parse.specs.Statements.{set_step}
 use Rattle.au_parse.proofs.Sets.{query_is}
@@ -43,8 +43,8 @@ second_is (Some f) is = is
 limit_is : (end : ℕ) (ts : List Token) → IfSome (limit_fault end ts) IsLimit
 limit_is end ts =
     let deep = too_deep 32 0 ts in
-    let from = passes is_from 8 end [] [] ts in
-    let items = passes is_select 64 end [] [] ts in
+    let from = passes_limit is_from 8 end [] [] ts in
+    let items = passes_limit is_select 64 end [] [] ts in
     second_is (earlier (placed over.Depth deep) (earlier (placed over.Sources from) (placed over.Items items)))
     (earlier_is (placed over.Depth deep) (earlier (placed over.Sources from) (placed over.Items items)) (placed_is over.Depth deep)
     (earlier_is (placed over.Sources from) (placed over.Items items) (placed_is over.Sources from) (placed_is over.Items items)))
@@ -85,5 +85,5 @@ pub any_behind : (ts others : List Token) (t : Token) (at : ℕ) → ts ≡ t �
 any_behind ts others t at is (k, x, less, here, from) = subst (Any (λ y. y.from ≡ at)) (sym is) (suc k, x, omega (arith, less), here, from)
 
 -- the tree of the list without its last `;`
-pub tree_is : (ts query : List Token) (found : Option QueryTree) → query ≡ without_semicolon ts → ((n : ℕ) → length query ≤ suc n → set_step (query_within n) query ≡ found) → tree_of ts ≡ found
+pub tree_is : (ts query : List Token) (found : Option QueryTree) → query ≡ without_semicolon ts → ((n : ℕ) → length query ≤ suc n → set_step (query_within n) query ≡ found) → parsed_tree ts ≡ found
 tree_is ts query found is reads = ap (λ xs. query_within (length xs) xs) (sym is) ∙ query_is query found reads

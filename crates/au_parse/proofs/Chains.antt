@@ -3,7 +3,7 @@ use Rattle.std.proofs.Common.{◌≡◌, ℕ, zero, suc, ◌≤◌, Bool, false,
 use Rattle.std.specs.Prelude.{Option}
 use Rattle.au_lex.specs.declared.Lexeme.{Lexeme}
 use Rattle.au_lex.specs.declared.Token.{Token}
-use Rattle.au_parse.specs.Tree.{Tree, Operator}
+use Rattle.au_parse.specs.Tree.{TermTree, Operator}
 use Rattle.au_parse.specs.Words.{depth_after, ends_operand, set_word}
 use Rattle.au_parse.specs.Cuts.{Split, Part, Parts, last_split, split_step, cut_from, cut_step, mark_at, cut, anywhere}
 use Rattle.au_parse.specs.Expressions.{Reader, chain, split_tree}
@@ -11,7 +11,7 @@ use Rattle.au_parse.specs.Queries.{QueryReader, operand, set_chain}
 use Rattle.au_parse.specs.Levels.{grouped, joins, from_left}
 use Rattle.au_parse.specs.Statements.{joins_sets, sets_from_left}
 
-abbrev pub parts_tree : Reader → Parts Operator → Option Tree
+abbrev pub parts_tree : Reader → Parts Operator → Option TermTree
 parts_tree next parts = from_left next (next parts.first) parts.others
 
 -- a list with no mark is one part

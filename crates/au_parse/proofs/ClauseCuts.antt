@@ -11,7 +11,7 @@ use Rattle.au_parse.specs.declared.queries.ClauseWord.TheVariants as word
 use Rattle.au_parse.specs.Words.{Clause, clause_word, ends_operand, depth_after}
 use Rattle.au_parse.specs.Cuts.{Part, cut, anywhere}
 use Rattle.au_parse.specs.Levels.{front_length, is_mark, part_before}
-use Rattle.au_parse.specs.Queries.{Clauses, clauses, condition_clause, group_clause, having_clause}
+use Rattle.au_parse.specs.Queries.{ClauseTokens, clauses, condition_clause, group_clause, having_clause}
 use Rattle.au_parse.specs.Statements.{TakesClause, all_clauses, begins_with, clause_of, clause_parts, has_parts, is_clause, same_clause, with_clause}
 use Rattle.au_parse.proofs.Cutting.{IsMark, cut_by}
 
@@ -69,10 +69,10 @@ pub cut_at_clauses : (ts first behind : List Token) (k : ℕ) → k ≡ front_le
 cut_at_clauses ts first behind k k_is first_is behind_is = cut_by (anywhere clause_word) (is_mark at.Clause) clause_mark false 0 ts ∙ rw (← k_is, ← first_is, ← behind_is)
 
 -- the clauses in their order
-abbrev only : List Token → Option (ℕ × List Token) → Option (List Token) → Option (ℕ × List Token) → Clauses
+abbrev only : List Token → Option (ℕ × List Token) → Option (List Token) → Option (ℕ × List Token) → ClauseTokens
 only from condition group having = record { from = from; condition = condition; group = group; having = having }
 
-abbrev ended : List (Part Clause) → Clauses → Option Clauses
+abbrev ended : List (Part Clause) → ClauseTokens → Option ClauseTokens
 ended [] done = Some done
 ended (p ∷ parts) done = None
 

@@ -9,7 +9,7 @@ use Rattle.au_lex.specs.declared.Lexeme.TheVariants as lex
 use Rattle.au_lex.specs.declared.Symbol.TheVariants as sym'
 use Rattle.au_lex.specs.declared.Token.{Token}
 use Rattle.au_parse.specs.Words.{is_comma, is_group_open, is_group_close}
-use Rattle.au_parse.specs.Limits.{back_to_match, begins_part, unless_none, stop, wanted, counts_for, commas_of, passes, place_of}
+use Rattle.au_parse.specs.Limits.{back_to_match, begins_part, unless_none, stop, wanted, counts_for, commas_of, passes_limit, token_place}
 use Rattle.au_parse.specs.Statements.{Commas, commas_after, is_last}
 
 -- a lexeme is one of these at most
@@ -365,26 +365,26 @@ commas-le at (x ∷ seen) = commas_step x (length seen) (filter (λ other. other
 
 -- one step of the definition
 passes_none : (word : Lexeme → Bool) (limit end : ℕ) (seen : List ℕ) (before : List Token) (t : Token) (ts : List Token) → counts_for word t before ≡ None
-    → passes word limit end seen before (t ∷ ts) ≡ passes word limit end seen (t ∷ before) ts
-unfolding passes
-passes_none word limit end seen before t ts none = rw (none, passes)
+    → passes_limit word limit end seen before (t ∷ ts) ≡ passes_limit word limit end seen (t ∷ before) ts
+unfolding passes_limit
+passes_none word limit end seen before t ts none = rw (none, passes_limit)
 
 passes_last : (word : Lexeme → Bool) (limit end : ℕ) (seen : List ℕ) (before : List Token) (t : Token) (ts : List Token) (at : ℕ) → counts_for word t before ≡ Some at → (commas_of at seen + 1 == limit) ≡ true
-    → passes word limit end seen before (t ∷ ts) ≡ Some (place_of end ts)
-unfolding passes
-passes_last word limit end seen before t ts at some last = rw (some, last, passes)
+    → passes_limit word limit end seen before (t ∷ ts) ≡ Some (token_place end ts)
+unfolding passes_limit
+passes_last word limit end seen before t ts at some last = rw (some, last, passes_limit)
 
 passes_more : (word : Lexeme → Bool) (limit end : ℕ) (seen : List ℕ) (before : List Token) (t : Token) (ts : List Token) (at : ℕ) → counts_for word t before ≡ Some at → (commas_of at seen + 1 == limit) ≡ false
-    → passes word limit end seen before (t ∷ ts) ≡ passes word limit end (at ∷ seen) (t ∷ before) ts
-unfolding passes
-passes_more word limit end seen before t ts at some more = rw (some, more, passes)
+    → passes_limit word limit end seen before (t ∷ ts) ≡ passes_limit word limit end (at ∷ seen) (t ∷ before) ts
+unfolding passes_limit
+passes_more word limit end seen before t ts at some more = rw (some, more, passes_limit)
 
 -- what is left after some tokens decides, with the commas so far
 pub record IsReached (word : Lexeme → Bool) (limit end : ℕ) (tokens rest : List Token) (commas : Commas) : Type 0 where
   pub before : List Token
   pub seen : List ℕ
   pub holds : Holds word seen before commas
-  pub goes : passes word limit end seen before rest ≡ passes word limit end [] [] tokens
+  pub goes : passes_limit word limit end seen before rest ≡ passes_limit word limit end [] [] tokens
   pub few : length seen ≤ length before
   pub all : length before + length rest ≡ length tokens
 
@@ -394,16 +394,16 @@ reached_first word limit end tokens commas is =
     rw is (record { before = []; seen = []; holds = record { inner = refl; outer = refl; earlier = tt }; goes = refl; few = omega arith; all = omega arith })
 
 module _ (word : Lexeme → Bool) (limit end : ℕ) (tokens rest others : List Token) (t : Token) (commas : Commas) (rest_is : rest ≡ t ∷ others) (so_far : IsReached word limit end tokens rest commas) where
-  here : passes word limit end so_far.seen so_far.before (t ∷ others) ≡ passes word limit end [] [] tokens
-  here = ap (passes word limit end so_far.seen so_far.before) (sym rest_is) ∙ so_far.goes
+  here : passes_limit word limit end so_far.seen so_far.before (t ∷ others) ≡ passes_limit word limit end [] [] tokens
+  here = ap (passes_limit word limit end so_far.seen so_far.before) (sym rest_is) ∙ so_far.goes
 
   last_by : (found inner : Option ℕ) (v : Bool) → is_comma t.what ≡ v → wanted word (stop 0 so_far.before) ≡ found → inner ≡ option_map (λ at. commas_of at so_far.seen) found
-      → (elim inner as (λ o. Bool) [ None ↦ false | Some n ↦ v && (n + 1 == limit) ]) ≡ true → passes word limit end [] [] tokens ≡ Some (place_of end others)
+      → (elim inner as (λ o. Bool) [ None ↦ false | Some n ↦ v && (n + 1 == limit) ]) ≡ true → passes_limit word limit end [] [] tokens ≡ Some (token_place end others)
   last_by None inner v is found inner_is last = cc
   last_by (Some at) inner true is found inner_is last = sym here ∙ passes_last word limit end so_far.seen so_far.before t others at (rw is found) (rw inner_is at last)
   last_by (Some at) inner false is found inner_is last = cc
 
-  pub reached_last : is_last limit t.what commas ≡ true → Some (place_of end others) ≡ passes word limit end [] [] tokens
+  pub reached_last : is_last limit t.what commas ≡ true → Some (token_place end others) ≡ passes_limit word limit end [] [] tokens
   reached_last last = sym (last_by _ commas.inner _ refl refl so_far.holds.inner last)
 
   next_none : counts_for word t so_far.before ≡ None → IsReached word limit end tokens others (commas_after word t.what commas)
@@ -435,8 +435,8 @@ module _ (word : Lexeme → Bool) (limit end : ℕ) (tokens rest others : List T
   pub reached_next : is_last limit t.what commas ≡ false → IsReached word limit end tokens others (commas_after word t.what commas)
   reached_next more = next_by _ commas.inner _ refl refl so_far.holds.inner more
 
-pub reached_end : (word : Lexeme → Bool) (limit end : ℕ) (tokens rest : List Token) (commas : Commas) → length rest ≡ 0 → IsReached word limit end tokens rest commas → None ≡ passes word limit end [] [] tokens
-unfolding passes
+pub reached_end : (word : Lexeme → Bool) (limit end : ℕ) (tokens rest : List Token) (commas : Commas) → length rest ≡ 0 → IsReached word limit end tokens rest commas → None ≡ passes_limit word limit end [] [] tokens
+unfolding passes_limit
 reached_end word limit end tokens [] commas none so_far = so_far.goes
 reached_end word limit end tokens (t ∷ rest) commas none so_far = absurd (omega arith)
 

@@ -12,7 +12,7 @@ use Rattle.au_parse.specs.Words.{clause_word, set_word, ends_operand, depth_afte
 use Rattle.au_parse.specs.Cuts.{cut, cut_from, anywhere, inside}
 use Rattle.au_parse.specs.Expressions.{both}
 use Rattle.au_parse.specs.Levels.{front_length, is_mark, rest_parts}
-use Rattle.au_parse.specs.Queries.{QueryReader, Clauses, aliased, all_some, between_commas, clauses, condition_tree, has_all, inner_source, item_tree, keys_tree, operand, query_within, select_body, select_of, select_rest, select_with, set_chain, source_with, sources, table_source, without_all}
+use Rattle.au_parse.specs.Queries.{QueryReader, ClauseTokens, aliased, all_some, between_commas, clauses, condition_tree, has_all, inner_source, item_tree, keys_tree, operand, query_within, select_body, select_of, select_rest, select_with, set_chain, source_with, sources, table_source, without_all}
 use Rattle.au_parse.specs.Views.{source_before}
 use Rattle.au_parse.specs.Statements.{aliased_by, behind_comma, behind_quantifier, clause_parts, says_distinct, set_step, sets_from_left, source_step, sources_before, sources_of}
 use Rattle.au_parse.proofs.Chains.{set_chain-length}
@@ -131,7 +131,7 @@ select_is query at ts body first behind d is =
 pub select_none : (at : ℕ) (ts body first behind : List Token) (d : Bool) → IsSelect ts body first behind d → None ≡ clauses (clause_parts behind) → (n : ℕ) → select_rest (query_within n) at ts ≡ None
 select_none at ts body first behind d is none n = select_is (query_within n) at ts body first behind d is ∙ ap (option_and_then (select_with (query_within n) at d first)) (sym none)
 
-pub select_some : (at : ℕ) (ts body first behind : List Token) (d grouped : Bool) (parts : Clauses) (group : Option (List Token)) (from : Option Sources) (all : Option QueryTree) → IsSelect ts body first behind d
+pub select_some : (at : ℕ) (ts body first behind : List Token) (d grouped : Bool) (parts : ClauseTokens) (group : Option (List Token)) (from : Option Sources) (all : Option QueryTree) → IsSelect ts body first behind d
     → Some parts ≡ clauses (clause_parts behind) → grouped ≡ is_some parts.group → group ≡ parts.group
     → length parts.from ≤ length ts → ((n : ℕ) → length parts.from ≤ suc n → sources (query_within n) (between_commas parts.from) ≡ from)
     → all ≡ select_of at d grouped (all_some (map item_tree (between_commas first))) from (condition_tree parts.condition) (keys_tree group) (condition_tree parts.having)

@@ -8,26 +8,26 @@ use Rattle.au_lex.specs.Lexemes.{is_scale}
 use Rattle.au_lex.specs.declared.Token.{Token}
 use Rattle.au_parse.specs.declared.AggWord.{AggWord}
 use Rattle.au_parse.specs.declared.Name.{Name}
-use Rattle.au_parse.specs.Tree.{Tree, Operator, ItemTree, SetWord, QueryTree, Sources}
+use Rattle.au_parse.specs.Tree.{TermTree, Operator, ItemTree, SetWord, QueryTree, Sources}
 use Rattle.au_parse.specs.Words.{CasePart, case_word, comma, comparison_operator, is_group_open, is_group_close, is_case, is_end, is_minus, is_not, is_star, is_dot, is_by, is_select, is_distinct, is_all, aggregate_word, name_word, or_operator, and_operator, product_operator, clause_word}
 use Rattle.au_parse.specs.Cuts.{Split, Part, cut, inside, anywhere}
 use Rattle.au_parse.specs.Expressions.{Reader, both, both_parts, split_tree, chain, sum_mark, atom, column_of, counts_rows, aggregate_tree, case_rest, case_parts, case_tree, called, primary, sign_step, product_step, sum_step, compared, comparison_step, not_step, and_step, or_step, expression_within, expression}
-use Rattle.au_parse.specs.Queries.{QueryReader, Clauses, all_some, aliased, between_commas, part_tokens, value_item, item_tree, inner_source, table_source, source_with, sources, condition_tree, keys_tree, select_of, select_with, select_body, select_rest, operand, has_all, without_all, set_chain, query_within, tree_of, without_semicolon, clauses}
+use Rattle.au_parse.specs.Queries.{QueryReader, ClauseTokens, all_some, aliased, between_commas, part_tokens, value_item, item_tree, inner_source, table_source, source_with, sources, condition_tree, keys_tree, select_of, select_with, select_body, select_rest, operand, has_all, without_all, set_chain, query_within, parsed_tree, without_semicolon, clauses}
 use Rattle.au_parse.specs.Whole.{HasWhen, WholeTerm, WholeItem, WholeItems, has_keys, HasSource, WholeQuery, WholeSources}
 
 -- what is read is whole
-abbrev Whole : Option Tree → Type 0
+abbrev Whole : Option TermTree → Type 0
 Whole found = IfSome found WholeTerm
 
 abbrev Reads : Reader → Type 0
 Reads reader = (ts : List Token) → Whole (reader ts)
 
-whole_binary : (p : ℕ) (m : Operator) (a b : Option Tree) → Whole a → Whole b → Whole (both (Tree.binary p m) a b)
+whole_binary : (p : ℕ) (m : Operator) (a b : Option TermTree) → Whole a → Whole b → Whole (both (TermTree.binary p m) a b)
 whole_binary p m None b is also = tt
 whole_binary p m (Some x) None is also = tt
 whole_binary p m (Some x) (Some y) is also = (is, also)
 
-whole_then : {A : Type 0} (f : A → Option Tree) (o : Option A) → ((x : A) → Whole (f x)) → Whole (option_and_then f o)
+whole_then : {A : Type 0} (f : A → Option TermTree) (o : Option A) → ((x : A) → Whole (f x)) → Whole (option_and_then f o)
 whole_then f None is = tt
 whole_then f (Some x) is = is x
 
@@ -46,7 +46,7 @@ whole_atom at (lex.Quoted w) = tt
 whole_atom at (lex.Number n) = tt
 whole_atom at (lex.Decimal n digits) = by_test (is_scale digits) refl
   where
-    by_test : (v : Bool) → is_scale digits ≡ v → Whole (if v then Some (Tree.decimal at n digits) else None)
+    by_test : (v : Bool) → is_scale digits ≡ v → Whole (if v then Some (TermTree.decimal at n digits) else None)
     by_test true is = is
     by_test false is = tt
 whole_atom at (lex.Text w) = tt
@@ -54,32 +54,32 @@ whole_atom at (lex.Key key.True) = tt
 whole_atom at (lex.Key key.False) = tt
 whole_atom at _ = tt
 
-whole_column : (found : Option Name) → Whole (option_map Tree.column found)
+whole_column : (found : Option Name) → Whole (option_map TermTree.column found)
 whole_column None = tt
 whole_column (Some name) = tt
 
 module _ (inner : Reader) (is : Reads inner) where
-  whole_map : (f : Tree → Tree) → ((e : Tree) → WholeTerm e → WholeTerm (f e)) → (found : Option Tree) → Whole found → Whole (option_map f found)
+  whole_map : (f : TermTree → TermTree) → ((e : TermTree) → WholeTerm e → WholeTerm (f e)) → (found : Option TermTree) → Whole found → Whole (option_map f found)
   whole_map f step None is' = tt
   whole_map f step (Some e) is' = step e is'
 
   whole_aggregate : (at : ℕ) (word : AggWord) → Reads (aggregate_tree inner at word)
   whole_aggregate at word ts = by_test (counts_rows word ts)
     where
-      by_test : (v : Bool) → Whole (if v then Some (Tree.count_rows at) else option_map (Tree.aggregate at word) (inner ts))
+      by_test : (v : Bool) → Whole (if v then Some (TermTree.count_rows at) else option_map (TermTree.aggregate at word) (inner ts))
       by_test true = tt
-      by_test false = whole_map (Tree.aggregate at word) (λ e is'. is') (inner ts) (is ts)
+      by_test false = whole_map (TermTree.aggregate at word) (λ e is'. is') (inner ts) (is ts)
 
-  abbrev Arms : Option Tree → Type 0
+  abbrev Arms : Option TermTree → Type 0
   Arms found = IfSome found (λ e. HasWhen e × WholeTerm e)
 
-  whole_arm : (condition value rest : Option Tree) → Whole condition → Whole value → Whole rest → Arms (both_parts condition value rest)
+  whole_arm : (condition value rest : Option TermTree) → Whole condition → Whole value → Whole rest → Arms (both_parts condition value rest)
   whole_arm None value rest c v r = tt
   whole_arm (Some x) None rest c v r = tt
   whole_arm (Some x) (Some y) None c v r = tt
   whole_arm (Some x) (Some y) (Some z) c v r = (tt, (c, v, r))
 
-  arms_whole : (found : Option Tree) → Arms found → Whole found
+  arms_whole : (found : Option TermTree) → Arms found → Whole found
   arms_whole None arms = tt
   arms_whole (Some e) arms = arms.1
 
@@ -97,7 +97,7 @@ module _ (inner : Reader) (is : Reads inner) where
   whole_case : (at : ℕ) → Reads (case_tree inner at)
   whole_case at ts = by_arms (case_parts inner (cut case_word ts).first (cut case_word ts).others) (whole_parts (cut case_word ts).first (cut case_word ts).others)
     where
-      by_arms : (found : Option Tree) → Arms found → Whole (option_map (Tree.case at) found)
+      by_arms : (found : Option TermTree) → Arms found → Whole (option_map (TermTree.case at) found)
       by_arms None arms = tt
       by_arms (Some e) arms = arms
 
@@ -106,7 +106,7 @@ module _ (inner : Reader) (is : Reads inner) where
   whole_called t [] (Some word) = tt
   whole_called t (b ∷ ts) (Some word) = by_test (is_group_open b.what)
     where
-      by_test : (v : Bool) → Whole (if v then option_and_then (aggregate_tree inner t.from word) (inside is_group_close zero ts) else option_map Tree.column (column_of (t ∷ b ∷ ts)))
+      by_test : (v : Bool) → Whole (if v then option_and_then (aggregate_tree inner t.from word) (inside is_group_close zero ts) else option_map TermTree.column (column_of (t ∷ b ∷ ts)))
       by_test true = whole_then (aggregate_tree inner t.from word) (inside is_group_close zero ts) (whole_aggregate t.from word)
       by_test false = whole_column (column_of (t ∷ b ∷ ts))
 
@@ -127,8 +127,8 @@ module _ (inner : Reader) (is : Reads inner) where
   whole_sign [] = tt
   whole_sign (t ∷ ts) = by_test (is_minus t.what)
     where
-      by_test : (v : Bool) → Whole (elim v [ true ↦ option_map (Tree.negate t.from) (primary inner ts) | false ↦ primary inner (t ∷ ts) ])
-      by_test true = whole_map (Tree.negate t.from) (λ e is'. is') (primary inner ts) (whole_primary ts)
+      by_test : (v : Bool) → Whole (elim v [ true ↦ option_map (TermTree.negate t.from) (primary inner ts) | false ↦ primary inner (t ∷ ts) ])
+      by_test true = whole_map (TermTree.negate t.from) (λ e is'. is') (primary inner ts) (whole_primary ts)
       by_test false = whole_primary (t ∷ ts)
 
   whole_sum : Reads (sum_step inner)
@@ -146,8 +146,8 @@ module _ (inner : Reader) (is : Reads inner) where
   whole_not [] = tt
   whole_not (t ∷ ts) = by_test (is_not t.what)
     where
-      by_test : (v : Bool) → Whole (elim v [ true ↦ option_map (Tree.not t.from) (comparison_step inner ts) | false ↦ comparison_step inner (t ∷ ts) ])
-      by_test true = whole_map (Tree.not t.from) (λ e is'. is') (comparison_step inner ts) (whole_comparison ts)
+      by_test : (v : Bool) → Whole (elim v [ true ↦ option_map (TermTree.not t.from) (comparison_step inner ts) | false ↦ comparison_step inner (t ∷ ts) ])
+      by_test true = whole_map (TermTree.not t.from) (λ e is'. is') (comparison_step inner ts) (whole_comparison ts)
       by_test false = whole_comparison (t ∷ ts)
 
   whole_or : Reads (or_step inner)
@@ -162,7 +162,7 @@ whole_expression : Reads expression
 whole_expression ts = whole_expression_within (length ts) ts
 
 -- items and keys
-whole_value : (alias : Option (List ℕ)) (found : Option Tree) → Whole found → IfSome (option_map (λ e. ItemTree.value e alias) found) WholeItem
+whole_value : (alias : Option (List ℕ)) (found : Option TermTree) → Whole found → IfSome (option_map (λ e. ItemTree.value e alias) found) WholeItem
 whole_value alias None is = tt
 whole_value alias (Some e) is = is
 
@@ -220,10 +220,10 @@ whole_keys (Some (t ∷ ts)) = by_test (is_by t.what)
     by_test true = keys_step _ _
     by_test false = tt
 
-abbrev placed : ℕ → Tree → Option (ℕ × Tree)
+abbrev placed : ℕ → TermTree → Option (ℕ × TermTree)
 placed at e = Some (at, e)
 
-whole_placed : (at : ℕ) (found : Option Tree) → Whole found → IfSome (option_map (placed at) found) (λ o. IfSome o (λ c. WholeTerm c.1))
+whole_placed : (at : ℕ) (found : Option TermTree) → Whole found → IfSome (option_map (placed at) found) (λ o. IfSome o (λ c. WholeTerm c.1))
 whole_placed at None is = tt
 whole_placed at (Some e) is = is
 
@@ -238,7 +238,7 @@ WholeRead found = IfSome found WholeQuery
 abbrev WholeFrom : Sources → Type 0
 WholeFrom s = HasSource s × WholeSources s
 
-whole_select_of : (at : ℕ) (distinct grouped : Bool) (items : Option (List ItemTree)) (from : Option Sources) (condition : Option (Option (ℕ × Tree))) (keys : Option (List Name)) (having : Option (Option (ℕ × Tree)))
+whole_select_of : (at : ℕ) (distinct grouped : Bool) (items : Option (List ItemTree)) (from : Option Sources) (condition : Option (Option (ℕ × TermTree))) (keys : Option (List Name)) (having : Option (Option (ℕ × TermTree)))
     → IfSome items WholeItems → IfSome from WholeFrom → IfSome condition (λ o. IfSome o (λ c. WholeTerm c.1)) → IfSome keys (λ names. grouped ≡ has_keys names) → IfSome having (λ o. IfSome o (λ c. WholeTerm c.1))
     → WholeRead (select_of at distinct grouped items from condition keys having)
 whole_select_of at d g None from condition keys having i f c k h = tt
@@ -297,7 +297,7 @@ module _ (query : QueryReader) (is : (ts : List Token) → WholeRead (query ts))
   whole_body : (at : ℕ) (distinct : Bool) (ts : List Token) → WholeRead (select_body query at distinct ts)
   whole_body at distinct ts = by_clauses (cut clause_word ts).first (clauses (cut clause_word ts).others)
     where
-      by_clauses : (items : List Token) (found : Option Clauses) → WholeRead (option_and_then (select_with query at distinct items) found)
+      by_clauses : (items : List Token) (found : Option ClauseTokens) → WholeRead (option_and_then (select_with query at distinct items) found)
       by_clauses items None = tt
       by_clauses items (Some parts) =
           whole_select_of at distinct (is_some parts.group) _ _ _ _ _ (whole_items (between_commas items)) (whole_from parts.from) (whole_condition parts.condition) (whole_keys parts.group) (whole_condition parts.having)
@@ -336,5 +336,5 @@ whole_within zero ts = tt
 whole_within (suc n) ts = whole_sets (query_within n) (whole_within n) (length ts) ts
 
 -- the tree of a token list is whole
-pub tree_whole : (ts : List Token) (q : QueryTree) → tree_of ts ≡ Some q → WholeQuery q
+pub tree_whole : (ts : List Token) (q : QueryTree) → parsed_tree ts ≡ Some q → WholeQuery q
 tree_whole ts q is = subst (λ o. IfSome o WholeQuery) is (whole_within (length (without_semicolon ts)) (without_semicolon ts))

@@ -13,7 +13,7 @@ use Rattle.au_parse.specs.declared.terms.Level.{Level}
 use Rattle.au_parse.specs.declared.terms.Level.TheVariants as level
 use Rattle.au_parse.specs.declared.terms.Operation.{Operation}
 use Rattle.au_parse.specs.declared.terms.Operation.TheVariants as op
-use Rattle.au_parse.specs.Tree.{Tree, Operator}
+use Rattle.au_parse.specs.Tree.{TermTree, Operator}
 use Rattle.au_parse.specs.Words.{or_operator, and_operator, comparison_operator, product_operator, set_word, clause_word, CasePart, case_word, comma, depth_after, ends_operand, is_close, is_group_close, is_end}
 use Rattle.au_parse.specs.Cuts.{Part, Parts, cut_from, cut, anywhere}
 use Rattle.au_parse.specs.Expressions.{Reader, both, chain, sum_mark, and_step, not_step, product_step, sign_step, case_rest, expression_within}
@@ -96,19 +96,19 @@ abbrev pub grouped : {A R : Type 0} → (R → Part A → R) → R → List (Par
 grouped join so_far [] = so_far
 grouped join so_far (p ∷ more) = grouped join (join so_far p) more
 
-abbrev pub joins : Reader → Option Tree → Part Operator → Option Tree
-joins next so_far (Part.part m p ts) = both (Tree.binary p m) so_far (next ts)
+abbrev pub joins : Reader → Option TermTree → Part Operator → Option TermTree
+joins next so_far (Part.part m p ts) = both (TermTree.binary p m) so_far (next ts)
 
-abbrev pub from_left : Reader → Option Tree → List (Part Operator) → Option Tree
+abbrev pub from_left : Reader → Option TermTree → List (Part Operator) → Option TermTree
 from_left next so_far parts = grouped (joins next) so_far parts
 
 -- the parts of a CASE before the value of its ELSE
-abbrev pub arms_tree : List (Term × Term) → Tree → Tree
+abbrev pub arms_tree : List (Term × Term) → TermTree → TermTree
 arms_tree [] otherwise = otherwise
-arms_tree (arm ∷ arms) otherwise = Tree.when (term_tree arm.0) (term_tree arm.1) (arms_tree arms otherwise)
+arms_tree (arm ∷ arms) otherwise = TermTree.when (term_tree arm.0) (term_tree arm.1) (arms_tree arms otherwise)
 
 -- what a call has read: the tree, or that there is none, wherever brackets may be nested as deep as the list is long
-abbrev pub tree_read : Option Term → Option Tree
+abbrev pub tree_read : Option Term → Option TermTree
 tree_read found = option_map term_tree found
 
 abbrev pub Reads : (Reader → Reader) → List Token → Option Term → Type 0
@@ -146,9 +146,9 @@ abbrev pub behind_when : ℕ → List Token → List (Part CasePart)
 behind_when p ts = let parts = cut case_word ts in Part.part CasePart.when_part p parts.first ∷ parts.others
 
 -- the list begins with a condition, THEN and a value, and these tokens are left; or it doesn't
-pub record ReadsArm (ts : List Token) (condition value : Tree) (left : List Token) : Type 0 where
+pub record ReadsArm (ts : List Token) (condition value : TermTree) (left : List Token) : Type 0 where
   pub reads : (n p : ℕ) → length ts < n
-      → case_rest (expression_within n) (behind_when p ts) ≡ option_map (Tree.when condition value) (case_rest (expression_within n) (rest_parts (anywhere case_word) left))
+      → case_rest (expression_within n) (behind_when p ts) ≡ option_map (TermTree.when condition value) (case_rest (expression_within n) (rest_parts (anywhere case_word) left))
 
 pub record ReadsNoArm (ts : List Token) : Type 0 where
   pub reads : (n p : ℕ) → length ts < n → case_rest (expression_within n) (behind_when p ts) ≡ None

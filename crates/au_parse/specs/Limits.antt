@@ -64,23 +64,23 @@ abbrev pub counts_for : (Lexeme → Bool) → Token → List Token → Option �
 counts_for word t before = if is_comma t.what then wanted word (stop 0 before) else None
 
 -- the place of the first token, or the end
-abbrev pub place_of : ℕ → List Token → ℕ
-place_of end [] = end
-place_of end (t ∷ ts) = t.from
+abbrev pub token_place : ℕ → List Token → ℕ
+token_place end [] = end
+token_place end (t ∷ ts) = t.from
 
 -- how many of the commas so far count for a word; `seen` has the word of each
 abbrev pub commas_of : ℕ → List ℕ → ℕ
 commas_of word seen = length (filter (λ other. other == word) seen)
 
 -- the place after the comma that is the `limit`-th of one word
-unfoldable pub passes : (Lexeme → Bool) → ℕ → ℕ → List ℕ → List Token → List Token → Option ℕ
-passes word limit end seen before [] = None
-passes word limit end seen before (t ∷ ts) =
+unfoldable pub passes_limit : (Lexeme → Bool) → ℕ → ℕ → List ℕ → List Token → List Token → Option ℕ
+passes_limit word limit end seen before [] = None
+passes_limit word limit end seen before (t ∷ ts) =
     elim (counts_for word t before) [
-      | None ↦ passes word limit end seen (t ∷ before) ts
+      | None ↦ passes_limit word limit end seen (t ∷ before) ts
       | Some at ↦ elim (commas_of at seen + 1 == limit) [
-        | true ↦ Some (place_of end ts)
-        | false ↦ passes word limit end (at ∷ seen) (t ∷ before) ts
+        | true ↦ Some (token_place end ts)
+        | false ↦ passes_limit word limit end (at ∷ seen) (t ∷ before) ts
       ]
     ]
 
@@ -109,4 +109,4 @@ first_fault deep sources items = option_map (λ found. found.1) (earlier (placed
 
 -- the limit that a token list passes, the one of the least place, for a query of this length
 abbrev pub limit_fault : ℕ → List Token → Option ParseFault
-limit_fault end ts = first_fault (too_deep 32 0 ts) (passes is_from 8 end [] [] ts) (passes is_select 64 end [] [] ts)
+limit_fault end ts = first_fault (too_deep 32 0 ts) (passes_limit is_from 8 end [] [] ts) (passes_limit is_select 64 end [] [] ts)

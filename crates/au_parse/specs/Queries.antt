@@ -2,7 +2,7 @@
 use Rattle.std.specs.Prelude.{ℕ, zero, suc, ◌&&◌, Bool, true, false, List, [], ◌∷◌, length, map, Option, Some, None, option_map, option_and_then, if◌then◌else◌, is_some}
 use Rattle.au_lex.specs.declared.Token.{Token}
 use Rattle.au_parse.specs.declared.Name.{Name}
-use Rattle.au_parse.specs.Tree.{Tree, ItemTree, QueryTree, Sources}
+use Rattle.au_parse.specs.Tree.{TermTree, ItemTree, QueryTree, Sources}
 use Rattle.au_parse.specs.Words.{set_word, Clause, clause_word, comma, ends_operand, name_word, is_group_open, is_group_close, is_star, is_dot, is_semicolon, is_as, is_select, is_by, is_all, is_distinct}
 use Rattle.au_parse.specs.Cuts.{Part, last_split, cut, inside, anywhere}
 use Rattle.au_parse.specs.Expressions.{both, expression, column_of}
@@ -67,31 +67,31 @@ sources query [] = Some Sources.no_sources
 sources query (ts ∷ others) = let parts = aliased ts in source_with query parts.tokens parts.alias (sources query others)
 
 -- what stands behind the clause words of a SELECT: FROM, and then WHERE, GROUP and HAVING, each at most once and in this order
-pub record Clauses : Type 0 where
+pub record ClauseTokens : Type 0 where
   pub from : List Token
   pub condition : Option (ℕ × List Token)
   pub group : Option (List Token)
   pub having : Option (ℕ × List Token)
 
-abbrev pub having_clause : List (Part Clause) → Clauses → Option Clauses
+abbrev pub having_clause : List (Part Clause) → ClauseTokens → Option ClauseTokens
 having_clause [] done = Some done
 having_clause (Part.part Clause.having p ts ∷ []) done = Some (record done { having = Some (p, ts) })
 having_clause _ done = None
 
-abbrev pub group_clause : List (Part Clause) → Clauses → Option Clauses
+abbrev pub group_clause : List (Part Clause) → ClauseTokens → Option ClauseTokens
 group_clause (Part.part Clause.group p ts ∷ parts) done = having_clause parts (record done { group = Some ts })
 group_clause parts done = having_clause parts done
 
-abbrev pub condition_clause : List (Part Clause) → Clauses → Option Clauses
+abbrev pub condition_clause : List (Part Clause) → ClauseTokens → Option ClauseTokens
 condition_clause (Part.part Clause.condition p ts ∷ parts) done = group_clause parts (record done { condition = Some (p, ts) })
 condition_clause parts done = group_clause parts done
 
-abbrev pub clauses : List (Part Clause) → Option Clauses
+abbrev pub clauses : List (Part Clause) → Option ClauseTokens
 clauses (Part.part Clause.from p ts ∷ parts) = condition_clause parts (record { from = ts; condition = None; group = None; having = None })
 clauses _ = None
 
 -- the trees of the clauses
-abbrev pub condition_tree : Option (ℕ × List Token) → Option (Option (ℕ × Tree))
+abbrev pub condition_tree : Option (ℕ × List Token) → Option (Option (ℕ × TermTree))
 condition_tree None = Some None
 condition_tree (Some c) = option_map (λ e. Some (c.0, e)) (expression c.1)
 
@@ -104,11 +104,11 @@ keys_tree None = Some []
 keys_tree (Some ts) = keys_after_by ts
 
 -- a SELECT of these parts, where each has a tree: its items, sources, condition, keys and HAVING
-abbrev pub select_of : ℕ → Bool → Bool → Option (List ItemTree) → Option Sources → Option (Option (ℕ × Tree)) → Option (List Name) → Option (Option (ℕ × Tree)) → Option QueryTree
+abbrev pub select_of : ℕ → Bool → Bool → Option (List ItemTree) → Option Sources → Option (Option (ℕ × TermTree)) → Option (List Name) → Option (Option (ℕ × TermTree)) → Option QueryTree
 select_of at distinct grouped (Some is) (Some from) (Some condition) (Some keys) (Some having) = Some (QueryTree.select at distinct is from condition keys grouped having)
 select_of at distinct grouped _ _ _ _ _ = None
 
-abbrev pub select_with : QueryReader → ℕ → Bool → List Token → Clauses → Option QueryTree
+abbrev pub select_with : QueryReader → ℕ → Bool → List Token → ClauseTokens → Option QueryTree
 select_with query at distinct items parts =
     select_of at distinct (is_some parts.group) (all_some (map item_tree (between_commas items))) (sources query (between_commas parts.from))
     (condition_tree parts.condition) (keys_tree parts.group) (condition_tree parts.having)
@@ -164,5 +164,5 @@ without_semicolon (t ∷ []) = if is_semicolon t.what then [] else t ∷ []
 without_semicolon (t ∷ u ∷ ts) = t ∷ without_semicolon (u ∷ ts)
 
 -- the tree of a token list, if it has one
-abbrev pub tree_of : List Token → Option QueryTree
-tree_of ts = let query = without_semicolon ts in query_within (length query) query
+abbrev pub parsed_tree : List Token → Option QueryTree
+parsed_tree ts = let query = without_semicolon ts in query_within (length query) query

@@ -17,7 +17,7 @@ use Rattle.au_parse.specs.Cuts.{Part, anywhere}
 use Rattle.au_parse.specs.Expressions.{both}
 use Rattle.au_parse.specs.Levels.{grouped, rest_parts}
 use Rattle.au_parse.specs.Limits.{is_from, begins_part}
-use Rattle.au_parse.specs.Queries.{QueryReader, Clauses, Aliased, aliased, between_commas, has_all, without_all, operand, set_chain, source_with, sources, query_within}
+use Rattle.au_parse.specs.Queries.{QueryReader, ClauseTokens, Aliased, aliased, between_commas, has_all, without_all, operand, set_chain, source_with, sources, query_within}
 use Rattle.au_parse.specs.Views.{statement_tree, source_before, item_view, condition_view}
 
 -- the lists behind a comma, if there is one
@@ -94,7 +94,7 @@ pub record TakesClause (w : ClauseWord) (ts : List Token) (found : Option (ℕ �
   pub none : found ≡ None → begins_with (clause_of w) (clause_parts ts) ≡ false
 
 -- the clauses of a SELECT, with the place of GROUP left out
-abbrev pub all_clauses : List Token → Option (ℕ × List Token) → Option (ℕ × List Token) → Option (ℕ × List Token) → Clauses
+abbrev pub all_clauses : List Token → Option (ℕ × List Token) → Option (ℕ × List Token) → Option (ℕ × List Token) → ClauseTokens
 all_clauses from condition group having = record { from = from; condition = condition; group = option_map (λ g. g.1) group; having = having }
 
 -- one DISTINCT or ALL at the front

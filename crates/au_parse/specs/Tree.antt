@@ -12,26 +12,26 @@ pub data Operator : Type 0 where
   and : Operator
   or : Operator
 
-pub data Tree : Type 0 where
-  column : Name → Tree
-  number : ℕ → ℤ → Tree
+pub data TermTree : Type 0 where
+  column : Name → TermTree
+  number : ℕ → ℤ → TermTree
   -- a number without its point, and how many digits stand behind the point
-  decimal : ℕ → ℤ → ℕ → Tree
-  text : ℕ → List ℕ → Tree
-  flag : ℕ → Bool → Tree
-  binary : ℕ → Operator → Tree → Tree → Tree
-  negate : ℕ → Tree → Tree
-  not : ℕ → Tree → Tree
-  case : ℕ → Tree → Tree
+  decimal : ℕ → ℤ → ℕ → TermTree
+  text : ℕ → List ℕ → TermTree
+  flag : ℕ → Bool → TermTree
+  binary : ℕ → Operator → TermTree → TermTree → TermTree
+  negate : ℕ → TermTree → TermTree
+  not : ℕ → TermTree → TermTree
+  case : ℕ → TermTree → TermTree
   -- a part of a CASE: its condition, its value, and the next part, which is `when` again or the value of ELSE
-  when : Tree → Tree → Tree → Tree
-  count_rows : ℕ → Tree
-  aggregate : ℕ → AggWord → Tree → Tree
+  when : TermTree → TermTree → TermTree → TermTree
+  count_rows : ℕ → TermTree
+  aggregate : ℕ → AggWord → TermTree → TermTree
 
 pub data ItemTree : Type 0 where
   star : ℕ → ItemTree
   star_of : ℕ → List ℕ → ItemTree
-  value : Tree → Option (List ℕ) → ItemTree
+  value : TermTree → Option (List ℕ) → ItemTree
 
 pub data SetWord : Type 0 where
   union : SetWord
@@ -40,7 +40,7 @@ pub data SetWord : Type 0 where
 mutual
   pub data QueryTree : Type 0 where
     -- the place, DISTINCT, items, sources, condition, keys, GROUP BY, HAVING
-    select : ℕ → Bool → List ItemTree → Sources → Option (ℕ × Tree) → List Name → Bool → Option (ℕ × Tree) → QueryTree
+    select : ℕ → Bool → List ItemTree → Sources → Option (ℕ × TermTree) → List Name → Bool → Option (ℕ × TermTree) → QueryTree
     -- the set word, ALL, the place, both sides
     set : SetWord → Bool → ℕ → QueryTree → QueryTree → QueryTree
 

@@ -3,21 +3,21 @@
 use Rattle.std.specs.Prelude.{◌≡◌, Bool, IsTrue, true, false, List, [], ◌∷◌, IfSome}
 use Rattle.au_lex.specs.Lexemes.{is_scale}
 use Rattle.au_parse.specs.declared.Name.{Name}
-use Rattle.au_parse.specs.Tree.{Tree, ItemTree, QueryTree, Sources}
+use Rattle.au_parse.specs.Tree.{TermTree, ItemTree, QueryTree, Sources}
 
 -- the parts of a CASE begin with a WHEN
-abbrev pub HasWhen : Tree → Type 0
-HasWhen (Tree.when condition value rest) = Unit {0}
+abbrev pub HasWhen : TermTree → Type 0
+HasWhen (TermTree.when condition value rest) = Unit {0}
 HasWhen _ = ⊥
 
-abbrev pub WholeTerm : Tree → Type 0
-WholeTerm (Tree.binary at operator left right) = WholeTerm left × WholeTerm right
-WholeTerm (Tree.negate at e) = WholeTerm e
-WholeTerm (Tree.not at e) = WholeTerm e
-WholeTerm (Tree.case at parts) = HasWhen parts × WholeTerm parts
-WholeTerm (Tree.when condition value rest) = WholeTerm condition × WholeTerm value × WholeTerm rest
-WholeTerm (Tree.aggregate at word e) = WholeTerm e
-WholeTerm (Tree.decimal at n digits) = IsTrue (is_scale digits)
+abbrev pub WholeTerm : TermTree → Type 0
+WholeTerm (TermTree.binary at operator left right) = WholeTerm left × WholeTerm right
+WholeTerm (TermTree.negate at e) = WholeTerm e
+WholeTerm (TermTree.not at e) = WholeTerm e
+WholeTerm (TermTree.case at parts) = HasWhen parts × WholeTerm parts
+WholeTerm (TermTree.when condition value rest) = WholeTerm condition × WholeTerm value × WholeTerm rest
+WholeTerm (TermTree.aggregate at word e) = WholeTerm e
+WholeTerm (TermTree.decimal at n digits) = IsTrue (is_scale digits)
 WholeTerm _ = Unit {0}
 
 abbrev pub WholeItem : ItemTree → Type 0

@@ -1,6 +1,6 @@
 //! The limits of a list of tokens, each in one pass from the left.
 ghost use Rattle.std.specs.Prelude.{◌≡◌, ◌+◌, ◌<◌, ◌^◌, [], None, IfOk, IfSome, OnOk};
-ghost use Rattle.au_parse.specs.Limits.{begins_part, earlier, fault_of, first_fault, limit_fault, placed, passes, place_of, too_deep};
+ghost use Rattle.au_parse.specs.Limits.{begins_part, earlier, fault_of, first_fault, limit_fault, placed, passes_limit, token_place, too_deep};
 ghost use Rattle.au_parse.specs.Statements.{Commas, commas_after, counted, is_last};
 
 use crate::ParseFault;
@@ -130,7 +130,7 @@ impl CommaCounts {
 }
 
 fn place_of(end: usize, tokens: &[Token]) -> usize
-    ensures { result ≡ place_of end tokens.now }
+    ensures { result ≡ token_place end tokens.now }
 {
     match tokens.split_first() {
         Some((token, _)) => token.from,
@@ -146,7 +146,7 @@ fn passes(
     end: usize,
     tokens: &[Token],
 ) -> Result<Option<usize>, AllocError>
-    ensures { IfOk result (λ o. o ≡ passes (counted listed) limit end [] [] tokens.now) }
+    ensures { IfOk result (λ o. o ≡ passes_limit (counted listed) limit end [] [] tokens.now) }
 {
     let mut commas = CommaCounts::new(alloc);
     let mut rest = tokens;

@@ -2,7 +2,7 @@
 ghost use Rattle.std.specs.Prelude.{◌≡◌, None, Some, IfOk, IfErr, OnOk};
 ghost use Rattle.au_parse.specs.Limits.{limit_fault};
 ghost use Rattle.au_parse.specs.Parsing.{HasCause};
-ghost use Rattle.au_parse.specs.Queries.{tree_of, without_semicolon};
+ghost use Rattle.au_parse.specs.Queries.{parsed_tree, without_semicolon};
 ghost use Rattle.au_parse.specs.Views.{statement_tree};
 ghost use Rattle.au_parse.specs.Whole.{WholeQuery};
 
@@ -42,7 +42,7 @@ fn without_semicolon(tokens: &[Token]) -> &[Token]
 ///
 /// A limit that is passed comes before a fault of syntax, and of several limits the one of the least place.
 pub fn parse(alloc: Global, tokens: &[Token], length: usize) -> Result<Statement, ParseFault>
-    ensures tree { IfOk result (λ s. tree_of tokens.now ≡ Some (statement_tree s)) }
+    ensures tree { IfOk result (λ s. parsed_tree tokens.now ≡ Some (statement_tree s)) }
     ensures whole { IfOk result (λ s. WholeQuery (statement_tree s)) }
     ensures within { OnOk result (limit_fault length tokens.now ≡ None) }
     ensures cause { IfErr result (HasCause length tokens.now) }

@@ -3,7 +3,7 @@ ghost use Rattle.std.specs.Prelude.{◌≡◌, ◌<◌, ◌≤◌, length, false
 ghost use Rattle.au_lex.specs.Lexemes.{is_scale};
 ghost use Rattle.au_parse.specs.Expressions.{aggregate_tree, atom, both, case_tree, column_of, comparison_step, counts_rows, expression, not_step, primary, sign_step};
 ghost use Rattle.au_parse.specs.Levels.{arms_tree, begins_with_when, below, IsWhen, level_step, mark_kind, mark_of, operator_of, tree_read, Reads, ReadsArm, ReadsElse, ReadsInside, ReadsNoArm};
-ghost use Rattle.au_parse.specs.Tree.{Operator, Tree};
+ghost use Rattle.au_parse.specs.Tree.{Operator, TermTree};
 ghost use Rattle.au_parse.specs.Views.{term_tree};
 ghost use Rattle.au_parse.specs.Words.{comparison_operator, name_word};
 
@@ -83,7 +83,7 @@ fn joined(
     left: Term,
     right: Term,
 ) -> Result<Term, AllocError>
-    ensures { IfOk result (λ t. term_tree t ≡ Tree.binary at (operator_of operation) (term_tree left) (term_tree right)) }
+    ensures { IfOk result (λ t. term_tree t ≡ TermTree.binary at (operator_of operation) (term_tree left) (term_tree right)) }
 {
     let left = Box::new(alloc, left)?;
     let right = Box::new(alloc, right)?;
@@ -105,7 +105,7 @@ fn joined_if(
     left: Option<Term>,
     right: Option<Term>,
 ) -> Result<Option<Term>, AllocError>
-    ensures { IfOk result (λ o. tree_read o ≡ both (Tree.binary at (operator_of operation)) (tree_read left) (tree_read right)) }
+    ensures { IfOk result (λ o. tree_read o ≡ both (TermTree.binary at (operator_of operation)) (tree_read left) (tree_read right)) }
 {
     match left {
         Some(left) => match right {
@@ -118,7 +118,7 @@ fn joined_if(
 
 // A number with so many digits behind its point: 1 to 9.
 fn decimal(at: usize, n: i128, digits: u32) -> Option<Term>
-    ensures { tree_read result ≡ (if is_scale digits then Some (Tree.decimal at n digits) else None) }
+    ensures { tree_read result ≡ (if is_scale digits then Some (TermTree.decimal at n digits) else None) }
 {
     if 0 < digits && digits < 10 {
         Some(Term::Decimal(at, n, digits))
@@ -201,7 +201,7 @@ fn two_names(alloc: Global, first: &Token, last: &Token) -> Result<Option<Name>,
 }
 
 fn column_term(alloc: Global, tokens: &[Token]) -> Result<Option<Term>, AllocError>
-    ensures { IfOk result (λ o. tree_read o ≡ option_map Tree.column (column_of tokens.now)) }
+    ensures { IfOk result (λ o. tree_read o ≡ option_map TermTree.column (column_of tokens.now)) }
 {
     match column_of(alloc, tokens)? {
         Some(name) => Ok(Some(Term::Column(name))),
@@ -210,7 +210,7 @@ fn column_term(alloc: Global, tokens: &[Token]) -> Result<Option<Term>, AllocErr
 }
 
 fn not_if(alloc: Global, at: usize, found: Option<Term>) -> Result<Option<Term>, AllocError>
-    ensures { IfOk result (λ o. tree_read o ≡ option_map (Tree.not at) (tree_read found)) }
+    ensures { IfOk result (λ o. tree_read o ≡ option_map (TermTree.not at) (tree_read found)) }
 {
     match found {
         Some(term) => Ok(Some(Term::Not(at, Box::new(alloc, term)?))),
@@ -219,7 +219,7 @@ fn not_if(alloc: Global, at: usize, found: Option<Term>) -> Result<Option<Term>,
 }
 
 fn negate_if(alloc: Global, at: usize, found: Option<Term>) -> Result<Option<Term>, AllocError>
-    ensures { IfOk result (λ o. tree_read o ≡ option_map (Tree.negate at) (tree_read found)) }
+    ensures { IfOk result (λ o. tree_read o ≡ option_map (TermTree.negate at) (tree_read found)) }
 {
     match found {
         Some(term) => Ok(Some(Term::Negate(at, Box::new(alloc, term)?))),
@@ -233,7 +233,7 @@ fn aggregate_if(
     word: AggWord,
     found: Option<Term>,
 ) -> Result<Option<Term>, AllocError>
-    ensures { IfOk result (λ o. tree_read o ≡ option_map (Tree.aggregate at word) (tree_read found)) }
+    ensures { IfOk result (λ o. tree_read o ≡ option_map (TermTree.aggregate at word) (tree_read found)) }
 {
     match found {
         Some(term) => Ok(Some(Term::Aggregate(at, word, Box::new(alloc, term)?))),
@@ -392,7 +392,7 @@ fn aggregate(
 }
 
 fn case_term(at: usize, arms: Vec<(Term, Term)>, otherwise: Box<Term>) -> Term
-    ensures { term_tree result ≡ Tree.case at (arms_tree arms.items (term_tree otherwise.value)) }
+    ensures { term_tree result ≡ TermTree.case at (arms_tree arms.items (term_tree otherwise.value)) }
 {
     Term::Case(at, arms, otherwise)
 }

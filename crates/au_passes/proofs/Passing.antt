@@ -11,7 +11,7 @@ use Rattle.au_plain.specs.Meaning.{passes, plain_rows}
 use Rattle.au_plain.specs.Plans.{PlanTree}
 use Rattle.au_passes.specs.Conditions.{condition, conjuncts}
 use Rattle.au_passes.specs.Pushing.{filtered_by}
-use Rattle.au_passes.specs.Tests.{without_arithmetic, movable, staying, holds}
+use Rattle.au_passes.specs.Tests.{without_arithmetic, movable, staying, tests_hold}
 use Rattle.au_passes.proofs.Conjunctions.{of_conjuncts, of_condition, passing_both}
 
 and_swap : (a b c : Bool) → (a && (b && c)) ≡ (b && (a && c))
@@ -20,33 +20,33 @@ and_swap false true c = refl
 and_swap false false c = refl
 
 part_if :
-    (b : Bool) (e : PTerm) (ys ns : List PTerm) (row : List Value) (h : Bool) → h ≡ (holds ys row && holds ns row) →
-    (passes e row && h) ≡ (holds (cond b (e ∷ ys) ys) row && holds (cond (not b) (e ∷ ns) ns) row)
-part_if true e ys ns row h eq = ap (λ x. passes e row && x) eq ∙ sym (and_assoc (passes e row) (holds ys row) (holds ns row))
-part_if false e ys ns row h eq = ap (λ x. passes e row && x) eq ∙ and_swap (passes e row) (holds ys row) (holds ns row)
+    (b : Bool) (e : PTerm) (ys ns : List PTerm) (row : List Value) (h : Bool) → h ≡ (tests_hold ys row && tests_hold ns row) →
+    (passes e row && h) ≡ (tests_hold (cond b (e ∷ ys) ys) row && tests_hold (cond (not b) (e ∷ ns) ns) row)
+part_if true e ys ns row h eq = ap (λ x. passes e row && x) eq ∙ sym (and_assoc (passes e row) (tests_hold ys row) (tests_hold ns row))
+part_if false e ys ns row h eq = ap (λ x. passes e row && x) eq ∙ and_swap (passes e row) (tests_hold ys row) (tests_hold ns row)
 
 -- of some tests and of the others
-pub holds_parted : (test : PTerm → Bool) (es : List PTerm) (row : List Value) → holds es row ≡ (holds (filter test es) row && holds (filter (λ e. not (test e)) es) row)
+pub holds_parted : (test : PTerm → Bool) (es : List PTerm) (row : List Value) → tests_hold es row ≡ (tests_hold (filter test es) row && tests_hold (filter (λ e. not (test e)) es) row)
 holds_parted test [] row = refl
 holds_parted test (e ∷ es) row =
-    part_if (test e) e (filter test es) (filter (λ e. not (test e)) es) row (holds es row) (holds_parted test es row)
+    part_if (test e) e (filter test es) (filter (λ e. not (test e)) es) row (tests_hold es row) (holds_parted test es row)
 
-pub holds_append : (es fs : List PTerm) (row : List Value) → holds (es ++ fs) row ≡ (holds es row && holds fs row)
+pub holds_append : (es fs : List PTerm) (row : List Value) → tests_hold (es ++ fs) row ≡ (tests_hold es row && tests_hold fs row)
 holds_append es fs row = list_all-append (λ e. passes e row) es fs
 
 -- of the conjuncts of a condition
-pub holds_conjuncts : (e : PTerm) (row : List Value) → holds (conjuncts e) row ≡ passes e row
+pub holds_conjuncts : (e : PTerm) (row : List Value) → tests_hold (conjuncts e) row ≡ passes e row
 holds_conjuncts e row = sym (of_conjuncts (λ c. passes c row) (passing_both row) e)
 
 -- of those without arithmetic and the others
-pub holds_split : (e : PTerm) (row : List Value) → (holds (movable e) row && holds (staying e) row) ≡ passes e row
+pub holds_split : (e : PTerm) (row : List Value) → (tests_hold (movable e) row && tests_hold (staying e) row) ≡ passes e row
 holds_split e row = sym (holds_parted without_arithmetic (conjuncts e) row) ∙ holds_conjuncts e row
 
 -- the condition of some tests
-pub passes_condition : (es : List PTerm) (row : List Value) → passes (condition es) row ≡ holds es row
+pub passes_condition : (es : List PTerm) (row : List Value) → passes (condition es) row ≡ tests_hold es row
 passes_condition es row = of_condition (λ c. passes c row) (passing_both row) es
 
 -- the rows of a plan that pass each of some tests
-pub filtered_by_rows : (es : List PTerm) (p : PlanTree) (ts : List Rows) → plain_rows (filtered_by es p) ts ≡ filter (holds es) (plain_rows p ts)
+pub filtered_by_rows : (es : List PTerm) (p : PlanTree) (ts : List Rows) → plain_rows (filtered_by es p) ts ≡ filter (tests_hold es) (plain_rows p ts)
 filtered_by_rows [] p ts = sym (filter_all (plain_rows p ts))
 filtered_by_rows (e ∷ es) p ts = λ i. filter (λ row. passes_condition (e ∷ es) row i) (plain_rows p ts)

@@ -21,7 +21,7 @@ use Rattle.au_plain.proofs.Held.{RowFits, column_fits, joined_fits, rows_fit}
 use Rattle.au_passes.specs.Conditions.{condition, conjuncts}
 use Rattle.au_passes.specs.Pushing.{filtered_by, reading_only, reading_more, before, from, below_column, above_column, on_left, on_right, on_both}
 use Rattle.au_passes.proofs.Strengthening.{strengthened_by}
-use Rattle.au_passes.specs.Tests.{without_arithmetic, with_columns, renamed, movable, staying, holds}
+use Rattle.au_passes.specs.Tests.{without_arithmetic, with_columns, renamed, movable, staying, tests_hold}
 use Rattle.au_plain.specs.Widths.{plan_width}
 use Rattle.au_passes.proofs.Conjunctions.{of_conjuncts, of_condition, fitting_both, all_left}
 use Rattle.au_passes.proofs.FilteredRows.{pairs, pairs_filtered}
@@ -134,7 +134,7 @@ module _ (kinds : List (List Kind)) (ts : List Rows) (tables : AllZip HaveKinds 
       let parts = fit_parts (plan_numbers p ts) (flat_map (term_numbers c) (plain_rows p ts)) f in
       let below = strengthened_fits (below_column n c es) p a.0 a.2 tests parts.0 in
       let rows = strengthened_rows kinds ts tables (below_column n c es) p a.0 a.2 tests in
-      let column = subst (λ (rs : Rows). Fit (flat_map (term_numbers c) rs)) (sym rows) (some_fit c (holds (below_column n c es)) (plain_rows p ts) parts.1) in
+      let column = subst (λ (rs : Rows). Fit (flat_map (term_numbers c) rs)) (sym rows) (some_fit c (tests_hold (below_column n c es)) (plain_rows p ts) parts.1) in
       let whole = fit_both (plan_numbers q ts) (flat_map (term_numbers c) (plain_rows q ts)) below column in
       let typed = extend_same kinds ks a.0 c p q a.2 (strengthened_kinds kinds (below_column n c es) p a.0 a.2 tests) h in
       filtered_by_fits (above_column n c es) (plan.Extend c q) ts
@@ -151,9 +151,9 @@ module _ (kinds : List (List Kind)) (ts : List Rows) (tables : AllZip HaveKinds 
       let tests = all_append (IsTest ks) es (movable c) g (tests_movable ks c a.1) in
       let parts = fit_parts (plan_numbers p ts) (flat_map (term_numbers c) (plain_rows p ts)) f in
       let rows = strengthened_rows kinds ts tables more p ks a.0 tests in
-      let left = all_filter (λ row. Fit (term_numbers c row)) (holds more) (plain_rows p ts) (fits_each c (plain_rows p ts) parts.1) in
+      let left = all_filter (λ row. Fit (term_numbers c row)) (tests_hold more) (plain_rows p ts) (fits_each c (plain_rows p ts) parts.1) in
       filtered_by_fits (staying c) (strengthened_by more p) ts
-      (subst (λ (rs : Rows). AllByRecursion (AllFit (staying c)) rs) (sym rows) (rest_fit c (filter (holds more) (plain_rows p ts)) left))
+      (subst (λ (rs : Rows). AllByRecursion (AllFit (staying c)) rs) (sym rows) (rest_fit c (filter (tests_hold more) (plain_rows p ts)) left))
       (strengthened_fits more p ks a.0 tests parts.0)
   strengthened_fits es (plan.Join c p q) ks h g f =
       let a = join_parts kinds ks c p q h in
@@ -171,10 +171,10 @@ module _ (kinds : List (List Kind)) (ts : List Rows) (tables : AllZip HaveKinds 
       let test = condition (on_both n more ++ staying c) in
       let parts = fit_parts (plan_numbers p ts ++ plan_numbers q ts) (flat_map (term_numbers c) (pairs xs ys)) f in
       let sides = fit_parts (plan_numbers p ts) (plan_numbers q ts) parts.0 in
-      let passing = λ (row : List Value). holds (on_left n more) row && holds (reading_only (from n) (reading_more (before n) more)) row in
+      let passing = λ (row : List Value). tests_hold (on_left n more) row && tests_hold (reading_only (from n) (reading_more (before n) more)) row in
       let rows : pairs (plain_rows l ts) (plain_rows r ts) ≡ filter passing (pairs xs ys) =
       (λ i. pairs (strengthened_rows kinds ts tables (on_left n more) p a.0 a.2 lefts i) (strengthened_rows kinds ts tables (on_right n more) q a.1 a.3 rights i))
-      ∙ pairs_filtered n (holds (on_left n more)) (holds (on_right n more)) passing (λ x y wide. holds_sides n x y wide more) xs ys (rows_wide kinds ts tables p a.0 a.2) in
+      ∙ pairs_filtered n (tests_hold (on_left n more)) (tests_hold (on_right n more)) passing (λ x y wide. holds_sides n x y wide more) xs ys (rows_wide kinds ts tables p a.0 a.2) in
       let fine = pairs_fit xs ys (rows_fit kinds a.0 p ts a.2 held sides.0) (rows_fit kinds a.1 q ts a.3 held sides.1) in
       let all = each_fits test (pairs xs ys) (both_fit (on_both n more) c (pairs xs ys) boths fine (fits_each c (pairs xs ys) parts.1)) in
       fit_both (plan_numbers l ts ++ plan_numbers r ts) (flat_map (term_numbers test) (pairs (plain_rows l ts) (plain_rows r ts)))

@@ -4,6 +4,6 @@ pub mod Conditions
 pub mod Tests
 pub mod Pushing
 pub mod Reading
+pub mod Pruning
 -- What the contracts of inner calls and the proofs speak of.
 pub mod Places
-pub mod Pruning

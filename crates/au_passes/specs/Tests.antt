@@ -95,5 +95,5 @@ total_weight [] = 0
 total_weight (e ∷ es) = weight e + total_weight es
 
 -- whether a row passes each of some tests
-abbrev pub holds : List PTerm → List Value → Bool
-holds es row = list_all (λ e. passes e row) es
+abbrev pub tests_hold : List PTerm → List Value → Bool
+tests_hold es row = list_all (λ e. passes e row) es

@@ -13,8 +13,8 @@ use Rattle.std.proofs.lemmas.List.Sorted.{IsPermutation-map}
 use Rattle.au_value.specs.declared.value.Value.{Value}
 use Rattle.au_value.specs.Order.{order}
 use Rattle.au_value.specs.Ranges.{Span, certain, guesses, lower_ends, upper_ends}
-use Rattle.au_annot.specs.Counts.{fits}
-use Rattle.au_annot.specs.Triples.{counts, total}
+use Rattle.au_annot.specs.Counts.{count_fits}
+use Rattle.au_annot.specs.Triples.{counts, total_counts}
 use Rattle.au_algebra.specs.Counted.{CountedRow, count_of}
 use Rattle.au_algebra.specs.Entries.{entry}
 use Rattle.au_algebra.specs.Lists.{distinct, same_row}
@@ -97,7 +97,7 @@ distinct_ranges (v ∷ rows) =
 
 -- ---- the normal form
 
-pub total_of : (rows : List CountedRow) → total (map (λ r. r.annot) (map as_bounded rows)) ≡ counts (sum_by (λ r. r.annot) rows) (sum_by (λ r. r.annot) rows) (sum_by (λ r. r.annot) rows)
+pub total_of : (rows : List CountedRow) → total_counts (map (λ r. r.annot) (map as_bounded rows)) ≡ counts (sum_by (λ r. r.annot) rows) (sum_by (λ r. r.annot) rows) (sum_by (λ r. r.annot) rows)
 total_of [] = refl
 total_of (r ∷ rows) =
     let more = sym (sum_by-cons (λ s. s.annot) r rows) in
@@ -109,13 +109,13 @@ module _ (rows : List CountedRow) where
   abbrev with_count : List Value → CountedRow
   with_count v = entry v (count_of rows v)
 
-  merged_at : (v : List Value) → entry (ranges v) (total (map (λ r. r.annot) (filter (λ r. same_ranges (ranges v) r.cells) (map as_bounded rows)))) ≡ as_bounded (with_count v)
+  merged_at : (v : List Value) → entry (ranges v) (total_counts (map (λ r. r.annot) (filter (λ r. same_ranges (ranges v) r.cells) (map as_bounded rows)))) ≡ as_bounded (with_count v)
   merged_at v =
       ap (λ t. entry (ranges v) t)
-      (ap (λ rs. total (map (λ r. r.annot) rs)) (filter_mapped as_bounded (λ r. same_ranges (ranges v) r.cells) (λ r. same_row v r.cells) (λ r. same_ranges_of v r.cells) rows)
+      (ap (λ rs. total_counts (map (λ r. r.annot) rs)) (filter_mapped as_bounded (λ r. same_ranges (ranges v) r.cells) (λ r. same_row v r.cells) (λ r. same_ranges_of v r.cells) rows)
       ∙ total_of (filter (λ r. same_row v r.cells) rows))
 
-  merged_rows : (vs : Rows) → map (λ cells. entry cells (total (map (λ r. r.annot) (filter (λ r. same_ranges cells r.cells) (map as_bounded rows))))) (map ranges vs) ≡ map (λ v. as_bounded (with_count v)) vs
+  merged_rows : (vs : Rows) → map (λ cells. entry cells (total_counts (map (λ r. r.annot) (filter (λ r. same_ranges cells r.cells) (map as_bounded rows))))) (map ranges vs) ≡ map (λ v. as_bounded (with_count v)) vs
   merged_rows [] = refl
   merged_rows (v ∷ vs) = λ i. merged_at v i ∷ merged_rows vs i
 
@@ -123,7 +123,7 @@ module _ (rows : List CountedRow) where
   merge_equal_of =
       let keys : map (λ r. r.cells) (map as_bounded rows) ≡ map ranges (map (λ r. r.cells) rows) =
       map_map (λ r. r.cells) as_bounded rows ∙ sym (map_map ranges (λ r. r.cells) rows) in
-      ap (map (λ cells. entry cells (total (map (λ r. r.annot) (filter (λ r. same_ranges cells r.cells) (map as_bounded rows))))))
+      ap (map (λ cells. entry cells (total_counts (map (λ r. r.annot) (filter (λ r. same_ranges cells r.cells) (map as_bounded rows))))))
       (ap (distinct same_ranges) keys ∙ distinct_ranges (map (λ r. r.cells) rows))
       ∙ merged_rows (distinct same_row (map (λ r. r.cells) rows))
 
@@ -172,7 +172,7 @@ row_fits r h = record { triple = record { least_guess = le_refl r.annot; guess_m
 rows_fit : (rows : List CountedRow) → counts_fit rows ≡ true → AllByRecursion IsInRange (map as_bounded rows)
 rows_fit [] h = tt
 rows_fit (r ∷ rows) h =
-    let p = and_parts (fits r.annot) (counts_fit rows) h in
+    let p = and_parts (count_fits r.annot) (counts_fit rows) h in
     (row_fits r (ltb-true r.annot (2 ^ 127) p.0), rows_fit rows p.1)
 
 -- a count is past the range where a triple is

@@ -7,7 +7,7 @@ use Rattle.std.specs.Cmp.Lexicographic.{slice_cmp}
 use Rattle.au_value.specs.declared.kinds.Kind.{Kind}
 use Rattle.au_value.specs.declared.value.Value.{Value}
 use Rattle.au_value.specs.Order.{order}
-use Rattle.au_annot.specs.Counts.{fits}
+use Rattle.au_annot.specs.Counts.{count_fits}
 use Rattle.au_algebra.specs.Counted.{CountedRow, occurring, count_of}
 use Rattle.au_algebra.specs.Entries.{entry}
 use Rattle.au_algebra.specs.Lists.{distinct, same_row, copies}
@@ -37,7 +37,7 @@ world_rows world = map (λ v. entry v (copies v world)) (in_order (distinct same
 
 -- whether each count of these rows is at most 2^127-1
 abbrev pub counts_fit : List CountedRow → Bool
-counts_fit rows = list_all (λ r. fits r.annot) rows
+counts_fit rows = list_all (λ r. count_fits r.annot) rows
 
 -- a record of the names, and one of the count and the values for each row, in columns of these kinds
 abbrev pub counted_fields : List Kind → CountedRow → List (List ℕ)

@@ -2,7 +2,7 @@
 ghost use Rattle.std.specs.Prelude.{◌≡◌, ◌++◌, IfOk, OnOk, OnErr, IsTrue, false, map, length, codes, decimal};
 ghost use Rattle.au_annot.specs.Triples.{plus, in_range};
 ghost use Rattle.au_algebra.specs.Entries.{entry};
-ghost use Rattle.au_print.specs.DemoTexts.{sum_of, counted_line, demo_text as text_of};
+ghost use Rattle.au_print.specs.DemoTexts.{triple_sum, counted_line, demo_text as text_of};
 
 use au_algebra::Rel;
 use au_annot::{Annot, Triple};
@@ -17,8 +17,8 @@ use std::alloc::Global;
 /// `Overflow` comes exactly where one of the three sums exceeds 2^127-1.
 pub fn demo_text(alloc: Global, rows: &Rel<Range, Triple>) -> Result<Vec<u8>, EvalFault>
     ensures text { IfOk result (λ t. t.items ≡ text_of rows.now) }
-    ensures fit { IfOk result (λ t. IsTrue (in_range (sum_of rows.now))) }
-    ensures overflow { result ≡ Err EvalFault.Overflow → in_range (sum_of rows.now) ≡ false }
+    ensures fit { IfOk result (λ t. IsTrue (in_range (triple_sum rows.now))) }
+    ensures overflow { result ≡ Err EvalFault.Overflow → in_range (triple_sum rows.now) ≡ false }
 {
     match sum(rows.rows()) {
         Ok(triple) => match lines(alloc, rows.rows().len(), triple) {
@@ -31,9 +31,9 @@ pub fn demo_text(alloc: Global, rows: &Rel<Range, Triple>) -> Result<Vec<u8>, Ev
 
 // The sum of the triples.
 fn sum(rows: &[(Vec<Range>, Triple)]) -> Result<Triple, Overflow>
-    ensures sum { IfOk result (λ t. t ≡ sum_of (map (λ r. entry r.0.items r.1) rows.now)) }
-    ensures fit { IfOk result (λ t. IsTrue (in_range (sum_of (map (λ r. entry r.0.items r.1) rows.now)))) }
-    ensures overflow { OnErr result (in_range (sum_of (map (λ r. entry r.0.items r.1) rows.now)) ≡ false) }
+    ensures sum { IfOk result (λ t. t ≡ triple_sum (map (λ r. entry r.0.items r.1) rows.now)) }
+    ensures fit { IfOk result (λ t. IsTrue (in_range (triple_sum (map (λ r. entry r.0.items r.1) rows.now)))) }
+    ensures overflow { OnErr result (in_range (triple_sum (map (λ r. entry r.0.items r.1) rows.now)) ≡ false) }
 {
     let mut sum = Triple::zero();
     for (_, triple) in rows {

@@ -16,7 +16,7 @@ use Rattle.au_encode.specs.Encode.{encoded_kinds}
 use Rattle.au_rwexpr.specs.Flatten.{before, flatten, lo, sg, hi, three, flatten_items, item_places}
 use Rattle.au_rwexpr.specs.Cells.{cell_places, three_places}
 use Rattle.au_rwexpr.specs.Counts.{zero_term}
-use Rattle.au_rwcore.specs.Core.{select, project, product, union}
+use Rattle.au_rwcore.specs.Core.{select_plan, project_plan, product_plan, union_plan}
 use Rattle.au_rwexpr.proofs.Places.{ends_more, ends, all_ends}
 use Rattle.au_rwexpr.proofs.Columns.{adds, means_now}
 use Rattle.au_rwexpr.proofs.Structure.{flattened, found, added, added_long, items_law, items_picked, items_added, Any, any_of, below_any}
@@ -55,7 +55,7 @@ module _ (tk : List (List Kind)) (ks : List Kind) where
     at_triple = ends_more own own own row flat (3 * c) Int (coded_triple own own own own own own c ks Int refl)
 
     -- Select's plan has the encoded kinds of its input.
-    pub select_kinds : (p : PlanTree) → HasKinds tk p ks → HasKinds tk (select c e p) ks
+    pub select_kinds : (p : PlanTree) → HasKinds tk p ks → HasKinds tk (select_plan c e p) ks
     select_kinds p h =
         let m = n + (before e + 3) in
         let inner = extend_all (flatten n e) p in
@@ -81,7 +81,7 @@ module _ (tk : List (List Kind)) (ks : List Kind) where
       (λ i. result_is ks e p.0 p.1 i ∷ results_are es q.0 q.1 i) ∙ some_is (p.0 ∷ q.0) js q.2
 
   -- Project's plan has the encoded kinds of its items.
-  pub project_kinds : (items : List Term) (js : List Kind) → items_kinds ks items ≡ Some js → (p : PlanTree) → HasKinds tk p ks → HasKinds tk (project c items p) js
+  pub project_kinds : (items : List Term) (js : List Kind) → items_kinds ks items ≡ Some js → (p : PlanTree) → HasKinds tk p ks → HasKinds tk (project_plan c items p) js
   project_kinds items js typed p h =
       let wide = items_added own own own plain_kind ks ks (result ks) items in
       let all = row ++ wide in
@@ -95,7 +95,7 @@ module _ (tk : List (List Kind)) (ks : List Kind) where
       ∙ ap (λ ms. Some (encoded_kinds ms)) (results_are items js typed)
 
   -- Product's plan has the encoded kinds of both sides.
-  pub product_kinds : (js : List Kind) (p q : PlanTree) → HasKinds tk p ks → HasKinds tk q js → HasKinds tk (product c (length js) p q) (ks ++ js)
+  pub product_kinds : (js : List Kind) (p q : PlanTree) → HasKinds tk p ks → HasKinds tk q js → HasKinds tk (product_plan c (length js) p q) (ks ++ js)
   product_kinds js p q h g =
       let d = length js in
       let t = 3 * c in
@@ -120,7 +120,7 @@ module _ (tk : List (List Kind)) (ks : List Kind) where
       (pair_picks own own own own own own c d ks js Int Int refl refl Int)
 
 -- Union's plan has the encoded kinds of both.
-pub union_kinds : (tk : List (List Kind)) (ks : List Kind) (p q : PlanTree) → HasKinds tk p ks → HasKinds tk q ks → HasKinds tk (union p q) ks
+pub union_kinds : (tk : List (List Kind)) (ks : List Kind) (p q : PlanTree) → HasKinds tk p ks → HasKinds tk q ks → HasKinds tk (union_plan p q) ks
 union_kinds tk ks p q h g =
     (λ i. option_and_then (λ a. option_and_then (λ b. kinds_if (same_kinds a b) a) (g i)) (h i))
     ∙ ap (λ b. kinds_if b (encoded_kinds ks)) (same_kinds_itself (encoded_kinds ks))

@@ -6,14 +6,14 @@ use Rattle.au_plain.specs.declared.expr.PExpr.{PExpr}
 use Rattle.au_plain.specs.PTerms.{pterm}
 use Rattle.au_rwexpr.specs.Cells.{three_places}
 use Rattle.au_rwexpr.specs.Flatten.{before, flatten, flatten_items, item_places}
-use Rattle.au_rwexpr.specs.Nodes.{Adds}
+use Rattle.au_rwexpr.specs.Nodes.{AddsColumns}
 use Rattle.au_rwexpr.proofs.Flattening.{adds_long}
 
 -- the item at hand, and those that are left
 pub split_at : {A : Type 0} (xs : List A) (i : ℕ) (x : A) → i < length xs → x ≡ get_or xs i x → drop i xs ≡ x ∷ drop (i + 1) xs
 split_at xs i x h e = drop-cons xs i x h ∙ (λ j. sym e j ∷ drop (sym (add-one i) j) xs)
 
-module _ (w : ℕ) (e : Term) (es : List Term) (old new : List PExpr) (at : ℕ) (x : Adds w e old new at) where
+module _ (w : ℕ) (e : Term) (es : List Term) (old new : List PExpr) (at : ℕ) (x : AddsColumns w e old new at) where
   wider : w + length new ≡ w + length old + (before e + 3)
   wider = omega (arith, adds_long w e old new at x)
 

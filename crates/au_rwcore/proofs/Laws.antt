@@ -12,7 +12,7 @@ use Rattle.au_algebra.proofs.PositiveRelation.{select_relation, project_relation
 use Rattle.au_plain.specs.Plans.{PlanTree}
 use Rattle.au_plain.specs.PlanNumbers.{scans, plan_numbers}
 use Rattle.au_rwexpr.specs.Flatten.{flatten, flatten_items}
-use Rattle.au_rwcore.specs.Core.{select, project, product, union}
+use Rattle.au_rwcore.specs.Core.{select_plan, project_plan, product_plan, union_plan}
 use Rattle.au_encode.specs.Gives.{Gives}
 use Rattle.au_rwcore.specs.Gives.{Selects, Projects, Multiplies, Unites}
 use Rattle.au_rwexpr.proofs.Counting.{scans-extend_all}
@@ -25,11 +25,11 @@ use Rattle.au_rwcore.proofs.SelectNumbers.{select_fits}
 use Rattle.au_rwcore.proofs.ProjectNumbers.{project_fits}
 use Rattle.au_rwcore.proofs.ProductNumbers.{product_fits}
 
-module _ (c : ℕ) (e : Term) (of p : PlanTree) (is : p ≡ select c e of) where
-  select_as_is : Selects c e of (select c e of)
+module _ (c : ℕ) (e : Term) (of p : PlanTree) (is : p ≡ select_plan c e of) where
+  select_as_is : Selects c e of (select_plan c e of)
   select_as_is kinds tables ks rows ns long typed g =
       let own = flat_map (λ r. expr_numbers e r.cells) rows ++ triple_numbers (bounded.select e rows) in
-      subst (λ n. Gives kinds tables (select n e of) ks (bounded.select e rows) (ns ++ own)) long
+      subst (λ n. Gives kinds tables (select_plan n e of) ks (bounded.select e rows) (ns ++ own)) long
       (record {
         typed = select_kinds kinds ks e typed of g.typed;
         relation = select_relation ks e typed rows g.relation;
@@ -43,11 +43,11 @@ module _ (c : ℕ) (e : Term) (of p : PlanTree) (is : p ≡ select c e of) where
   pub select_scans : scans p ≤ scans of
   select_scans = le_of_eq {n = scans p} {m = scans of} (ap scans is ∙ scans-extend_all (flatten (3 * c + 3) e) of)
 
-module _ (c : ℕ) (items : List Term) (of p : PlanTree) (is : p ≡ project c items of) where
-  project_as_is : Projects c items of (project c items of)
+module _ (c : ℕ) (items : List Term) (of p : PlanTree) (is : p ≡ project_plan c items of) where
+  project_as_is : Projects c items of (project_plan c items of)
   project_as_is kinds tables ks js rows ns long typed g =
       let own = flat_map (λ r. flat_map (λ e. expr_numbers e r.cells) items) rows in
-      subst (λ n. Gives kinds tables (project n items of) js (bounded.project items rows) (ns ++ own)) long
+      subst (λ n. Gives kinds tables (project_plan n items of) js (bounded.project items rows) (ns ++ own)) long
       (record {
         typed = project_kinds kinds ks items js typed of g.typed;
         relation = project_relation ks items js typed rows g.relation;
@@ -61,12 +61,12 @@ module _ (c : ℕ) (items : List Term) (of p : PlanTree) (is : p ≡ project c i
   pub project_scans : scans p ≤ scans of
   project_scans = le_of_eq {n = scans p} {m = scans of} (ap scans is ∙ scans-extend_all (flatten_items (3 * c + 3) items) of)
 
-module _ (c d : ℕ) (left right p : PlanTree) (is : p ≡ product c d left right) where
-  product_as_is : Multiplies c d left right (product c d left right)
+module _ (c d : ℕ) (left right p : PlanTree) (is : p ≡ product_plan c d left right) where
+  product_as_is : Multiplies c d left right (product_plan c d left right)
   product_as_is kinds tables ks js xs ys ms ns long wide g h =
       let own = triple_numbers (bounded.product xs ys) in
-      subst (λ n. Gives kinds tables (product n d left right) (ks ++ js) (bounded.product xs ys) (ms ++ (ns ++ own))) long
-      (subst (λ n. Gives kinds tables (product (length ks) n left right) (ks ++ js) (bounded.product xs ys) (ms ++ (ns ++ own))) wide
+      subst (λ n. Gives kinds tables (product_plan n d left right) (ks ++ js) (bounded.product xs ys) (ms ++ (ns ++ own))) long
+      (subst (λ n. Gives kinds tables (product_plan (length ks) n left right) (ks ++ js) (bounded.product xs ys) (ms ++ (ns ++ own))) wide
       (record {
         typed = product_kinds kinds ks js left right g.typed h.typed;
         relation = product_relation ks js xs ys g.relation h.relation;
@@ -82,8 +82,8 @@ module _ (c d : ℕ) (left right p : PlanTree) (is : p ≡ product c d left righ
   pub product_scans : scans p ≤ scans left + scans right
   product_scans = le_of_eq {n = scans p} {m = scans left + scans right} (ap scans is)
 
-module _ (left right p : PlanTree) (is : p ≡ union left right) where
-  union_as_is : Unites left right (union left right)
+module _ (left right p : PlanTree) (is : p ≡ union_plan left right) where
+  union_as_is : Unites left right (union_plan left right)
   union_as_is kinds tables ks xs ys ms ns g h = record {
     typed = union_kinds kinds ks left right g.typed h.typed;
     relation = union_relation ks xs ys g.relation h.relation;

@@ -22,7 +22,7 @@ use Rattle.au_encode.specs.Encode.{encode, encode_row}
 use Rattle.au_encode.proofs.Decoded.{cells_length}
 use Rattle.au_rwexpr.specs.Adding.{grow}
 use Rattle.au_rwexpr.specs.Cells.{cell_places, three_places}
-use Rattle.au_rwcore.specs.Core.{product, products}
+use Rattle.au_rwcore.specs.Core.{product_plan, products}
 use Rattle.au_rwexpr.proofs.Places.{ends}
 use Rattle.au_rwexpr.proofs.Columns.{adds}
 use Rattle.au_rwexpr.proofs.OnValues.{reading, column_has}
@@ -119,7 +119,7 @@ module _ (ks js : List Kind) where
       filter_all (flat_map (λ a. map (λ b. a ++ b) (plain_rows q ts)) (plain_rows p ts)) ∙ (λ i. flat_map (λ a. map (λ b. a ++ b) (h i)) (g i))
 
   -- Product's plan gives the rows of the bounded product.
-  pub product_gives : (ts : List Rows) (p q : PlanTree) (xs ys : Bounded) → IsRelation ks xs → IsRelation js ys → Gives ts p xs → Gives ts q ys → Gives ts (product left right p q) (bounded.product xs ys)
+  pub product_gives : (ts : List Rows) (p q : PlanTree) (xs ys : Bounded) → IsRelation ks xs → IsRelation js ys → Gives ts p xs → Gives ts q ys → Gives ts (product_plan left right p q) (bounded.product xs ys)
   product_gives ts p q xs ys v w g h =
       let join = Join (Literal (value.Flag true)) p q in
       ap (map (kept pair_places)) (rows-extend_all new join ts ∙ ap (map (grow new)) (joined_rows ts p q xs ys g h))

@@ -19,7 +19,7 @@ use Rattle.au_encode.proofs.Decoded.{cells_length}
 use Rattle.au_rwexpr.specs.Flatten.{flatten_items, item_places}
 use Rattle.au_rwexpr.specs.Adding.{grow}
 use Rattle.au_rwexpr.specs.Cells.{three_places}
-use Rattle.au_rwcore.specs.Core.{project}
+use Rattle.au_rwcore.specs.Core.{project_plan}
 use Rattle.au_rwexpr.proofs.Places.{ends_more, ends, all_ends}
 use Rattle.au_rwexpr.proofs.Structure.{items_law, items_picked, items_added, Any, any_of, below_any}
 use Rattle.au_rwexpr.proofs.OnValues.{reading, value_steps}
@@ -63,7 +63,7 @@ module _ (ks : List Kind) (items : List Term) (js : List Kind) (typed : items_ki
       ap (kept places) grown ∙ kept_are row places (encode_row (projected r)) picks
 
   -- Project's plan gives the rows of the bounded project.
-  pub project_gives : (ts : List Rows) (p : PlanTree) (rows : Bounded) → IsRelation ks rows → Gives ts p rows → Gives ts (project c items p) (bounded.project items rows)
+  pub project_gives : (ts : List Rows) (p : PlanTree) (rows : Bounded) → IsRelation ks rows → Gives ts p rows → Gives ts (project_plan c items p) (bounded.project items rows)
   project_gives ts p rows ok g =
       ap (map (kept places)) (rows-extend_all (flatten_items n items) p ts ∙ ap (map (grow (flatten_items n items))) g)
       ∙ map-map (grow (flatten_items n items)) (kept places) (encode rows)

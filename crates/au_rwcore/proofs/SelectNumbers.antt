@@ -26,7 +26,7 @@ use Rattle.au_encode.specs.Encode.{encode_row}
 use Rattle.au_rwexpr.specs.Adding.{grow_numbers}
 use Rattle.au_rwexpr.specs.Counts.{zero_term}
 use Rattle.au_rwexpr.specs.Flatten.{before, flatten, lo, sg, hi}
-use Rattle.au_rwcore.specs.Core.{select}
+use Rattle.au_rwcore.specs.Core.{select_plan}
 use Rattle.au_rwexpr.proofs.Careful.{careful, Fits, all_careful, careful_grow, chosen_fits, column_fits}
 use Rattle.au_rwexpr.proofs.Coded.{cl, cg}
 use Rattle.au_rwexpr.proofs.Columns.{adds}
@@ -100,7 +100,7 @@ module _ (ks : List Kind) (e : Term) (typed : kind_in ks e ≡ Some Flag) where
   Passing row = passes (hi i) row ≡ true → Fit (grow_numbers (new ks e typed) row)
 
   -- Select's plan adds no number that does not fit.
-  pub select_fits : (ts : List Rows) (p : PlanTree) (rows : Bounded) → IsRelation ks rows → Gives ts p rows → Fit (flat_map (λ r. expr_numbers e r.cells) rows ++ triple_numbers (bounded.select e rows)) → Fit (plan_numbers p ts) → Fit (plan_numbers (select c e p) ts)
+  pub select_fits : (ts : List Rows) (p : PlanTree) (rows : Bounded) → IsRelation ks rows → Gives ts p rows → Fit (flat_map (λ r. expr_numbers e r.cells) rows ++ triple_numbers (bounded.select e rows)) → Fit (plan_numbers p ts) → Fit (plan_numbers (select_plan c e p) ts)
   select_fits ts p rows ok g f np =
       let parts = fit_parts (flat_map (λ r. expr_numbers e r.cells) rows) (triple_numbers (bounded.select e rows)) f in
       let sound : AllByRecursion Sound rows =

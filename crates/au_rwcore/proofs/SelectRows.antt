@@ -26,7 +26,7 @@ use Rattle.au_encode.proofs.Decoded.{cells_length}
 use Rattle.au_rwexpr.specs.Flatten.{before, flatten, hi}
 use Rattle.au_rwexpr.specs.Adding.{grow}
 use Rattle.au_rwexpr.specs.Cells.{cell_places}
-use Rattle.au_rwcore.specs.Core.{select, weighed}
+use Rattle.au_rwcore.specs.Core.{select_plan, weighed}
 use Rattle.au_rwexpr.proofs.Places.{Ends, ends_more}
 use Rattle.au_rwexpr.proofs.Columns.{AllMean, adds}
 use Rattle.au_rwexpr.proofs.Structure.{flattened, found, added, added_long, Any, below_any}
@@ -148,7 +148,7 @@ module _ (ks : List Kind) where
         ∙ map_valid (IsRangeRow ks) (λ r. grow (flatten n e) (encode_row r)) one rows ok grown
 
     -- Select's plan gives the rows of the bounded select.
-    pub select_gives : (ts : List Rows) (p : PlanTree) (rows : Bounded) → IsRelation ks rows → Gives ts p rows → Gives ts (select c e p) (bounded.select e rows)
+    pub select_gives : (ts : List Rows) (p : PlanTree) (rows : Bounded) → IsRelation ks rows → Gives ts p rows → Gives ts (select_plan c e p) (bounded.select e rows)
     select_gives ts p rows ok g =
         let inner = extend_all (flatten n e) p in
         ap (map (kept places)) (rows-extend_all new (Filter (hi i) inner) ts)

@@ -15,8 +15,8 @@ weighed i t = Case (lo i) (lo t) zero_term ∷ Case (sg i) (sg t) zero_term ∷ 
 
 -- The rows whose condition is possible, with `c` columns. Least and guess stay where it certainly holds and where it
 -- holds in the guess world, and are 0 elsewhere.
-abbrev pub select : ℕ → Term → PlanTree → PlanTree
-select c e p =
+abbrev pub select_plan : ℕ → Term → PlanTree → PlanTree
+select_plan c e p =
     let t = 3 * c in
     let n = 3 * c + 3 in
     let i = n + before e in
@@ -25,8 +25,8 @@ select c e p =
     (extend_all (weighed i t) (Filter (hi i) (extend_all (flatten n e) p)))
 
 -- the ranges of the items, with the triple
-abbrev pub project : ℕ → List Term → PlanTree → PlanTree
-project c items p =
+abbrev pub project_plan : ℕ → List Term → PlanTree → PlanTree
+project_plan c items p =
     let n = 3 * c + 3 in Keep (item_places n items ++ three_places (3 * c)) (extend_all (flatten_items n items) p)
 
 -- the products of the triples at two places
@@ -34,8 +34,8 @@ abbrev pub products : ℕ → ℕ → List PTerm
 products t u = three (Multiply (lo t) (lo u)) (Multiply (sg t) (sg u)) (Multiply (hi t) (hi u))
 
 -- each pair of a row of `c` columns and one of `d`, with the triples multiplied
-abbrev pub product : ℕ → ℕ → PlanTree → PlanTree → PlanTree
-product c d p q =
+abbrev pub product_plan : ℕ → ℕ → PlanTree → PlanTree → PlanTree
+product_plan c d p q =
     let t = 3 * c in
     let b = 3 * c + 3 in
     let u = b + 3 * d in
@@ -44,5 +44,5 @@ product c d p q =
     (extend_all (products t u) (Join (Literal (Flag true)) p q))
 
 -- the rows of both
-abbrev pub union : PlanTree → PlanTree → PlanTree
-union p q = plan.Union p q
+abbrev pub union_plan : PlanTree → PlanTree → PlanTree
+union_plan p q = plan.Union p q

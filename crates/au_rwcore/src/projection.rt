@@ -7,7 +7,7 @@ ghost use Rattle.au_plain.specs.PlanNumbers.{scans};
 ghost use Rattle.au_rwexpr.specs.Cells.{three_places};
 ghost use Rattle.au_rwexpr.specs.Flatten.{flatten_items, item_places};
 ghost use Rattle.au_rwcore.specs.Adds.{AddsByProject};
-ghost use Rattle.au_rwcore.specs.Core.{project as projected};
+ghost use Rattle.au_rwcore.specs.Core.{project_plan as projected};
 ghost use Rattle.au_rwcore.specs.Gives.{Projects};
 
 use au_expr::Expr;

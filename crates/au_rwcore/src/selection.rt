@@ -8,7 +8,7 @@ ghost use Rattle.au_rwexpr.specs.Cells.{cell_places};
 ghost use Rattle.au_rwexpr.specs.Counts.{zero_term};
 ghost use Rattle.au_rwexpr.specs.Flatten.{before, flatten};
 ghost use Rattle.au_rwcore.specs.Adds.{AddsBySelect};
-ghost use Rattle.au_rwcore.specs.Core.{select as selected, weighed};
+ghost use Rattle.au_rwcore.specs.Core.{select_plan as selected, weighed};
 ghost use Rattle.au_rwcore.specs.Gives.{Selects};
 
 use au_expr::Expr;

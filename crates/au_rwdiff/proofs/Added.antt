@@ -6,16 +6,16 @@ use Rattle.au_plain.specs.Plans.{PlanTree, Scan}
 use Rattle.au_encode.specs.Encode.{encode, encoded_kinds}
 use Rattle.au_rwexpr.proofs.Filled.{two_add, scan_gives}
 use Rattle.au_rwdiff.specs.Adds.{AddsByDifference}
-use Rattle.au_rwdiff.specs.Differences.{difference}
+use Rattle.au_rwdiff.specs.Differences.{difference_plan}
 use Rattle.au_rwdiff.proofs.Laws.{difference_gives}
 
-module _ (c : ℕ) (left right p : PlanTree) (is : p ≡ difference c left right) where
+module _ (c : ℕ) (left right p : PlanTree) (is : p ≡ difference_plan c left right) where
   pub difference_adds : AddsByDifference c left right p
   difference_adds tables ks xs ys long ok g h f =
       let rows = combine xs in
       let first = Scan 0 (3 * length ks + 3) in
       let second = Scan 1 (3 * length ks + 3) in
-      let over = difference c first second in
+      let over = difference_plan c first second in
       let tk = encoded_kinds ks ∷ encoded_kinds ks ∷ [] in
       let ts = encode rows ∷ encode ys ∷ [] in
       let gives =

@@ -15,7 +15,7 @@ use Rattle.au_encode.specs.Encode.{encoded_kinds, triple_kinds}
 use Rattle.au_rwexpr.specs.Cells.{cell_places, run, three_places}
 use Rattle.au_rwexpr.specs.Counts.{zero_term, positive}
 use Rattle.au_rwexpr.specs.Flatten.{lo, sg, hi}
-use Rattle.au_rwexpr.specs.Meets.{meets, same_guesses, surely_equal}
+use Rattle.au_rwexpr.specs.Meets.{meets_term, same_guesses, surely_equal}
 use Rattle.au_rwexpr.proofs.Coded.{own}
 use Rattle.au_rwexpr.proofs.Columns.{adds, means_now}
 use Rattle.au_rwexpr.proofs.Gives.{HasKinds, same_kinds_itself, kinds-keep, kinds-filter, kinds-extend_all}
@@ -23,7 +23,7 @@ use Rattle.au_rwexpr.proofs.MeetingKinds.{meets_kind, same_kind, surely_kind}
 use Rattle.au_rwexpr.proofs.OnKinds.{HasKind, column_kind, case_kind, subtract_kind, greatest_kind, positive_kind}
 use Rattle.au_rwexpr.proofs.Picks.{Picks, kinds_kept, picks_more, pick_cells, pick_three, coded_cells, coded_triple, coded_long, ends_past, left_cells, right_cells, right_triple}
 use Rattle.au_rwexpr.proofs.Places.{At, ends_more, all_ends_more}
-use Rattle.au_rwdiff.specs.Differences.{no_columns, taken_columns, left_columns, taken, summed, difference}
+use Rattle.au_rwdiff.specs.Differences.{no_columns, taken_columns, left_columns, taken_plan, summed_plan, difference_plan}
 use Rattle.au_combine.proofs.BoxPlaces.{first_picks}
 
 abbrev ints : List Kind
@@ -50,17 +50,17 @@ module _ (tk : List (List Kind)) (ks : List Kind) (p q : PlanTree) (hp : HasKind
   long = coded_long own own own own own own c ks Int refl
 
   -- each left row with a right row, and with what is taken
-  taken_kinds : plan_kinds tk (taken c w p q) ≡ Some counted
+  taken_kinds : plan_kinds tk (taken_plan c w p q) ≡ Some counted
   taken_kinds =
       let pair = row ++ row in
       let lefts = left_cells own own own own own own c c ks ks Int Int refl refl in
       let rights = right_cells own own own own own own c c ks ks Int Int refl refl in
       let triple = right_triple own own own own own own c c ks ks Int Int refl refl in
       let pair_is_long : length pair ≡ w + w = omega (arith, length-append row row, long) in
-      let join = Join (meets 0 w c) p q in
+      let join = Join (meets_term 0 w c) p q in
       let joined : plan_kinds tk join ≡ Some pair =
-      (λ i. option_and_then (λ a. option_and_then (λ b. kinds_if (is_kind Flag (plain_kind (a ++ b) (meets 0 w c))) (a ++ b)) (hq i)) (hp i))
-      ∙ ap (λ o. kinds_if (is_kind Flag o) pair) (means_now plain_kind pair (meets 0 w c) Flag (meets_kind pair 0 w c ks refl lefts rights)) in
+      (λ i. option_and_then (λ a. option_and_then (λ b. kinds_if (is_kind Flag (plain_kind (a ++ b) (meets_term 0 w c))) (a ++ b)) (hq i)) (hp i))
+      ∙ ap (λ o. kinds_if (is_kind Flag o) pair) (means_now plain_kind pair (meets_term 0 w c) Flag (meets_kind pair 0 w c ks refl lefts rights)) in
       let z : HasKind pair zero_term Int = (λ more. refl) in
       let new = adds plain_kind pair (taken_columns c w u) ints (
         column_kind pair (u + 2) Int triple.hi,
@@ -75,10 +75,10 @@ module _ (tk : List (List Kind)) (ks : List Kind) (p q : PlanTree) (hp : HasKind
       (picks_more wide (run 0 w) (three_places (w + w)) row ints first (pick_three own own own wide (w + w) Int (ends_past own own own pair [] (w + w) Int pair_is_long)))
 
   -- the sums stand behind a left row, as the counts do
-  summed_kinds : plan_kinds tk (summed c w p q) ≡ Some counted
+  summed_kinds : plan_kinds tk (summed_plan c w p q) ≡ Some counted
   summed_kinds =
       let zeros = kinds-extend_all tk no_columns p row counted hp (adds plain_kind row no_columns ints ((λ more. refl), ((λ more. refl), ((λ more. refl), tt)))) in
-      let both : plan_kinds tk (Union (extend_all no_columns p) (taken c w p q)) ≡ Some counted =
+      let both : plan_kinds tk (Union (extend_all no_columns p) (taken_plan c w p q)) ≡ Some counted =
       (λ i. option_and_then (λ a. option_and_then (λ b. kinds_if (same_kinds a b) a) (taken_kinds i)) (zeros i)) ∙ ap (λ b. kinds_if b counted) (same_kinds_itself counted) in
       let at = ends_past own own own row [] w Int long in
       let sum_kind : (i : ℕ) → At counted i Int → plain_agg_kind counted (Sum i) ≡ Some Int = (λ i there. λ j. if is_kind Int (there j) then Some Int else None) in
@@ -93,7 +93,7 @@ module _ (tk : List (List Kind)) (ks : List Kind) (p q : PlanTree) (hp : HasKind
       ∙ (λ i. option_and_then (λ ms. option_and_then (λ more. Some (ms ++ more)) (sums i)) (keys i))
 
   -- Difference's plan has the encoded kinds of its left side.
-  pub difference_kinds : HasKinds tk (difference c p q) ks
+  pub difference_kinds : HasKinds tk (difference_plan c p q) ks
   difference_kinds =
       let t = 3 * c in
       let cells = triple_kinds ks in
@@ -110,8 +110,8 @@ module _ (tk : List (List Kind)) (ks : List Kind) (p q : PlanTree) (hp : HasKind
       let whole = counted ++ ints in
       let counted_long : length counted ≡ w + 3 = omega (arith, length-append row ints, long) in
       let new = ends_past own own own counted [] (w + 3) Int counted_long in
-      let plan = extend_all (left_columns t w) (summed c w p q) in
-      let extended = kinds-extend_all tk (left_columns t w) (summed c w p q) counted whole summed_kinds rest in
+      let plan = extend_all (left_columns t w) (summed_plan c w p q) in
+      let extended = kinds-extend_all tk (left_columns t w) (summed_plan c w p q) counted whole summed_kinds rest in
       let passed = kinds-filter tk (positive (hi (w + 3))) plan whole extended
       (means_now plain_kind whole (positive (hi (w + 3))) Flag (positive_kind whole (hi (w + 3)) (column_kind whole (w + 3 + 2) Int new.hi))) in
       kinds-keep tk (cell_places 0 c ++ three_places (w + 3)) (Filter (positive (hi (w + 3))) plan) whole row passed

@@ -27,7 +27,7 @@ use Rattle.au_rwexpr.specs.Adding.{grow_numbers}
 use Rattle.au_rwexpr.specs.Cells.{run}
 use Rattle.au_rwexpr.specs.Counts.{zero_term, positive}
 use Rattle.au_rwexpr.specs.Flatten.{lo, sg, hi}
-use Rattle.au_rwexpr.specs.Meets.{meets, same_guesses, surely_equal}
+use Rattle.au_rwexpr.specs.Meets.{meets_term, same_guesses, surely_equal}
 use Rattle.au_rwexpr.proofs.Allowed.{fits_now, all_of, all_both, lower_fits}
 use Rattle.au_rwexpr.proofs.Careful.{careful, Fits, all_careful, careful_grow, case_fits, column_fits, subtract_fits, greatest_fits, compare_fits}
 use Rattle.au_rwexpr.proofs.Coded.{cl, cg, cm}
@@ -40,7 +40,7 @@ use Rattle.au_rwexpr.proofs.PlanNumbersOf.{fit_all, all_fit, all_made, numbers-e
 use Rattle.au_combine.proofs.CombineNumbers.{sum_magnitudes}
 use Rattle.au_combine.proofs.JoinGroups.{Apart, pairs, with_left, flat_map_valid}
 use Rattle.au_combine.proofs.JoinRows.{all_joined}
-use Rattle.au_rwdiff.specs.Differences.{no_columns, taken_columns, left_columns, taken, summed, difference}
+use Rattle.au_rwdiff.specs.Differences.{no_columns, taken_columns, left_columns, taken_plan, summed_plan, difference_plan}
 use Rattle.au_rwdiff.proofs.DifferenceRows as g
 use Rattle.au_rwdiff.proofs.FirstGroups.{ledger_numbers}
 use Rattle.au_rwdiff.proofs.JoinedRows as j
@@ -190,16 +190,16 @@ module _ (ks : List Kind) (left right : Bounded) (left_ok : IsRelation ks left) 
       (all_made IsKnown IsSafe (λ m. (r, m)) (partners r) (all_filter IsKnown (j.meet ks r) right also) (λ m k. (v.0, k))) (safe_pairs rs v.1 also)
 
   -- the test of a pair, whether it meets or not
-  meeting_fits : (r m : RangeRow) → IsKnown r → IsKnown m → Fit (term_numbers (meets 0 w c) (encode_row r ++ encode_row m))
+  meeting_fits : (r m : RangeRow) → IsKnown r → IsKnown m → Fit (term_numbers (meets_term 0 w c) (encode_row r ++ encode_row m))
   meeting_fits r m x y =
       let s : RangeRow × RangeRow = (r, m) in
       let v : j.IsPair ks s = (x.0, y.0) in
       let row = j.joined ks s in
-      fits_now row (meets 0 w c) (meets_fits row 0 w c r.cells m.cells (j.long ks r x.0) (j.long ks m y.0) (j.lefts ks s v) (j.rights ks s v) x.1.cells y.1.cells)
+      fits_now row (meets_term 0 w c) (meets_fits row 0 w c r.cells m.cells (j.long ks r x.0) (j.long ks m y.0) (j.lefts ks s v) (j.rights ks s v) x.1.cells y.1.cells)
 
   module _ (ts : List Rows) (p q : PlanTree) (gl : Gives ts p left) (gr : Gives ts q right) (fine : AllFitRows left) (also : AllFitRows right) (summing : Fit (flat_map (difference_sums right) left)) where
     abbrev join : PlanTree
-    join = Join (meets 0 w c) p q
+    join = Join (meets_term 0 w c) p q
 
     known_left : AllByRecursion IsKnown left
     known_left = all_both (IsRangeRow ks) FitRow left left_ok fine
@@ -209,7 +209,7 @@ module _ (ks : List Kind) (left right : Bounded) (left_ok : IsRelation ks left) 
 
     join_fits : Fit (plan_numbers p ts) → Fit (plan_numbers q ts) → Fit (plan_numbers join ts)
     join_fits np nq =
-        let e = meets 0 w c in
+        let e = meets_term 0 w c in
         let Tested = λ (row : List Value). Fit (term_numbers e row) in
         let all = flat_map (λ a. map (λ b. a ++ b) (plain_rows q ts)) (plain_rows p ts) in
         let tested : AllByRecursion Tested (flat_map (λ a. map (λ b. a ++ b) (encode right)) (encode left)) =
@@ -220,20 +220,20 @@ module _ (ks : List Kind) (left right : Bounded) (left_ok : IsRelation ks left) 
         (subst (λ rs. AllByRecursion Tested (flat_map (λ a. map (λ b. a ++ b) (plain_rows q ts)) rs)) (sym gl)
         (subst (λ rs. AllByRecursion Tested (flat_map (λ a. map (λ b. a ++ b) rs) (encode left))) (sym gr) tested)))
 
-    taken_fits : Fit (plan_numbers p ts) → Fit (plan_numbers q ts) → Fit (plan_numbers (taken c w p q) ts)
+    taken_fits : Fit (plan_numbers p ts) → Fit (plan_numbers q ts) → Fit (plan_numbers (taken_plan c w p q) ts)
     taken_fits np nq =
         let Grown = λ (row : List Value). Fit (grow_numbers (taken_columns c w u) row) in
         numbers-extend_all ts (taken_columns c w u) join (join_fits np nq)
         (subst (λ rs. AllByRecursion Grown rs) (sym (g.joined_rows ks left right left_ok right_ok apart ts p q gl gr))
         (all_made IsSafe Grown (j.joined ks) (g.all_pairs ks left right left_ok right_ok apart) (safe_pairs left known_left known_right) taken_fit))
 
-    summed_fits : Fit (plan_numbers p ts) → Fit (plan_numbers q ts) → Fit (plan_numbers (summed c w p q) ts)
+    summed_fits : Fit (plan_numbers p ts) → Fit (plan_numbers q ts) → Fit (plan_numbers (summed_plan c w p q) ts)
     summed_fits np nq =
         let aggs = g.aggs ks left right left_ok right_ok apart in
         let zeros = numbers-extend_all ts no_columns p np (all_of (λ row. Fit (grow_numbers no_columns row)) (λ row. refl) (plain_rows p ts)) in
-        let both = Union (extend_all no_columns p) (taken c w p q) in
+        let both = Union (extend_all no_columns p) (taken_plan c w p q) in
         fit_both (plan_numbers both ts) (group_numbers (run 0 w) aggs (plain_rows both ts))
-        (fit_both (plan_numbers (extend_all no_columns p) ts) (plan_numbers (taken c w p q) ts) zeros (taken_fits np nq))
+        (fit_both (plan_numbers (extend_all no_columns p) ts) (plan_numbers (taken_plan c w p q) ts) zeros (taken_fits np nq))
         (subst (λ rs. Fit (group_numbers (run 0 w) aggs rs)) (sym (g.entry_rows ks left right left_ok right_ok apart ts p q gl gr))
         (subst (λ ns. Fit ns) (sym grouping_numbers) summing))
 
@@ -241,16 +241,16 @@ module _ (ks : List Kind) (left right : Bounded) (left_ok : IsRelation ks left) 
     IsCounted r = IsRangeRow ks r × (Fit (difference_sums right r) × FitRow r)
 
     -- Difference's plan adds no number that does not fit.
-    pub difference_fits : Fit (plan_numbers p ts) → Fit (plan_numbers q ts) → Fit (plan_numbers (difference c p q) ts)
+    pub difference_fits : Fit (plan_numbers p ts) → Fit (plan_numbers q ts) → Fit (plan_numbers (difference_plan c p q) ts)
     difference_fits np nq =
         let e = positive (hi (w + 3)) in
         let Grown = λ (row : List Value). Fit (grow_numbers (left_columns t w) row) in
         let Tested = λ (row : List Value). Fit (term_numbers e row) in
         let all = all_both (IsRangeRow ks) (λ r. Fit (difference_sums right r) × FitRow r) left left_ok
         (all_both (λ r. Fit (difference_sums right r)) FitRow left (all_fit (difference_sums right) left summing) fine) in
-        let last = extend_all (left_columns t w) (summed c w p q) in
+        let last = extend_all (left_columns t w) (summed_plan c w p q) in
         let last_fit =
-        numbers-extend_all ts (left_columns t w) (summed c w p q) (summed_fits np nq)
+        numbers-extend_all ts (left_columns t w) (summed_plan c w p q) (summed_fits np nq)
         (subst (λ rs. AllByRecursion Grown rs) (sym (g.summed_rows ks left right left_ok right_ok apart ts p q gl gr))
         (all_made IsCounted Grown with_gone left all (λ r h. left_fit r h.0 h.1.0 h.1.1))) in
         numbers-filter ts e last last_fit

@@ -24,7 +24,7 @@ use Rattle.au_rwexpr.specs.Adding.{grow}
 use Rattle.au_rwexpr.specs.Cells.{cell_places, run, three_places}
 use Rattle.au_rwexpr.specs.Counts.{positive}
 use Rattle.au_rwexpr.specs.Flatten.{hi}
-use Rattle.au_rwexpr.specs.Meets.{meets}
+use Rattle.au_rwexpr.specs.Meets.{meets_term}
 use Rattle.au_rwexpr.proofs.Coded.{rl, rs, rh, cl, cg, cm}
 use Rattle.au_rwexpr.proofs.Columns.{AllMean, adds}
 use Rattle.au_rwexpr.proofs.Flags.{below_zero}
@@ -38,7 +38,7 @@ use Rattle.au_combine.proofs.BoxPlaces.{first_picks}
 use Rattle.au_combine.proofs.CombineRows.{sum_column}
 use Rattle.au_combine.proofs.JoinGroups.{Apart, pairs, with_left}
 use Rattle.au_combine.proofs.JoinRows.{join_rows}
-use Rattle.au_rwdiff.specs.Differences.{no_columns, taken_columns, left_columns, taken, summed, difference}
+use Rattle.au_rwdiff.specs.Differences.{no_columns, taken_columns, left_columns, taken_plan, summed_plan, difference_plan}
 use Rattle.au_rwdiff.proofs.FirstGroups.{firsts, ledger, ledger_groups}
 use Rattle.au_rwdiff.proofs.Floor.{floor}
 use Rattle.au_rwdiff.proofs.JoinedRows as j
@@ -209,10 +209,10 @@ module _ (ks : List Kind) (left right : Bounded) (left_ok : IsRelation ks left) 
       (pick_three cl cg cm (whole r) (w + 3) (less right r).annot (new_at r v)))
 
   module _ (ts : List Rows) (p q : PlanTree) (g : Gives ts p left) (h : Gives ts q right) where
-    pub joined_rows : plain_rows (Join (meets 0 w c) p q) ts ≡ map (j.joined ks) all_pairs
+    pub joined_rows : plain_rows (Join (meets_term 0 w c) p q) ts ≡ map (j.joined ks) all_pairs
     joined_rows =
-        (λ i. filter (passes (meets 0 w c)) (flat_map (λ a. map (λ b. a ++ b) (h i)) (g i)))
-        ∙ join_rows (IsRangeRow ks) (IsRangeRow ks) encode_row encode_row (passes (meets 0 w c)) (j.meet ks) (λ r m v p. j.meets_now ks (r, m) (v, p)) left right left_ok right_ok
+        (λ i. filter (passes (meets_term 0 w c)) (flat_map (λ a. map (λ b. a ++ b) (h i)) (g i)))
+        ∙ join_rows (IsRangeRow ks) (IsRangeRow ks) encode_row encode_row (passes (meets_term 0 w c)) (j.meet ks) (λ r m v p. j.meets_now ks (r, m) (v, p)) left right left_ok right_ok
 
     shared : (rows : Bounded) → map (λ s. encode_row s.0 ++ encode_counts (j.share ks s.0 s.1)) (pairs encode_row partners rows) ≡ map with_counts (pairs encode_row shares rows)
     shared [] = refl
@@ -228,10 +228,10 @@ module _ (ks : List Kind) (left right : Bounded) (left_ok : IsRelation ks left) 
         ∙ (λ i. first i ++ shared rows i)
         ∙ sym (map-append with_counts (with_left encode_row shares r (shares r)) (pairs encode_row shares rows))
 
-    taken_rows : plain_rows (taken c w p q) ts ≡ map with_counts (pairs encode_row shares left)
+    taken_rows : plain_rows (taken_plan c w p q) ts ≡ map with_counts (pairs encode_row shares left)
     taken_rows =
         let new = run 0 w ++ three_places (w + w) in
-        ap (map (kept new)) (rows-extend_all (taken_columns c w u) (Join (meets 0 w c) p q) ts
+        ap (map (kept new)) (rows-extend_all (taken_columns c w u) (Join (meets_term 0 w c) p q) ts
         ∙ ap (map (grow (taken_columns c w u))) joined_rows
         ∙ map-map (j.joined ks) (grow (taken_columns c w u)) all_pairs)
         ∙ map-map (λ s. grow (taken_columns c w u) (j.joined ks s)) (kept new) all_pairs
@@ -246,25 +246,25 @@ module _ (ks : List Kind) (left right : Bounded) (left_ok : IsRelation ks left) 
     zero_rows : plain_rows (extend_all no_columns p) ts ≡ map with_counts (firsts encode_row none shares left)
     zero_rows = rows-extend_all no_columns p ts ∙ ap (map (grow no_columns)) g ∙ zero_grown left left_ok
 
-    pub entry_rows : plain_rows (extend_all no_columns p) ts ++ plain_rows (taken c w p q) ts ≡ map with_counts entries
+    pub entry_rows : plain_rows (extend_all no_columns p) ts ++ plain_rows (taken_plan c w p q) ts ≡ map with_counts entries
     entry_rows = (λ i. zero_rows i ++ taken_rows i) ∙ sym (map-append with_counts (firsts encode_row none shares left) (pairs encode_row shares left))
 
-    pub summed_rows : plain_rows (summed c w p q) ts ≡ map with_gone left
+    pub summed_rows : plain_rows (summed_plan c w p q) ts ≡ map with_gone left
     summed_rows =
         ap (plain_group (run 0 w) aggs) entry_rows
         ∙ ledger_groups encode_row none shares Fine with_counts (run 0 w) same_key aggs left apart entries_fine
         ∙ map_valid (IsRangeRow ks) (λ r. encode_row r ++ map (plain_aggregate (map with_counts (with_left encode_row shares r (none ∷ shares r)))) aggs) with_gone left left_ok
         (λ r v. ap (λ vs. encode_row r ++ vs) (all_sums r v))
 
-    pub whole_rows : plain_rows (extend_all (left_columns (3 * c) w) (summed c w p q)) ts ≡ map whole left
+    pub whole_rows : plain_rows (extend_all (left_columns (3 * c) w) (summed_plan c w p q)) ts ≡ map whole left
     whole_rows =
-        rows-extend_all (left_columns (3 * c) w) (summed c w p q) ts
+        rows-extend_all (left_columns (3 * c) w) (summed_plan c w p q) ts
         ∙ ap (map (grow (left_columns (3 * c) w))) summed_rows
         ∙ map-map with_gone (grow (left_columns (3 * c) w)) left
         ∙ map_valid (IsRangeRow ks) (λ r. grow (left_columns (3 * c) w) (with_gone r)) whole left left_ok left_grown
 
     -- Difference's plan gives the rows that are left.
-    pub difference_rows : Gives ts (difference c p q) (present (map (less right) left))
+    pub difference_rows : Gives ts (difference_plan c p q) (present (map (less right) left))
     difference_rows =
         ap (λ rows. map (kept places) (filter (passes (positive (hi (w + 3)))) rows)) whole_rows
         ∙ passing (IsRangeRow ks) whole (passes (positive (hi (w + 3)))) (kept places) (less right) (λ r. not (is_none r.annot)) encode_row same_test same_row_kept left left_ok

@@ -18,7 +18,7 @@ use Rattle.au_encode.specs.Encode.{encode_row, encode_counts}
 use Rattle.au_encode.proofs.Decoded.{cells_length}
 use Rattle.au_rwexpr.specs.Adding.{grow}
 use Rattle.au_rwexpr.specs.Cells.{run, three_places}
-use Rattle.au_rwexpr.specs.Meets.{meets}
+use Rattle.au_rwexpr.specs.Meets.{meets_term}
 use Rattle.au_rwexpr.proofs.Coded.{rl, rs, rh, cl, cg, cm}
 use Rattle.au_rwexpr.proofs.Columns.{AllMean, adds}
 use Rattle.au_rwexpr.proofs.Gives.{grow_is}
@@ -81,9 +81,9 @@ module _ (ks : List Kind) where
     joined_long : length (joined s) ≡ w + w
     joined_long = pair_long rl rs rh cl cg cm c c s.0.cells s.1.cells s.0.annot s.1.annot (long s.0 v.0) (long s.1 v.1) ∙ (let e : 3 * c + 3 + 3 * c + 3 ≡ w + w = omega arith in e)
 
-    pub meets_now : passes (meets 0 w c) (joined s) ≡ meet s.0 s.1
+    pub meets_now : passes (meets_term 0 w c) (joined s) ≡ meet s.0 s.1
     meets_now =
-        ap (λ row. is_true (plain_value (meets 0 w c) row)) (sym (append-nil (joined s)))
+        ap (λ row. is_true (plain_value (meets_term 0 w c) row)) (sym (append-nil (joined s)))
         ∙ ap is_true (meets_has (joined s) 0 w c s.0.cells s.1.cells (long s.0 v.0) (long s.1 v.1) lefts rights [])
 
     pub taken_mean : AllMean reading (joined s) (taken_columns c w u) (encode_counts (share s.0 s.1))

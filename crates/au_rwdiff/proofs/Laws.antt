@@ -10,19 +10,19 @@ use Rattle.au_plain.specs.Plans.{PlanTree}
 use Rattle.au_encode.specs.Gives.{Gives}
 use Rattle.au_encode.proofs.HeldCells.{gives_held}
 use Rattle.au_combine.proofs.RowsApart.{combine_apart}
-use Rattle.au_rwdiff.specs.Differences.{difference}
+use Rattle.au_rwdiff.specs.Differences.{difference_plan}
 use Rattle.au_rwdiff.specs.Gives.{Subtracts}
 use Rattle.au_rwdiff.proofs.DifferenceKinds.{difference_kinds}
 use Rattle.au_rwdiff.proofs.DifferenceNumbers.{difference_fits}
 use Rattle.au_rwdiff.proofs.DifferenceRows.{difference_rows}
 
-module _ (c : ℕ) (left right p : PlanTree) (is : p ≡ difference c left right) where
-  difference_as_is : Subtracts c left right (difference c left right)
+module _ (c : ℕ) (left right p : PlanTree) (is : p ≡ difference_plan c left right) where
+  difference_as_is : Subtracts c left right (difference_plan c left right)
   difference_as_is kinds tables ks xs ys ms ns held long ok g h =
       let rows = combine xs in
       let own = triple_numbers rows ++ flat_map (difference_sums ys) rows in
       let apart = combine_apart ks xs ok in
-      subst (λ n. Gives kinds tables (difference n left right) ks (bounded.difference xs ys) (ms ++ (ns ++ own))) long
+      subst (λ n. Gives kinds tables (difference_plan n left right) ks (bounded.difference xs ys) (ms ++ (ns ++ own))) long
       (record {
         typed = difference_kinds kinds ks left right g.typed h.typed;
         relation = difference_relation ks ys h.relation xs ok;

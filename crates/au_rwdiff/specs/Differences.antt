@@ -7,7 +7,7 @@ use Rattle.au_plain.specs.Plans.{PlanTree, Keep, Filter, Join, Union, Group, ext
 use Rattle.au_rwexpr.specs.Cells.{cell_places, three_places, run}
 use Rattle.au_rwexpr.specs.Counts.{zero_term, positive}
 use Rattle.au_rwexpr.specs.Flatten.{lo, sg, hi, three}
-use Rattle.au_rwexpr.specs.Meets.{meets, same_guesses, surely_equal}
+use Rattle.au_rwexpr.specs.Meets.{meets_term, same_guesses, surely_equal}
 
 -- nothing, three times
 abbrev pub no_columns : List PTerm
@@ -25,18 +25,18 @@ left_columns t w =
     (greatest_of_two (Subtract (hi t) (hi w)) zero_term)
 
 -- each left row, of this width, with what one of its partners takes
-abbrev pub taken : ℕ → ℕ → PlanTree → PlanTree → PlanTree
-taken c w p q = Keep (run 0 w ++ three_places (w + w)) (extend_all (taken_columns c w (w + 3 * c)) (Join (meets 0 w c) p q))
+abbrev pub taken_plan : ℕ → ℕ → PlanTree → PlanTree → PlanTree
+taken_plan c w p q = Keep (run 0 w ++ three_places (w + w)) (extend_all (taken_columns c w (w + 3 * c)) (Join (meets_term 0 w c) p q))
 
 -- each left row with the sums of what is taken
-abbrev pub summed : ℕ → ℕ → PlanTree → PlanTree → PlanTree
-summed c w p q = Group (run 0 w) (Sum w ∷ Sum (w + 1) ∷ Sum (w + 2) ∷ []) (Union (extend_all no_columns p) (taken c w p q))
+abbrev pub summed_plan : ℕ → ℕ → PlanTree → PlanTree → PlanTree
+summed_plan c w p q = Group (run 0 w) (Sum w ∷ Sum (w + 1) ∷ Sum (w + 2) ∷ []) (Union (extend_all no_columns p) (taken_plan c w p q))
 
 -- the rows of which a copy may be left, with the counts that are left
 abbrev pub remaining : ℕ → ℕ → PlanTree → PlanTree → PlanTree
 remaining c w p q =
-    Keep (cell_places 0 c ++ three_places (w + 3)) (Filter (positive (hi (w + 3))) (extend_all (left_columns (3 * c) w) (summed c w p q)))
+    Keep (cell_places 0 c ++ three_places (w + 3)) (Filter (positive (hi (w + 3))) (extend_all (left_columns (3 * c) w) (summed_plan c w p q)))
 
 -- the left rows less the right rows, of so many columns
-abbrev pub difference : ℕ → PlanTree → PlanTree → PlanTree
-difference c p q = remaining c (3 * c + 3) p q
+abbrev pub difference_plan : ℕ → PlanTree → PlanTree → PlanTree
+difference_plan c p q = remaining c (3 * c + 3) p q

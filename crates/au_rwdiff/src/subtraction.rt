@@ -5,7 +5,7 @@ ghost use Rattle.au_plain.specs.Plans.{plan_tree};
 ghost use Rattle.au_plain.specs.PlanNumbers.{scans};
 ghost use Rattle.au_rwexpr.specs.Cells.{cell_places, run, three_places};
 ghost use Rattle.au_rwdiff.specs.Adds.{AddsByDifference};
-ghost use Rattle.au_rwdiff.specs.Differences.{difference as subtracted, summed as summed_tree, taken as taken_tree};
+ghost use Rattle.au_rwdiff.specs.Differences.{difference_plan as subtracted, summed_plan as summed_tree, taken_plan as taken_tree};
 ghost use Rattle.au_rwdiff.specs.Gives.{Subtracts};
 
 use crate::columns::{left_columns, no_columns, positive, taken_columns};

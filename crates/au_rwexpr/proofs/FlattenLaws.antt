@@ -13,7 +13,7 @@ use Rattle.au_plain.specs.PlanKinds.{plain_kind}
 use Rattle.au_encode.specs.Encode.{encode_row, encoded_kinds}
 use Rattle.au_encode.proofs.Decoded.{cells_length}
 use Rattle.au_rwexpr.specs.Flatten.{before, flatten}
-use Rattle.au_rwexpr.specs.Nodes.{Adds, nodes}
+use Rattle.au_rwexpr.specs.Nodes.{AddsColumns, nodes}
 use Rattle.au_rwexpr.specs.Adding.{grow_kinds, last_three, EndsWithRange, EndsWithKind, NumbersStay}
 use Rattle.au_rwexpr.proofs.Places.{ends}
 use Rattle.au_rwexpr.proofs.Columns.{add_columns}
@@ -82,7 +82,7 @@ module _ (c : ℕ) (e : Term) where
       (flattened rl rs rh careful ks r.cells result (Fine ks r.cells long) (below_fine ks r.cells long) (careful_steps ks r.cells long) e k fine typed row n
       (coded_long rl rs rh cl cg cm c r.cells r.annot wide) (coded_cells rl rs rh cl cg cm c r.cells r.annot wide))).1
 
-module _ (c w : ℕ) (e : Term) (new : List PExpr) (at : ℕ) (is : w ≡ 3 * c + 3) (x : Adds w e [] new at) where
+module _ (c w : ℕ) (e : Term) (new : List PExpr) (at : ℕ) (is : w ≡ 3 * c + 3) (x : AddsColumns w e [] new at) where
   pub columns_are : map pterm new ≡ flatten (3 * c + 3) e
   columns_are = x.columns ∙ ap (λ n. flatten n e) (let s : w + 0 ≡ 3 * c + 3 = omega (arith, is) in s)
 

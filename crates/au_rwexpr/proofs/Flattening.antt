@@ -9,7 +9,7 @@ use Rattle.au_plain.specs.declared.expr.PExpr.{PExpr}
 use Rattle.au_plain.specs.PTerms.{PTerm, pterm}
 use Rattle.au_rwexpr.specs.Flatten as plain
 use Rattle.au_rwexpr.specs.Flatten.{before, flatten}
-use Rattle.au_rwexpr.specs.Nodes.{Adds, nodes, operator_step}
+use Rattle.au_rwexpr.specs.Nodes.{AddsColumns, nodes, operator_step}
 
 compare_long : (how : Comparison) (i j : ℕ) → length (plain.compare_step how i j) ≡ 3
 compare_long Equal i j = refl
@@ -59,7 +59,7 @@ before_is (Not a) = omega (arith, before_is a)
 before_is (Case c a b) = omega (arith, before_is c, before_is a, before_is b)
 
 -- how many columns there are then
-pub adds_long : (w : ℕ) (e : Term) (old new : List PExpr) (at : ℕ) → Adds w e old new at → length new ≡ length old + (before e + 3)
+pub adds_long : (w : ℕ) (e : Term) (old new : List PExpr) (at : ℕ) → AddsColumns w e old new at → length new ≡ length old + (before e + 3)
 adds_long w e old new at x =
     sym (length-map new pterm) ∙ ap length x.columns ∙ length-append (map pterm old) (flatten (w + length old) e)
     ∙ (λ i. length-map old pterm i + flatten_long (w + length old) e i)
@@ -78,19 +78,19 @@ pub data OnePart : Term → Term → Type 0 where
   opposite : {a : Term} → OnePart (Not a) a
 
 module _ (w : ℕ) (old new : List PExpr) (own : List PTerm) (at : ℕ) where
-  leaf : (e : Term) → before e ≡ 0 → own ≡ flatten (w + length old) e → map pterm new ≡ map pterm old ++ own → at ≡ w + length old → Adds w e old new at
+  leaf : (e : Term) → before e ≡ 0 → own ≡ flatten (w + length old) e → map pterm new ≡ map pterm old ++ own → at ≡ w + length old → AddsColumns w e old new at
   leaf e none is h p = record { columns = h ∙ ap (λ xs. map pterm old ++ xs) is; place = omega (arith, p, none) }
 
-  pub column_adds : (i k : ℕ) → k ≡ 3 * i → own ≡ plain.column_step k → map pterm new ≡ map pterm old ++ own → at ≡ w + length old → Adds w (Column i) old new at
+  pub column_adds : (i k : ℕ) → k ≡ 3 * i → own ≡ plain.column_step k → map pterm new ≡ map pterm old ++ own → at ≡ w + length old → AddsColumns w (Column i) old new at
   column_adds i k e is h p = leaf (Column i) refl (is ∙ ap plain.column_step e) h p
 
-  pub literal_adds : (v : _) → own ≡ flatten 0 (Literal v) → map pterm new ≡ map pterm old ++ own → at ≡ w + length old → Adds w (Literal v) old new at
+  pub literal_adds : (v : _) → own ≡ flatten 0 (Literal v) → map pterm new ≡ map pterm old ++ own → at ≡ w + length old → AddsColumns w (Literal v) old new at
   literal_adds v is h p = leaf (Literal v) refl is h p
 
   abbrev n : ℕ
   n = w + length old
 
-  one : (step : ℕ → List PTerm) (e a : Term) → flatten n e ≡ flatten n a ++ step (n + before a) → before e ≡ before a + 3 → (c1 : List PExpr) (i : ℕ) → Adds w a old c1 i → own ≡ step i → map pterm new ≡ map pterm c1 ++ own → at ≡ w + length c1 → Adds w e old new at
+  one : (step : ℕ → List PTerm) (e a : Term) → flatten n e ≡ flatten n a ++ step (n + before a) → before e ≡ before a + 3 → (c1 : List PExpr) (i : ℕ) → AddsColumns w a old c1 i → own ≡ step i → map pterm new ≡ map pterm c1 ++ own → at ≡ w + length c1 → AddsColumns w e old new at
   one step e a flat bf c1 i x is h p = record {
     columns =
         h
@@ -100,7 +100,7 @@ module _ (w : ℕ) (old new : List PExpr) (own : List PTerm) (at : ℕ) where
     place = omega (arith, p, bf, adds_long w a old c1 i x);
   }
 
-  two : (step : ℕ → ℕ → List PTerm) (e a b : Term) → flatten n e ≡ flatten n a ++ (flatten (n + (before a + 3)) b ++ step (n + before a) (n + (before a + 3) + before b)) → before e ≡ before a + 3 + (before b + 3) → (c1 c2 : List PExpr) (i j : ℕ) → Adds w a old c1 i → Adds w b c1 c2 j → own ≡ step i j → map pterm new ≡ map pterm c2 ++ own → at ≡ w + length c2 → Adds w e old new at
+  two : (step : ℕ → ℕ → List PTerm) (e a b : Term) → flatten n e ≡ flatten n a ++ (flatten (n + (before a + 3)) b ++ step (n + before a) (n + (before a + 3) + before b)) → before e ≡ before a + 3 + (before b + 3) → (c1 c2 : List PExpr) (i j : ℕ) → AddsColumns w a old c1 i → AddsColumns w b c1 c2 j → own ≡ step i j → map pterm new ≡ map pterm c2 ++ own → at ≡ w + length c2 → AddsColumns w e old new at
   two step e a b flat bf c1 c2 i j x y is h p =
       let m = n + (before a + 3) in
       let wide : w + length c1 ≡ m = omega (arith, adds_long w a old c1 i x) in
@@ -118,7 +118,7 @@ module _ (w : ℕ) (old new : List PExpr) (own : List PTerm) (at : ℕ) where
         place = omega (arith, p, bf, adds_long w a old c1 i x, adds_long w b c1 c2 j y);
       }
 
-  pub two_adds : (e a b : Term) → TwoParts e a b → (c1 c2 : List PExpr) (i j : ℕ) → Adds w a old c1 i → Adds w b c1 c2 j → own ≡ operator_step e i j → map pterm new ≡ map pterm c2 ++ own → at ≡ w + length c2 → Adds w e old new at
+  pub two_adds : (e a b : Term) → TwoParts e a b → (c1 c2 : List PExpr) (i j : ℕ) → AddsColumns w a old c1 i → AddsColumns w b c1 c2 j → own ≡ operator_step e i j → map pterm new ≡ map pterm c2 ++ own → at ≡ w + length c2 → AddsColumns w e old new at
   two_adds e a b sum = two plain.add_step e a b refl refl
   two_adds e a b difference = two plain.subtract_step e a b refl refl
   two_adds e a b product = two plain.multiply_step e a b refl refl
@@ -126,11 +126,11 @@ module _ (w : ℕ) (old new : List PExpr) (own : List PTerm) (at : ℕ) where
   two_adds e a b conjunction = two plain.and_step e a b refl refl
   two_adds e a b disjunction = two plain.or_step e a b refl refl
 
-  pub one_adds : (e a : Term) → OnePart e a → (c1 : List PExpr) (i : ℕ) → Adds w a old c1 i → own ≡ operator_step e i i → map pterm new ≡ map pterm c1 ++ own → at ≡ w + length c1 → Adds w e old new at
+  pub one_adds : (e a : Term) → OnePart e a → (c1 : List PExpr) (i : ℕ) → AddsColumns w a old c1 i → own ≡ operator_step e i i → map pterm new ≡ map pterm c1 ++ own → at ≡ w + length c1 → AddsColumns w e old new at
   one_adds e a negation = one plain.negate_step e a refl refl
   one_adds e a opposite = one plain.not_step e a refl refl
 
-  pub case_adds : (c a b : Term) (c1 c2 c3 : List PExpr) (m i j : ℕ) → Adds w c old c1 m → Adds w a c1 c2 i → Adds w b c2 c3 j → own ≡ plain.case_step m i j → map pterm new ≡ map pterm c3 ++ own → at ≡ w + length c3 → Adds w (Case c a b) old new at
+  pub case_adds : (c a b : Term) (c1 c2 c3 : List PExpr) (m i j : ℕ) → AddsColumns w c old c1 m → AddsColumns w a c1 c2 i → AddsColumns w b c2 c3 j → own ≡ plain.case_step m i j → map pterm new ≡ map pterm c3 ++ own → at ≡ w + length c3 → AddsColumns w (Case c a b) old new at
   case_adds c a b c1 c2 c3 m i j z x y is h p =
       let k1 = n + (before c + 3) in
       let k2 = k1 + (before a + 3) in

@@ -12,7 +12,7 @@ use Rattle.au_value.specs.Ranges.{Span, IsRangeOf, all_overlap, all_certainly_eq
 use Rattle.au_value.proofs.OrderLaws.{at_most_trans, at_most_refl, equal_is}
 use Rattle.au_expr.specs.Ordinary.{is_true}
 use Rattle.au_algebra.specs.Lists.{same_row}
-use Rattle.au_rwexpr.specs.Meets.{meets, same_guesses, surely_equal}
+use Rattle.au_rwexpr.specs.Meets.{meets_term, same_guesses, surely_equal}
 use Rattle.au_rwexpr.proofs.Places.{EndsOfAll}
 use Rattle.au_rwexpr.proofs.OnValues.{Has, lo_has, sg_has, hi_has}
 use Rattle.au_rwexpr.proofs.Coded.{rl, rs, rh}
@@ -21,7 +21,7 @@ module _ (row : List Value) where
   abbrev There : ℕ → List Span → Type 0
   There i xs = EndsOfAll rl rs rh row i xs
 
-  pub meets_has : (i j k : ℕ) (xs ys : List Span) → length xs ≡ k → length ys ≡ k → There i xs → There j ys → Has row (meets i j k) (value.Flag (all_overlap xs ys))
+  pub meets_has : (i j k : ℕ) (xs ys : List Span) → length xs ≡ k → length ys ≡ k → There i xs → There j ys → Has row (meets_term i j k) (value.Flag (all_overlap xs ys))
   meets_has i j zero [] [] e h x y = λ more. refl
   meets_has i j zero (a ∷ xs) ys e h x y = let never : ⊥ = omega (arith, e) in absurd never
   meets_has i j zero [] (b ∷ ys) e h x y = let never : ⊥ = omega (arith, h) in absurd never

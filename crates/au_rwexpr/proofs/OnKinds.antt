@@ -97,7 +97,7 @@ module _ (row : List Kind) (i j : ℕ) (k : Kind) (x : KindsAt row i k) (y : Kin
   bh : HasKind row (step.hi j) k
   bh = column_kind row (j + 2) k y.hi
 
-  pub equal_kind : HasKind row (step.certainly_equal i j) Flag
+  pub equal_kind : HasKind row (step.certainly_equal_term i j) Flag
   equal_kind =
       let p = test_kind row (step.lo i) (step.hi i) Equal k al ah in
       let q = test_kind row (step.lo j) (step.hi j) Equal k bl bh in
@@ -106,7 +106,7 @@ module _ (row : List Kind) (i j : ℕ) (k : Kind) (x : KindsAt row i k) (y : Kin
       and_kind row inner (Compare Equal (step.lo i) (step.lo j))
       (and_kind row (Compare Equal (step.lo i) (step.hi i)) (Compare Equal (step.lo j) (step.hi j)) p q) r
 
-  pub overlap_kind : HasKind row (step.overlap i j) Flag
+  pub overlap_kind : HasKind row (step.overlap_term i j) Flag
   overlap_kind =
       and_kind row (Compare AtMost (step.lo i) (step.hi j)) (Compare AtMost (step.lo j) (step.hi i)) (test_kind row (step.lo i) (step.hi j) AtMost k al bh)
       (test_kind row (step.lo j) (step.hi i) AtMost k bl ah)
@@ -120,10 +120,10 @@ module _ (row : List Kind) (i j : ℕ) (k : Kind) (x : KindsAt row i k) (y : Kin
   compare_kinds : (as_is : Comparison) → AllMean plain_kind row (step.compare_step as_is i j) (thrice Flag)
   compare_kinds how.Equal = (equal_kind, (guess_test Equal, (overlap_kind, tt)))
   compare_kinds how.Differs = (
-    not_kind row (step.overlap i j) overlap_kind,
+    not_kind row (step.overlap_term i j) overlap_kind,
     (
       not_kind row (Compare Equal (step.sg i) (step.sg j)) (guess_test Equal),
-      (not_kind row (step.certainly_equal i j) equal_kind, tt),
+      (not_kind row (step.certainly_equal_term i j) equal_kind, tt),
     ),
   )
   compare_kinds how.Less =

@@ -143,14 +143,14 @@ module _ (row : List Value) (i j : ℕ) (a b : Span) (x : EndsAt row i a) (y : E
       (λ more k. greater (hll more k) (hlh more k)) (λ more k. greater (hhl more k) (hhh more k)) high higher
       (fit_greater vll vlh q.0 r.0) (fit_greater vhl vhh s.0 s.1)))
 
-  pub equal_fits : Fits row (step.certainly_equal i j)
+  pub equal_fits : Fits row (step.certainly_equal_term i j)
   equal_fits =
       and_fits row (And (Compare how.Equal (step.lo i) (step.hi i)) (Compare how.Equal (step.lo j) (step.hi j))) (Compare how.Equal (step.lo i) (step.lo j))
       (and_fits row (Compare how.Equal (step.lo i) (step.hi i)) (Compare how.Equal (step.lo j) (step.hi j)) (compare_fits row (step.lo i) (step.hi i) fal fah how.Equal)
       (compare_fits row (step.lo j) (step.hi j) fbl fbh how.Equal))
       (compare_fits row (step.lo i) (step.lo j) fal fbl how.Equal)
 
-  pub overlap_fits : Fits row (step.overlap i j)
+  pub overlap_fits : Fits row (step.overlap_term i j)
   overlap_fits =
       and_fits row (Compare how.AtMost (step.lo i) (step.hi j)) (Compare how.AtMost (step.lo j) (step.hi i))
       (compare_fits row (step.lo i) (step.hi j) fal fbh how.AtMost) (compare_fits row (step.lo j) (step.hi i) fbl fah how.AtMost)
@@ -163,7 +163,7 @@ module _ (row : List Value) (i j : ℕ) (a b : Span) (x : EndsAt row i a) (y : E
 
   compare_step_fits : (as_is : Comparison) → All (step.compare_step as_is i j)
   compare_step_fits Equal = (three_of (equal_fits) (guess_fits how.Equal) (overlap_fits))
-  compare_step_fits Differs = (three_of (not_fits row (step.overlap i j) overlap_fits) (not_fits row (Compare how.Equal (step.sg i) (step.sg j)) (guess_fits how.Equal)) (not_fits row (step.certainly_equal i j) equal_fits))
+  compare_step_fits Differs = (three_of (not_fits row (step.overlap_term i j) overlap_fits) (not_fits row (Compare how.Equal (step.sg i) (step.sg j)) (guess_fits how.Equal)) (not_fits row (step.certainly_equal_term i j) equal_fits))
   compare_step_fits Less =
       (three_of (compare_fits row (step.hi i) (step.lo j) fah fbl how.Less) (guess_fits how.Less) (compare_fits row (step.lo i) (step.hi j) fal fbh how.Less))
   compare_step_fits AtMost =

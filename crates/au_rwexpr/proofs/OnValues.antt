@@ -91,10 +91,10 @@ module _ (row : List Value) (i j : ℕ) (a b : Span) (x : EndsAt row i a) (y : E
   or_law = (λ more. λ k. Some (on_values.or (al more k) (bl more k)), (λ more. λ k. Some (on_values.or (ag more k) (bg more k)), (λ more. λ k. Some (on_values.or (ah more k) (bh more k)), tt)))
 
   -- the two tests of a comparison, as columns
-  pub equal_has : Has row (step.certainly_equal i j) (value.Flag (ranges.certainly_equal a b))
+  pub equal_has : Has row (step.certainly_equal_term i j) (value.Flag (ranges.certainly_equal a b))
   equal_has = λ more. λ k. value.Flag (ranges.certainly_equal (range (al more k) a.sg (ah more k)) (range (bl more k) b.sg (bh more k)))
 
-  pub overlap_has : Has row (step.overlap i j) (value.Flag (ranges.overlap a b))
+  pub overlap_has : Has row (step.overlap_term i j) (value.Flag (ranges.overlap a b))
   overlap_has = λ more. λ k. value.Flag (ranges.overlap (range (al more k) a.sg (ah more k)) (range (bl more k) b.sg (bh more k)))
 
   compare_law : (how : Comparison) → AllMean reading row (step.compare_step how i j) (span_ends (on_ranges.compare how a b))

@@ -43,15 +43,15 @@ multiply_step i j =
 abbrev pub negate_step : ℕ → List PTerm
 negate_step i = three (Negate (hi i)) (Negate (sg i)) (Negate (lo i))
 
-abbrev pub certainly_equal : ℕ → ℕ → PTerm
-certainly_equal i j = And (And (Compare Equal (lo i) (hi i)) (Compare Equal (lo j) (hi j))) (Compare Equal (lo i) (lo j))
+abbrev pub certainly_equal_term : ℕ → ℕ → PTerm
+certainly_equal_term i j = And (And (Compare Equal (lo i) (hi i)) (Compare Equal (lo j) (hi j))) (Compare Equal (lo i) (lo j))
 
-abbrev pub overlap : ℕ → ℕ → PTerm
-overlap i j = And (Compare AtMost (lo i) (hi j)) (Compare AtMost (lo j) (hi i))
+abbrev pub overlap_term : ℕ → ℕ → PTerm
+overlap_term i j = And (Compare AtMost (lo i) (hi j)) (Compare AtMost (lo j) (hi i))
 
 abbrev pub compare_step : Comparison → ℕ → ℕ → List PTerm
-compare_step how.Equal i j = three (certainly_equal i j) (Compare Equal (sg i) (sg j)) (overlap i j)
-compare_step how.Differs i j = three (Not (overlap i j)) (Not (Compare Equal (sg i) (sg j))) (Not (certainly_equal i j))
+compare_step how.Equal i j = three (certainly_equal_term i j) (Compare Equal (sg i) (sg j)) (overlap_term i j)
+compare_step how.Differs i j = three (Not (overlap_term i j)) (Not (Compare Equal (sg i) (sg j))) (Not (certainly_equal_term i j))
 compare_step how.Less i j = three (Compare Less (hi i) (lo j)) (Compare Less (sg i) (sg j)) (Compare Less (lo i) (hi j))
 compare_step how.AtMost i j = three (Compare AtMost (hi i) (lo j)) (Compare AtMost (sg i) (sg j)) (Compare AtMost (lo i) (hi j))
 compare_step how.Greater i j = three (Compare Less (hi j) (lo i)) (Compare Less (sg j) (sg i)) (Compare Less (lo j) (hi i))

@@ -24,7 +24,7 @@ nodes (Not a) = 1 + nodes a
 nodes (Case c a b) = 1 + (nodes c + (nodes a + nodes b))
 
 -- columns to which those of an expression were added, with the place of its own three in a row of a width
-pub record Adds (width : ℕ) (e : Term) (old new : List PExpr) (at : ℕ) : Type 0 where
+pub record AddsColumns (width : ℕ) (e : Term) (old new : List PExpr) (at : ℕ) : Type 0 where
   pub columns : map pterm new ≡ map pterm old ++ flatten (width + length old) e
   pub place : at ≡ width + length old + before e
 

@@ -4,7 +4,7 @@ ghost use Rattle.au_expr.specs.Terms.{term};
 ghost use Rattle.au_plain.specs.PTerms.{pterm};
 ghost use Rattle.au_rwexpr.specs.Adding.{EndsWithKind, EndsWithRange, NumbersStay};
 ghost use Rattle.au_rwexpr.specs.Flatten.{flatten as flattened};
-ghost use Rattle.au_rwexpr.specs.Nodes.{Adds, nodes, terms_of};
+ghost use Rattle.au_rwexpr.specs.Nodes.{AddsColumns, nodes, terms_of};
 
 use crate::nodes::{Node, case_node, column_node, literal_node, operator_node};
 use crate::range_columns::{RangeColumns, width_of};
@@ -41,7 +41,7 @@ pub fn push_columns(
     width: usize,
     columns: &mut Vec<PExpr>,
 ) -> Result<RangeColumns, NoMemory>
-    ensures { IfOk result (λ r. Adds width (term tree.now) columns.old.items columns.new.items r.first) }
+    ensures { IfOk result (λ r. AddsColumns width (term tree.now) columns.old.items columns.new.items r.first) }
 {
     match tree {
         Expr::Column(i) => push_node(column_node(RangeColumns::of(*i)?), width, columns),

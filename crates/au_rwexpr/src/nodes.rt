@@ -192,7 +192,7 @@ fn not_node(alloc: Global, a: RangeColumns) -> Result<Node, NoMemory>
 
 /// Whether both are certain and equal.
 pub fn certainly_equal(alloc: Global, a: RangeColumns, b: RangeColumns) -> Result<PExpr, NoMemory>
-    ensures { IfOk result (λ e. pterm e ≡ columns.certainly_equal a.first b.first) }
+    ensures { IfOk result (λ e. pterm e ≡ columns.certainly_equal_term a.first b.first) }
 {
     let certain = both_certain(alloc, a, b);
     let (certain, equal) = both(certain, compare(alloc, Comparison2::Equal, a.lo(), b.lo()))?;
@@ -210,7 +210,7 @@ fn both_certain(alloc: Global, a: RangeColumns, b: RangeColumns) -> Result<PExpr
 
 /// Whether they overlap.
 pub fn overlap(alloc: Global, a: RangeColumns, b: RangeColumns) -> Result<PExpr, NoMemory>
-    ensures { IfOk result (λ e. pterm e ≡ columns.overlap a.first b.first) }
+    ensures { IfOk result (λ e. pterm e ≡ columns.overlap_term a.first b.first) }
 {
     let left = compare(alloc, Comparison2::AtMost, a.lo(), b.hi());
     let (left, right) = both(left, compare(alloc, Comparison2::AtMost, b.lo(), a.hi()))?;
@@ -236,7 +236,7 @@ fn compare_node(
 }
 
 fn equal_node(alloc: Global, a: RangeColumns, b: RangeColumns) -> Result<Node, NoMemory>
-    ensures { IfOk result (λ n. terms_of n ≡ columns.three (columns.certainly_equal a.first b.first) (term.Compare Comparison2.Equal (columns.sg a.first) (columns.sg b.first)) (columns.overlap a.first b.first)) }
+    ensures { IfOk result (λ n. terms_of n ≡ columns.three (columns.certainly_equal_term a.first b.first) (term.Compare Comparison2.Equal (columns.sg a.first) (columns.sg b.first)) (columns.overlap_term a.first b.first)) }
 {
     let node = three(
         certainly_equal(alloc, a, b),
@@ -247,7 +247,7 @@ fn equal_node(alloc: Global, a: RangeColumns, b: RangeColumns) -> Result<Node, N
 }
 
 fn differs_node(alloc: Global, a: RangeColumns, b: RangeColumns) -> Result<Node, NoMemory>
-    ensures { IfOk result (λ n. terms_of n ≡ columns.three (term.Not (columns.overlap a.first b.first)) (term.Not (term.Compare Comparison2.Equal (columns.sg a.first) (columns.sg b.first))) (term.Not (columns.certainly_equal a.first b.first))) }
+    ensures { IfOk result (λ n. terms_of n ≡ columns.three (term.Not (columns.overlap_term a.first b.first)) (term.Not (term.Compare Comparison2.Equal (columns.sg a.first) (columns.sg b.first))) (term.Not (columns.certainly_equal_term a.first b.first))) }
 {
     let node = three(
         apart(alloc, a, b),
@@ -259,7 +259,7 @@ fn differs_node(alloc: Global, a: RangeColumns, b: RangeColumns) -> Result<Node,
 
 // Whether they don't overlap.
 fn apart(alloc: Global, a: RangeColumns, b: RangeColumns) -> Result<PExpr, NoMemory>
-    ensures { IfOk result (λ e. pterm e ≡ term.Not (columns.overlap a.first b.first)) }
+    ensures { IfOk result (λ e. pterm e ≡ term.Not (columns.overlap_term a.first b.first)) }
 {
     not(alloc, overlap(alloc, a, b)?)
 }
@@ -273,7 +273,7 @@ fn guessed_apart(alloc: Global, a: RangeColumns, b: RangeColumns) -> Result<PExp
 
 // Whether they are not certain and equal.
 fn perhaps_unequal(alloc: Global, a: RangeColumns, b: RangeColumns) -> Result<PExpr, NoMemory>
-    ensures { IfOk result (λ e. pterm e ≡ term.Not (columns.certainly_equal a.first b.first)) }
+    ensures { IfOk result (λ e. pterm e ≡ term.Not (columns.certainly_equal_term a.first b.first)) }
 {
     not(alloc, certainly_equal(alloc, a, b)?)
 }

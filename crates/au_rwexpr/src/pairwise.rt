@@ -21,7 +21,7 @@ pub fn meets(
     right: RangeColumns,
     columns: usize,
 ) -> Result<PExpr, NoMemory>
-    ensures { IfOk result (λ e. pterm e ≡ tests.meets left.first right.first columns) }
+    ensures { IfOk result (λ e. pterm e ≡ tests.meets_term left.first right.first columns) }
 {
     if columns == 0 {
         return Ok(always());

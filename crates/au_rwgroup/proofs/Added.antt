@@ -9,18 +9,18 @@ use Rattle.au_encode.specs.Encode.{encode, encoded_kinds}
 use Rattle.au_rwexpr.specs.Cells.{run}
 use Rattle.au_rwexpr.specs.Counts.{one_term, positive}
 use Rattle.au_rwexpr.specs.Flatten.{sg, three}
-use Rattle.au_rwexpr.specs.Meets.{meets}
+use Rattle.au_rwexpr.specs.Meets.{meets_term}
 use Rattle.au_rwexpr.proofs.Filled.{filled, filled-extend_all, one_filled, one_adds, scan_gives}
 use Rattle.au_rwgroup.specs.Adds.{AddsByDistinct, AddsByGroup, AddsByTotal}
-use Rattle.au_rwgroup.specs.Groups.{first_grouping, distinct}
-use Rattle.au_rwgroup.specs.GroupPlan.{kept_for, places, all_member_columns, all_member_aggs, all_result_columns, result_places, second_grouping, group}
-use Rattle.au_rwgroup.specs.Totals.{total, total_columns, total_sums}
+use Rattle.au_rwgroup.specs.Groups.{first_grouping, distinct_plan}
+use Rattle.au_rwgroup.specs.GroupPlan.{kept_for, places, all_member_columns, all_member_aggs, all_result_columns, result_places, second_grouping, group_plan}
+use Rattle.au_rwgroup.specs.Totals.{total_plan, total_columns, total_sums}
 use Rattle.au_rwgroup.proofs.GroupLaws.{group_gives_all}
 use Rattle.au_rwgroup.proofs.Laws.{distinct_gives, total_gives}
 
 -- ---- Scans in the plans of the operators
 
-group_filled : (s : ℕ → PlanTree) (c k : ℕ) (aggs : List Agg) (p : PlanTree) → filled s (group c k aggs p) ≡ group c k aggs (filled s p)
+group_filled : (s : ℕ → PlanTree) (c k : ℕ) (aggs : List Agg) (p : PlanTree) → filled s (group_plan c k aggs p) ≡ group_plan c k aggs (filled s p)
 group_filled s c k aggs p =
     let kept = flat_map kept_for aggs in
     let b = 3 * k + 3 + length kept in
@@ -31,9 +31,9 @@ group_filled s c k aggs p =
     let results = all_result_columns (positive (Column there)) (positive (sg (3 * k))) b aggs in
     ap (Keep (result_places k (there + 1) (length aggs)))
     (filled-extend_all s results (second_grouping k b columns over boxes p)
-    ∙ ap (λ q. extend_all results (Group (run 0 b) over q)) (filled-extend_all s columns (Join (meets b 0 k) boxes p)))
+    ∙ ap (λ q. extend_all results (Group (run 0 b) over q)) (filled-extend_all s columns (Join (meets_term b 0 k) boxes p)))
 
-total_filled : (s : ℕ → PlanTree) (c : ℕ) (aggs : List Agg) (p : PlanTree) → filled s (total c aggs p) ≡ total c aggs (filled s p)
+total_filled : (s : ℕ → PlanTree) (c : ℕ) (aggs : List Agg) (p : PlanTree) → filled s (total_plan c aggs p) ≡ total_plan c aggs (filled s p)
 total_filled s c [] p = refl
 total_filled s c (a ∷ aggs) p =
     let columns = total_columns (3 * c) (a ∷ aggs) in
@@ -46,31 +46,31 @@ total_filled s c (a ∷ aggs) p =
 
 -- ---- the laws
 
-module _ (c : ℕ) (of p : PlanTree) (is : p ≡ distinct c of) where
+module _ (c : ℕ) (of p : PlanTree) (is : p ≡ distinct_plan c of) where
   pub distinct_adds : AddsByDistinct c of p
   distinct_adds tables ks rows long g f =
       let scan = Scan 0 (3 * length ks + 3) in
-      let over = distinct c scan in
+      let over = distinct_plan c scan in
       let tk = encoded_kinds ks ∷ [] in
       let ts = encode rows ∷ [] in
       let gives = distinct_gives c scan over refl tk ts ks rows [] (g.held, tt) long (scan_gives tk ts 0 ks rows [] refl refl g.encodes.relation) in
       one_adds tables of (encode rows) g.encodes.encoded over p (sym is) (gives.fit f)
 
-module _ (c m : ℕ) (aggs : List Agg) (of p : PlanTree) (is : p ≡ group c m aggs of) where
+module _ (c m : ℕ) (aggs : List Agg) (of p : PlanTree) (is : p ≡ group_plan c m aggs of) where
   pub group_adds : AddsByGroup c m aggs of p
   group_adds tables ks js rows long typed g f =
       let scan = Scan 0 (3 * length ks + 3) in
-      let over = group c m aggs scan in
+      let over = group_plan c m aggs scan in
       let tk = encoded_kinds ks ∷ [] in
       let ts = encode rows ∷ [] in
       let gives = group_gives_all c m aggs scan over refl tk ts ks js rows [] (g.held, tt) long typed (scan_gives tk ts 0 ks rows [] refl refl g.encodes.relation) in
       one_adds tables of (encode rows) g.encodes.encoded over p (group_filled (one_filled of) c m aggs scan ∙ sym is) (gives.fit f)
 
-module _ (c : ℕ) (aggs : List Agg) (of p : PlanTree) (is : p ≡ total c aggs of) where
+module _ (c : ℕ) (aggs : List Agg) (of p : PlanTree) (is : p ≡ total_plan c aggs of) where
   pub total_adds : AddsByTotal c aggs of p
   total_adds tables ks js rows long typed g f =
       let scan = Scan 0 (3 * length ks + 3) in
-      let over = total c aggs scan in
+      let over = total_plan c aggs scan in
       let tk = encoded_kinds ks ∷ [] in
       let ts = encode rows ∷ [] in
       let gives = total_gives c aggs scan over refl tk ts ks js rows [] (g.held, tt) long typed (scan_gives tk ts 0 ks rows [] refl refl g.encodes.relation) in

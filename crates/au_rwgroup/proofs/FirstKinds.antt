@@ -16,7 +16,7 @@ use Rattle.au_rwexpr.specs.Flatten.{lo, sg, hi}
 use Rattle.au_rwexpr.specs.Counts.{zero_term, one_term, positive}
 use Rattle.au_rwexpr.specs.Cells.{cell_places, run}
 use Rattle.au_combine.specs.Boxes.{boxes}
-use Rattle.au_rwgroup.specs.Groups.{all_sure, group_columns, first_aggs, first_grouping, distinct}
+use Rattle.au_rwgroup.specs.Groups.{all_sure, group_columns, first_aggs, first_grouping, distinct_plan}
 use Rattle.au_rwexpr.proofs.Places.{At, at_more, at_past, EndsOfAll, all_ends_at, all_ends_more}
 use Rattle.au_rwexpr.proofs.Columns.{adds, means_now}
 use Rattle.au_rwexpr.proofs.OnKinds.{HasKind, column_kind, test_kind, and_kind, case_kind, add_kind}
@@ -113,6 +113,6 @@ first_kinds tk ks js k kept es p e el keys more h =
     first_picked tk js k kept es (boxes k aggs inner) e el boxed
 
 -- Distinct's plan has the encoded kinds of its input.
-pub distinct_kinds : (tk : List (List Kind)) (ks : List Kind) (p : PlanTree) → HasKinds tk p ks → HasKinds tk (distinct (length ks) p) ks
+pub distinct_kinds : (tk : List (List Kind)) (ks : List Kind) (p : PlanTree) → HasKinds tk p ks → HasKinds tk (distinct_plan (length ks) p) ks
 distinct_kinds tk ks p h =
     first_kinds tk ks ks (length ks) [] [] p refl refl (coded_cells own own own own own own (length ks) ks Int refl) refl h

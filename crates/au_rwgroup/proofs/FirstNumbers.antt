@@ -44,7 +44,7 @@ use Rattle.au_combine.proofs.BoxRows.{keys_are, hull_long}
 use Rattle.au_combine.proofs.CombineNumbers.{box_magnitudes, sum_magnitudes}
 use Rattle.au_combine.proofs.Grouping.{all_occur, some_with, numbers_made}
 use Rattle.au_rwexpr.proofs.Flags.{counted, sum_failing}
-use Rattle.au_rwgroup.specs.Groups.{all_sure, group_columns, first_aggs, first_grouping, distinct}
+use Rattle.au_rwgroup.specs.Groups.{all_sure, group_columns, first_aggs, first_grouping, distinct_plan}
 use Rattle.au_rwgroup.proofs.FirstGroup as group
 use Rattle.au_rwgroup.proofs.FirstRows as rows_of
 use Rattle.au_rwgroup.proofs.KeyReading.{KeyReading, all_cells}
@@ -238,7 +238,7 @@ module _ (by : KeyReading) where
   held_keys part rows h = all_from FitRow Held rows (λ r f. (part r.cells f.cells, f.triple)) h
 
 -- Distinct's plan adds no number that does not fit.
-pub distinct_fits : (ks : List Kind) (ts : List Rows) (p : PlanTree) (rows : Bounded) → IsRelation ks rows → Gives ts p rows → AllFitRows rows → Fit (triple_numbers (distinct_rows rows)) → Fit (plan_numbers p ts) → Fit (plan_numbers (distinct (length ks) p) ts)
+pub distinct_fits : (ks : List Kind) (ts : List Rows) (p : PlanTree) (rows : Bounded) → IsRelation ks rows → Gives ts p rows → AllFitRows rows → Fit (triple_numbers (distinct_rows rows)) → Fit (plan_numbers p ts) → Fit (plan_numbers (distinct_plan (length ks) p) ts)
 distinct_fits ks ts p rows ok g held f np =
     let by = all_cells ks in
     first_fits_ends by ts p [] rows tt ok g (held_keys by (λ xs h. h) rows held) (group_triples by [] rows ok f) np

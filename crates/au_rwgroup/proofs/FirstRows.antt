@@ -194,7 +194,7 @@ module _ (by : KeyReading) where
       subst (λ ss. 1 ≤ (group_counts by.keys ss).most) (sym some.is) (most_there some.first some.others all)))
 
 -- Distinct's plan gives the rows of the bounded operator.
-pub distinct_gives : (ks : List Kind) (ts : List Rows) (p : PlanTree) (rows : Bounded) → IsRelation ks rows → Gives ts p rows → Gives ts (plans.distinct (length ks) p) (bounded.distinct_rows rows)
+pub distinct_gives : (ks : List Kind) (ts : List Rows) (p : PlanTree) (rows : Bounded) → IsRelation ks rows → Gives ts p rows → Gives ts (plans.distinct_plan (length ks) p) (bounded.distinct_rows rows)
 distinct_gives ks ts p rows ok g =
     let cells = λ (r : List Span). r in
     let out = output cells [] rows in

@@ -15,7 +15,7 @@ use Rattle.au_plain.specs.Meaning.{extended}
 use Rattle.au_plain.specs.PlanNumbers.{term_numbers}
 use Rattle.au_plain.proofs.Held.{ValueFits, RowFits, column_fits, joined_fits, value_fits}
 use Rattle.au_rwexpr.specs.Adding.{grow_numbers}
-use Rattle.au_rwexpr.specs.Meets.{meets, same_guesses}
+use Rattle.au_rwexpr.specs.Meets.{meets_term, same_guesses}
 use Rattle.au_rwexpr.proofs.Careful.{careful}
 use Rattle.au_rwexpr.proofs.Columns.{AllMean, add_columns, means_now, all_more}
 use Rattle.au_rwexpr.proofs.OnValues.{reading}
@@ -107,7 +107,7 @@ reading_columns (e ∷ es) row f h =
     (reading_columns es (extended e row) (one_more_fits row (plain_value e row) f (value_fits e row own)) h.1)
 
 -- the tests of lists of ranges read
-pub meets_reads : (i j k : ℕ) → Reads (meets i j k)
+pub meets_reads : (i j k : ℕ) → Reads (meets_term i j k)
 meets_reads i j zero = refl
 meets_reads i j (suc k) = (((tt, tt), (tt, tt)), meets_reads (i + 3) (j + 3) k)
 

@@ -18,7 +18,7 @@ use Rattle.au_encode.specs.Encode.{encoded_kinds, triple_kinds}
 use Rattle.au_rwexpr.specs.Cells.{run, cell_places, three_places}
 use Rattle.au_rwexpr.specs.Counts.{zero_term, one_term, positive}
 use Rattle.au_rwexpr.specs.Flatten.{lo, sg, hi}
-use Rattle.au_rwexpr.specs.Meets.{meets}
+use Rattle.au_rwexpr.specs.Meets.{meets_term}
 use Rattle.au_rwexpr.proofs.Coded.{own}
 use Rattle.au_rwexpr.proofs.Columns.{AllMean, add_columns, adds, then_adds, means_now}
 use Rattle.au_rwexpr.proofs.Gives.{HasKinds, kinds-keep, kinds-extend_all}
@@ -30,7 +30,7 @@ use Rattle.au_combine.proofs.BoxKinds.{twice}
 use Rattle.au_combine.proofs.BoxPlaces.{first_picks}
 use Rattle.au_rwgroup.specs.Groups.{all_sure, first_grouping}
 use Rattle.au_rwgroup.specs.GroupPlan as plans
-use Rattle.au_rwgroup.specs.GroupPlan.{Places, kept_for, all_member_columns, each_member_columns, all_member_aggs, all_result_columns, second_grouping, result_places, group}
+use Rattle.au_rwgroup.specs.GroupPlan.{Places, kept_for, all_member_columns, each_member_columns, all_member_aggs, all_result_columns, second_grouping, result_places, group_plan}
 use Rattle.au_rwgroup.specs.Totals.{signed}
 use Rattle.au_rwgroup.proofs.AggregatesOn.{kind_on, OnColumn}
 use Rattle.au_rwgroup.proofs.FirstKinds.{first_kinds, sure_kind, four}
@@ -332,16 +332,16 @@ module _ (ks js : List Kind) (k : ℕ) (long : length js ≡ k) (part : (row : L
   aggs_over = all_member_aggs (t + 8) aggs
 
   module _ (tk : List (List Kind)) (boxes p : PlanTree) (boxed : plan_kinds tk boxes ≡ Some box_kinds) (typed : HasKinds tk p ks) where
-    join_kinds : plan_kinds tk (Join (meets b 0 k) boxes p) ≡ Some row
+    join_kinds : plan_kinds tk (Join (meets_term b 0 k) boxes p) ≡ Some row
     join_kinds =
-        ap (option_and_then (λ xs. option_and_then (λ ys. kinds_if (is_kind Flag (plain_kind (xs ++ ys) (meets b 0 k))) (xs ++ ys)) (plan_kinds tk p))) boxed
-        ∙ ap (option_and_then (λ ys. kinds_if (is_kind Flag (plain_kind (box_kinds ++ ys) (meets b 0 k))) (box_kinds ++ ys))) typed
-        ∙ ap (λ o. kinds_if (is_kind Flag o) row) (means_now plain_kind row (meets b 0 k) Flag (meets_kind row b 0 k js long keys_at box_at))
+        ap (option_and_then (λ xs. option_and_then (λ ys. kinds_if (is_kind Flag (plain_kind (xs ++ ys) (meets_term b 0 k))) (xs ++ ys)) (plan_kinds tk p))) boxed
+        ∙ ap (option_and_then (λ ys. kinds_if (is_kind Flag (plain_kind (box_kinds ++ ys) (meets_term b 0 k))) (box_kinds ++ ys))) typed
+        ∙ ap (λ o. kinds_if (is_kind Flag o) row) (means_now plain_kind row (meets_term b 0 k) Flag (meets_kind row b 0 k js long keys_at box_at))
 
     -- the second grouping is typed
     pub second_kinds : plan_kinds tk (second_grouping k b columns aggs_over boxes p) ≡ Some grouped_kinds
     second_kinds =
-        let wider = kinds-extend_all tk columns (Join (meets b 0 k) boxes p) row wide join_kinds columns_added in
+        let wider = kinds-extend_all tk columns (Join (meets_term b 0 k) boxes p) row wide join_kinds columns_added in
         let picks = subst (λ r. Picks r (run 0 b) box_kinds) (sym (append_assoc box_kinds (encoded_kinds ks) added)) (first_picks box_kinds (encoded_kinds ks ++ added) b box_long) in
         ap (option_and_then (λ xs. option_and_then (λ ys. option_and_then (λ more. Some (ys ++ more)) (all_kinds (map (plain_agg_kind xs) aggs_over))) (kept_kinds (run 0 b) xs))) wider
         ∙ (λ i. option_and_then (λ ys. option_and_then (λ more. Some (ys ++ more)) (results_are (t + 8) aggs fours_there i)) (kinds_kept wide (run 0 b) box_kinds picks i))
@@ -429,5 +429,5 @@ module _ (ks js : List Kind) (k : ℕ) (long : length js ≡ k) (part : (row : L
         first_kinds tk ks js k kept (twice es) p long (kept_long aggs) (part (encoded_kinds ks) 0 cells)
         (kept_kinds_are (encoded_kinds ks ++ four) (all_ends_more own own own (encoded_kinds ks) four 0 ks cells) aggs on) typed
 
-    pub group_typed : HasKinds tk (group c k aggs p) (js ++ es)
+    pub group_typed : HasKinds tk (group_plan c k aggs p) (js ++ es)
     group_typed = shown_kinds tk (first_grouping c k kept p) p boxes_typed typed

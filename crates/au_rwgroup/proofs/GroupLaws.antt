@@ -11,7 +11,7 @@ use Rattle.au_expr.proofs.Fits.{fit_parts}
 use Rattle.au_algebra.specs.declared.query.Agg.{Agg}
 use Rattle.au_algebra.specs.Bounded as bounded
 use Rattle.au_algebra.specs.Bounded.{Bounded, guessed_keys, grouped}
-use Rattle.au_algebra.specs.Fits.{agg_numbers, group_numbers, triple_numbers}
+use Rattle.au_algebra.specs.Fits.{agg_numbers, grouping_numbers, triple_numbers}
 use Rattle.au_algebra.specs.Ordinary.{Rows}
 use Rattle.au_algebra.specs.Typing.{all_kinds, agg_kind, group_kinds}
 use Rattle.au_algebra.proofs.GroupRelation.{group_relation}
@@ -25,14 +25,14 @@ use Rattle.au_encode.specs.Gives.{Gives}
 use Rattle.au_encode.proofs.HeldCells.{AllFit, gives_held}
 use Rattle.au_rwexpr.specs.Counts.{positive}
 use Rattle.au_rwexpr.specs.Flatten.{sg}
-use Rattle.au_rwexpr.specs.Meets.{meets}
+use Rattle.au_rwexpr.specs.Meets.{meets_term}
 use Rattle.au_rwexpr.proofs.Coded.{own}
 use Rattle.au_rwexpr.proofs.Counting.{scans-extend_all}
 use Rattle.au_rwexpr.proofs.Places.{EndsOfAll}
 use Rattle.au_rwexpr.proofs.PlanNumbersOf.{all_fit}
 use Rattle.au_rwgroup.specs.Gives.{Groups}
 use Rattle.au_rwgroup.specs.Groups.{group_columns, first_grouping}
-use Rattle.au_rwgroup.specs.GroupPlan.{kept_for, places, all_member_columns, all_member_aggs, all_result_columns, second_grouping, group}
+use Rattle.au_rwgroup.specs.GroupPlan.{kept_for, places, all_member_columns, all_member_aggs, all_result_columns, second_grouping, group_plan}
 use Rattle.au_rwgroup.proofs.AggregatesOn.{Typed, typed_on, are_on}
 use Rattle.au_rwgroup.proofs.GroupGives.{first_cells, group_gives, take_there}
 use Rattle.au_rwgroup.proofs.GroupKinds.{group_typed}
@@ -68,17 +68,17 @@ module _ (kinds : List (List Kind)) (tables : List Rows) (ks : List Kind) (m : �
   kinds_there row i e = take_there own own own row i m ks e
 
   abbrev own_numbers : List ℤ
-  own_numbers = group_numbers (take m) aggs rows ++ triple_numbers (bounded.group m aggs rows)
+  own_numbers = grouping_numbers (take m) aggs rows ++ triple_numbers (bounded.group m aggs rows)
 
-  numbers_fit : Fit (ns ++ own_numbers) → Fit (plan_numbers (group (length ks) m aggs of) tables)
+  numbers_fit : Fit (ns ++ own_numbers) → Fit (plan_numbers (group_plan (length ks) m aggs of) tables)
   numbers_fit f =
       let p = fit_parts ns own_numbers f in
-      let q = fit_parts (group_numbers (take m) aggs rows) (triple_numbers (bounded.group m aggs rows)) p.1 in
+      let q = fit_parts (grouping_numbers (take m) aggs rows) (triple_numbers (bounded.group m aggs rows)) p.1 in
       group_fits (first_cells ks m enough) aggs t.on rows g.relation kinds tables of g.typed tables_fit g.encoded
       (gives_held kinds tables of ks rows ns g tables_fit p.0) (g.fit p.0) (λ xs h. first_fit m xs h) keys_long kinds_there
       (all_fit (λ key. flat_map (agg_numbers (grouped (take m) rows key)) aggs) (guessed_keys (take m) rows) q.0) q.1
 
-  all_given : Gives kinds tables (group (length ks) m aggs of) (take m ks ++ others) (bounded.group m aggs rows) (ns ++ own_numbers)
+  all_given : Gives kinds tables (group_plan (length ks) m aggs of) (take m ks ++ others) (bounded.group m aggs rows) (ns ++ own_numbers)
   all_given = record {
     typed =
         group_typed ks (take m ks) m keys_long kinds_there aggs t.on kinds of g.typed
@@ -89,7 +89,7 @@ module _ (kinds : List (List Kind)) (tables : List Rows) (ks : List Kind) (m : �
   }
 
 -- the input's plan twice
-twice_scanned : (c k : ℕ) (aggs : List Agg) (p : PlanTree) → scans (group c k aggs p) ≡ 2 * scans p
+twice_scanned : (c k : ℕ) (aggs : List Agg) (p : PlanTree) → scans (group_plan c k aggs p) ≡ 2 * scans p
 twice_scanned c k aggs p =
     let kept = flat_map kept_for aggs in
     let b = 3 * k + 3 + length kept in
@@ -98,16 +98,16 @@ twice_scanned c k aggs p =
     let second = second_grouping k b columns (all_member_aggs (b + 3 * c + 8) aggs) boxes p in
     let finish = all_result_columns (positive (Column (b + 4 * length aggs))) (positive (sg (3 * k))) b aggs in
     scans-extend_all finish second
-    ∙ scans-extend_all columns (Join (meets b 0 k) boxes p)
+    ∙ scans-extend_all columns (Join (meets_term b 0 k) boxes p)
     ∙ (let e : scans boxes + scans p ≡ 2 * scans p = omega (arith, scans-extend_all (group_columns c k) p) in e)
 
-module _ (c m : ℕ) (aggs : List Agg) (of p : PlanTree) (is : p ≡ group c m aggs of) where
-  group_as_is : Groups c m aggs of (group c m aggs of)
+module _ (c m : ℕ) (aggs : List Agg) (of p : PlanTree) (is : p ≡ group_plan c m aggs of) where
+  group_as_is : Groups c m aggs of (group_plan c m aggs of)
   group_as_is kinds tables ks js rows ns fits long typed g =
-      let own = group_numbers (take m) aggs rows ++ triple_numbers (bounded.group m aggs rows) in
+      let own = grouping_numbers (take m) aggs rows ++ triple_numbers (bounded.group m aggs rows) in
       let q = parts m aggs ks js typed in
-      subst (λ n. Gives kinds tables (group n m aggs of) js (bounded.group m aggs rows) (ns ++ own)) long
-      (subst (λ es. Gives kinds tables (group (length ks) m aggs of) es (bounded.group m aggs rows) (ns ++ own)) q.whole
+      subst (λ n. Gives kinds tables (group_plan n m aggs of) js (bounded.group m aggs rows) (ns ++ own)) long
+      (subst (λ es. Gives kinds tables (group_plan (length ks) m aggs of) es (bounded.group m aggs rows) (ns ++ own)) q.whole
       (all_given kinds tables ks m aggs of rows ns q.others q.enough q.typed fits g))
 
   pub group_gives_all : Groups c m aggs of p

@@ -28,7 +28,7 @@ use Rattle.au_rwexpr.specs.Adding.{grow_numbers}
 use Rattle.au_rwexpr.specs.Cells.{run}
 use Rattle.au_rwexpr.specs.Counts.{positive}
 use Rattle.au_rwexpr.specs.Flatten.{sg}
-use Rattle.au_rwexpr.specs.Meets.{meets}
+use Rattle.au_rwexpr.specs.Meets.{meets_term}
 use Rattle.au_rwexpr.proofs.Allowed.{all_both}
 use Rattle.au_rwexpr.proofs.Coded.{own}
 use Rattle.au_rwexpr.proofs.Columns.{add_columns}
@@ -39,7 +39,7 @@ use Rattle.au_rwexpr.proofs.PlanNumbersOf.{fit_all, all_made, numbers-extend_all
 use Rattle.au_combine.proofs.JoinGroups.{pairs, with_left}
 use Rattle.au_rwgroup.specs.Groups.{first_grouping}
 use Rattle.au_rwgroup.specs.GroupPlan as plans
-use Rattle.au_rwgroup.specs.GroupPlan.{Places, kept_for, all_member_columns, all_member_aggs, all_result_columns, second_grouping, group}
+use Rattle.au_rwgroup.specs.GroupPlan.{Places, kept_for, all_member_columns, all_member_aggs, all_result_columns, second_grouping, group_plan}
 use Rattle.au_rwgroup.proofs.AggregatesOn.{OnColumn, are_on}
 use Rattle.au_rwgroup.proofs.FirstNumbers as first
 use Rattle.au_rwgroup.proofs.FirstNumbers.{IsEnd}
@@ -168,18 +168,18 @@ module _ (by : KeyReading) (aggs : List Agg) (on : AllByRecursion (OnColumn by.k
     pair_rows_fit = pairs_fit (plain_rows boxes ts) (plain_rows p ts) box_rows_fit (rows_fit tk (encoded_kinds by.ks) p ts typed tables np)
 
     abbrev join : PlanTree
-    join = Join (meets b 0 by.k) boxes p
+    join = Join (meets_term b 0 by.k) boxes p
 
     join_fits : Fit (plan_numbers join ts)
     join_fits =
-        fit_both (plan_numbers boxes ts ++ plan_numbers p ts) (flat_map (term_numbers (meets b 0 by.k)) pair_rows) (fit_both (plan_numbers boxes ts) (plan_numbers p ts) boxes_fit np)
-        (fit_all (term_numbers (meets b 0 by.k)) pair_rows (all_from RowFits (λ row. Fit (term_numbers (meets b 0 by.k) row)) pair_rows (λ row f. reads_fit (meets b 0 by.k) row f (meets_reads b 0 by.k)) pair_rows_fit))
+        fit_both (plan_numbers boxes ts ++ plan_numbers p ts) (flat_map (term_numbers (meets_term b 0 by.k)) pair_rows) (fit_both (plan_numbers boxes ts) (plan_numbers p ts) boxes_fit np)
+        (fit_all (term_numbers (meets_term b 0 by.k)) pair_rows (all_from RowFits (λ row. Fit (term_numbers (meets_term b 0 by.k) row)) pair_rows (λ row f. reads_fit (meets_term b 0 by.k) row f (meets_reads b 0 by.k)) pair_rows_fit))
 
     joined_are : plain_rows join ts ≡ map joined all_pairs
     joined_are = second.joined_rows by more rows ok ts boxes p boxes_are g
 
     joined_fit : AllByRecursion (λ s. RowFits (joined s)) all_pairs
-    joined_fit = of_made RowFits joined all_pairs (subst FitRows joined_are (all_filter RowFits (passes (meets b 0 by.k)) pair_rows pair_rows_fit))
+    joined_fit = of_made RowFits joined all_pairs (subst FitRows joined_are (all_filter RowFits (passes (meets_term b 0 by.k)) pair_rows pair_rows_fit))
 
     abbrev Sound : Pair → Type 0
     Sound s = IsPair s × (RowFits (joined s) × TermsFit s)
@@ -230,7 +230,7 @@ module _ (by : KeyReading) (aggs : List Agg) (on : AllByRecursion (OnColumn by.k
         (kinds_of.second_kinds by.ks by.kks by.k kks_long kind_part aggs on tk boxes p (kinds_of.boxes_typed by.ks by.kks by.k kks_long kind_part aggs on tk p typed) typed) tables grouped_fit
 
     -- Group's plan adds no number that does not fit.
-    pub group_fits : Fit (plan_numbers (group c by.k aggs p) ts)
+    pub group_fits : Fit (plan_numbers (group_plan c by.k aggs p) ts)
     group_fits =
         let finish = all_result_columns (positive (Column (b + 4 * length aggs))) (positive (sg (3 * by.k))) b aggs in
         let reads = results_read (positive (Column (b + 4 * length aggs))) (positive (sg (3 * by.k))) b aggs (refl, tt) (refl, tt) in

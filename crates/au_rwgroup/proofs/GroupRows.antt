@@ -16,7 +16,7 @@ use Rattle.au_algebra.specs.declared.query.Agg.TheVariants as agg
 use Rattle.au_algebra.specs.Lists.{same_row, int_sum, least, greatest}
 use Rattle.au_algebra.specs.Ordinary.{Rows}
 use Rattle.au_algebra.specs.Bounded as bounded
-use Rattle.au_algebra.specs.Bounded.{RangeRow, Bounded, Grouped, lower_term, upper_term, guess_term, guess_if, group_counts, output, aggregate, hull_of, column, or_else, surely_there, guessed_there}
+use Rattle.au_algebra.specs.Bounded.{RangeRow, Bounded, Grouped, lower_term, upper_term, guess_term, guess_if, group_counts, output, aggregate, hull_of, range_at, or_else, surely_there, guessed_there}
 use Rattle.au_algebra.specs.Laws.{IsRangeRow, IsRelation}
 use Rattle.au_algebra.proofs.Copies.{same_row_refl}
 use Rattle.au_algebra.proofs.Each.{all_filter, all_from, passing}
@@ -362,38 +362,38 @@ module _ (by : KeyReading) (aggs : List Agg) (ok_aggs : AllByRecursion (IsOn (le
         (from_filter (λ r. at_most (least (map f (filter (belongs key) rows))) (f r) ≡ true) (belongs key) rows (least_below f (filter (belongs key) rows)))
 
     -- the guess of MIN, where the group is guessed
-    min_guess : (d : ℕ) → d < c → (o : Value) → (if (g key).is_guessed then r2 (agg.Min d) key else o) ≡ (if (g key).is_guessed then least (map (λ r. (column d r).sg) (guessed_there (g key))) else o)
+    min_guess : (d : ℕ) → d < c → (o : Value) → (if (g key).is_guessed then r2 (agg.Min d) key else o) ≡ (if (g key).is_guessed then least (map (λ r. (range_at d r).sg) (guessed_there (g key))) else o)
     min_guess d here o =
         let dv = keep key (Max (3 * d + 1)) in
-        let sg = λ (r : RangeRow). (column d r).sg in
-        let bound = of_guessed (λ r. at_most ((column d r).sg) dv ≡ true) (below_kept sg dv (member.greatest_sg by more rows ok key d here)) in
+        let sg = λ (r : RangeRow). (range_at d r).sg in
+        let bound = of_guessed (λ r. at_most ((range_at d r).sg) dv ≡ true) (below_kept sg dv (member.greatest_sg by more rows ok key d here)) in
         (λ i. if guessed_is i then r2 (agg.Min d) key else o) ∙ least_if is_guess sg dv (members key) o bound
         ∙ sym (λ i. if guessed_is i then least (map sg (guessed_are i)) else o)
 
     -- the inner end of MIN
-    min_inner : (d : ℕ) → d < c → (o : Value) → (if list_any (is_there key) (members key) then r3 (agg.Min d) key else o) ≡ or_else (surely_there (g key)) (least (map (λ r. (column d r).hi) (surely_there (g key)))) o
+    min_inner : (d : ℕ) → d < c → (o : Value) → (if list_any (is_there key) (members key) then r3 (agg.Min d) key else o) ≡ or_else (surely_there (g key)) (least (map (λ r. (range_at d r).hi) (surely_there (g key)))) o
     min_inner d here o =
         let dv = keep key (Max (3 * d + 2)) in
-        let end = λ (r : RangeRow). (column d r).hi in
-        let bound = of_sure (λ r. at_most ((column d r).hi) dv ≡ true) (below_kept end dv (member.greatest_hi by more rows ok key d here)) in
+        let end = λ (r : RangeRow). (range_at d r).hi in
+        let bound = of_sure (λ r. at_most ((range_at d r).hi) dv ≡ true) (below_kept end dv (member.greatest_hi by more rows ok key d here)) in
         (λ i. if any_filter (is_there key) (members key) i then r3 (agg.Min d) key else o) ∙ least_if (is_there key) end dv (members key) o bound
         ∙ sym (or_else_is (surely_there (g key)) (least (map end (surely_there (g key)))) o)
 
     -- the guess of MAX, where the group is guessed
-    max_guess : (d : ℕ) → d < c → (o : Value) → (if (g key).is_guessed then r2 (agg.Max d) key else o) ≡ (if (g key).is_guessed then greatest (map (λ r. (column d r).sg) (guessed_there (g key))) else o)
+    max_guess : (d : ℕ) → d < c → (o : Value) → (if (g key).is_guessed then r2 (agg.Max d) key else o) ≡ (if (g key).is_guessed then greatest (map (λ r. (range_at d r).sg) (guessed_there (g key))) else o)
     max_guess d here o =
         let dv = keep key (Min (3 * d + 1)) in
-        let sg = λ (r : RangeRow). (column d r).sg in
-        let bound = of_guessed (λ r. at_most dv ((column d r).sg) ≡ true) (above_kept sg dv (member.least_sg by more rows ok key d here)) in
+        let sg = λ (r : RangeRow). (range_at d r).sg in
+        let bound = of_guessed (λ r. at_most dv ((range_at d r).sg) ≡ true) (above_kept sg dv (member.least_sg by more rows ok key d here)) in
         (λ i. if guessed_is i then r2 (agg.Max d) key else o) ∙ greatest_if is_guess sg dv (members key) o bound
         ∙ sym (λ i. if guessed_is i then greatest (map sg (guessed_are i)) else o)
 
     -- the inner end of MAX
-    max_inner : (d : ℕ) → d < c → (o : Value) → (if list_any (is_there key) (members key) then r3 (agg.Max d) key else o) ≡ or_else (surely_there (g key)) (greatest (map (λ r. (column d r).lo) (surely_there (g key)))) o
+    max_inner : (d : ℕ) → d < c → (o : Value) → (if list_any (is_there key) (members key) then r3 (agg.Max d) key else o) ≡ or_else (surely_there (g key)) (greatest (map (λ r. (range_at d r).lo) (surely_there (g key)))) o
     max_inner d here o =
         let dv = keep key (Min (3 * d)) in
-        let end = λ (r : RangeRow). (column d r).lo in
-        let bound = of_sure (λ r. at_most dv ((column d r).lo) ≡ true) (above_kept end dv (member.least_lo by more rows ok key d here)) in
+        let end = λ (r : RangeRow). (range_at d r).lo in
+        let bound = of_sure (λ r. at_most dv ((range_at d r).lo) ≡ true) (above_kept end dv (member.least_lo by more rows ok key d here)) in
         (λ i. if any_filter (is_there key) (members key) i then r3 (agg.Max d) key else o) ∙ greatest_if (is_there key) end dv (members key) o bound
         ∙ sym (or_else_is (surely_there (g key)) (greatest (map end (surely_there (g key)))) o)
 
@@ -414,12 +414,12 @@ module _ (by : KeyReading) (aggs : List Agg) (ok_aggs : AllByRecursion (IsOn (le
     finals row there has_guess z (agg.Min d ∷ bs) q t h at =
         let low = r1 (agg.Min d) key in
         let far = greatest (map (v4 (agg.Min d) key) (members key)) in
-        let inner = or_else (surely_there (g key)) (least (map (λ r. (column d r).hi) (surely_there (g key)))) far in
+        let inner = or_else (surely_there (g key)) (least (map (λ r. (range_at d r).hi) (surely_there (g key)))) far in
         let l = column_has row z low at.0.0 in
         let s = column_has row (z + 1) (r2 (agg.Min d) key) at.0.1 in
         let u = column_has row (z + 2) (r3 (agg.Min d) key) at.0.2 in
         let w = column_has row (z + 3) far at.0.3 in
-        let whole = range low (least (map (λ r. (column d r).sg) (guessed_there (g key)))) inner in (
+        let whole = range low (least (map (λ r. (range_at d r).sg) (guessed_there (g key)))) inner in (
           (λ more. ap Some (l more ∙ low_of (g key).is_guessed whole)),
           (
             (λ more. (λ i. Some (on_values.choose (h more i) (s more i) (l more i))) ∙ ap Some (min_guess d q.0 low ∙ guess_of (g key).is_guessed whole)),
@@ -432,12 +432,12 @@ module _ (by : KeyReading) (aggs : List Agg) (ok_aggs : AllByRecursion (IsOn (le
     finals row there has_guess z (agg.Max d ∷ bs) q t h at =
         let high = r1 (agg.Max d) key in
         let far = least (map (v4 (agg.Max d) key) (members key)) in
-        let inner = or_else (surely_there (g key)) (greatest (map (λ r. (column d r).lo) (surely_there (g key)))) far in
+        let inner = or_else (surely_there (g key)) (greatest (map (λ r. (range_at d r).lo) (surely_there (g key)))) far in
         let l = column_has row z high at.0.0 in
         let s = column_has row (z + 1) (r2 (agg.Max d) key) at.0.1 in
         let u = column_has row (z + 2) (r3 (agg.Max d) key) at.0.2 in
         let w = column_has row (z + 3) far at.0.3 in
-        let whole = range inner (greatest (map (λ r. (column d r).sg) (guessed_there (g key)))) high in (
+        let whole = range inner (greatest (map (λ r. (range_at d r).sg) (guessed_there (g key)))) high in (
           (λ more. (λ i. Some (on_values.choose (t more i) (u more i) (w more i))) ∙ ap Some (max_inner d q.0 far ∙ low_of (g key).is_guessed whole)),
           (
             (λ more.
@@ -560,7 +560,7 @@ module _ (by : KeyReading) (aggs : List Agg) (ok_aggs : AllByRecursion (IsOn (le
       (member.kept_at by more rows ok (cells ++ three) (encode_row s.1) (3 * by.k + 3) s.0 aggs (omega (arith, cells_long, length-append cells three)))
 
   -- Group's plan gives the rows of the bounded operator.
-  pub group_by_gives : (ts : List Rows) (p : PlanTree) → Gives ts p rows → Gives ts (plans.group c by.k aggs p) (bounded.group_by by.keys aggs rows)
+  pub group_by_gives : (ts : List Rows) (p : PlanTree) → Gives ts p rows → Gives ts (plans.group_plan c by.k aggs p) (bounded.group_by by.keys aggs rows)
   group_by_gives ts p h =
       let columns = all_member_columns places (3 * by.k + 3) aggs in
       let boxes = first_grouping c by.k more p in

@@ -17,8 +17,8 @@ use Rattle.au_encode.specs.Gives.{Gives}
 use Rattle.au_encode.proofs.HeldCells.{gives_held}
 use Rattle.au_rwexpr.proofs.Counting.{scans-extend_all}
 use Rattle.au_rwgroup.specs.Gives.{Distincts, Totals}
-use Rattle.au_rwgroup.specs.Groups.{group_columns, first_grouping, distinct}
-use Rattle.au_rwgroup.specs.Totals.{sums, total, total_columns}
+use Rattle.au_rwgroup.specs.Groups.{group_columns, first_grouping, distinct_plan}
+use Rattle.au_rwgroup.specs.Totals.{sums, total_plan, total_columns}
 use Rattle.au_rwgroup.proofs.FirstKinds.{distinct_kinds}
 use Rattle.au_rwgroup.proofs.FirstRows as on_rows
 use Rattle.au_rwgroup.proofs.FirstNumbers.{distinct_fits}
@@ -30,11 +30,11 @@ use Rattle.au_rwgroup.proofs.TotalTyped.{if_some, sums_typed, typed_total_gives}
 pub first_scans : (c k : ℕ) (kept : List PAgg) (of : PlanTree) → scans (first_grouping c k kept of) ≡ scans of
 first_scans c k kept of = scans-extend_all (group_columns c k) of
 
-module _ (c : ℕ) (of p : PlanTree) (is : p ≡ distinct c of) where
-  distinct_as_is : Distincts c of (distinct c of)
+module _ (c : ℕ) (of p : PlanTree) (is : p ≡ distinct_plan c of) where
+  distinct_as_is : Distincts c of (distinct_plan c of)
   distinct_as_is kinds tables ks rows ns fits long g =
       let own = triple_numbers (bounded.distinct_rows rows) in
-      subst (λ n. Gives kinds tables (distinct n of) ks (bounded.distinct_rows rows) (ns ++ own)) long
+      subst (λ n. Gives kinds tables (distinct_plan n of) ks (bounded.distinct_rows rows) (ns ++ own)) long
       (record {
         typed = distinct_kinds kinds ks of g.typed;
         relation = distinct_relation ks rows g.relation;
@@ -53,16 +53,16 @@ module _ (c : ℕ) (of p : PlanTree) (is : p ≡ distinct c of) where
 pub sums_scans : (c : ℕ) (aggs : List Agg) (of : PlanTree) → scans (sums c aggs of) ≡ scans of
 sums_scans c aggs of = zero-add (scans (extend_all (total_columns (3 * c) aggs) of)) ∙ scans-extend_all (total_columns (3 * c) aggs) of
 
-total_within : (c : ℕ) (aggs : List Agg) (of : PlanTree) → scans (total c aggs of) ≤ scans of
+total_within : (c : ℕ) (aggs : List Agg) (of : PlanTree) → scans (total_plan c aggs of) ≤ scans of
 total_within c [] of = omega arith
 total_within c (a ∷ aggs) of = le_of_eq {n = scans (sums c (a ∷ aggs) of)} {m = scans of} (sums_scans c (a ∷ aggs) of)
 
-module _ (c : ℕ) (aggs : List Agg) (of p : PlanTree) (is : p ≡ total c aggs of) where
-  total_as_is : Totals c aggs of (total c aggs of)
+module _ (c : ℕ) (aggs : List Agg) (of p : PlanTree) (is : p ≡ total_plan c aggs of) where
+  total_as_is : Totals c aggs of (total_plan c aggs of)
   total_as_is kinds tables ks js rows ns fits long typed g =
       let own = flat_map (agg_numbers (all_rows rows)) aggs in
       let b = if_some (list_all is_sum aggs) (all_kinds (map (agg_kind ks) aggs)) js typed in
-      subst (λ n. Gives kinds tables (total n aggs of) js (bounded.total aggs rows) (ns ++ own)) long
+      subst (λ n. Gives kinds tables (total_plan n aggs of) js (bounded.total aggs rows) (ns ++ own)) long
       (record {
         typed = total_plan_kinds kinds ks js aggs typed of g.typed;
         relation = total_relation ks js aggs rows b.0 b.1 g.relation;

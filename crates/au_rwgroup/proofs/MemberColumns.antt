@@ -14,7 +14,7 @@ use Rattle.au_expr.specs.Ordinary.{is_true}
 use Rattle.au_algebra.specs.declared.query.Agg.{Agg}
 use Rattle.au_algebra.specs.declared.query.Agg.TheVariants as agg
 use Rattle.au_algebra.specs.Lists.{same_row, int_sum, least, greatest}
-use Rattle.au_algebra.specs.Bounded.{RangeRow, Bounded, Grouped, lower_term, upper_term, guess_term, grouped, column}
+use Rattle.au_algebra.specs.Bounded.{RangeRow, Bounded, Grouped, lower_term, upper_term, guess_term, grouped, range_at}
 use Rattle.au_algebra.specs.Laws.{IsRangeRow, IsRelation}
 use Rattle.au_algebra.proofs.Each.{all_filter}
 use Rattle.au_plain.specs.declared.plan.PAgg.{PAgg}
@@ -107,23 +107,23 @@ module _ (by : KeyReading) (more : List PAgg) (rows : Bounded) (ok : IsRelation 
   -- the four values of a pair
   abbrev pub value_1 : Agg → List Value × RangeRow → Value
   value_1 (agg.Sum d) s = value.Int (lower_term (group_at s.0) d s.1)
-  value_1 (agg.Min d) s = (column d s.1).lo
-  value_1 (agg.Max d) s = (column d s.1).hi
+  value_1 (agg.Min d) s = (range_at d s.1).lo
+  value_1 (agg.Max d) s = (range_at d s.1).hi
 
   abbrev pub value_2 : Agg → List Value × RangeRow → Value
   value_2 (agg.Sum d) s = value.Int (if belongs_to s.0 s.1 then guess_term d s.1 else pos 0)
-  value_2 (agg.Min d) s = if is_guessed_copy s then (column d s.1).sg else keep s.0 (Max (3 * d + 1))
-  value_2 (agg.Max d) s = if is_guessed_copy s then (column d s.1).sg else keep s.0 (Min (3 * d + 1))
+  value_2 (agg.Min d) s = if is_guessed_copy s then (range_at d s.1).sg else keep s.0 (Max (3 * d + 1))
+  value_2 (agg.Max d) s = if is_guessed_copy s then (range_at d s.1).sg else keep s.0 (Min (3 * d + 1))
 
   abbrev pub value_3 : Agg → List Value × RangeRow → Value
   value_3 (agg.Sum d) s = value.Int (upper_term (group_at s.0) d s.1)
-  value_3 (agg.Min d) s = if is_sure_copy s then (column d s.1).hi else keep s.0 (Max (3 * d + 2))
-  value_3 (agg.Max d) s = if is_sure_copy s then (column d s.1).lo else keep s.0 (Min (3 * d))
+  value_3 (agg.Min d) s = if is_sure_copy s then (range_at d s.1).hi else keep s.0 (Max (3 * d + 2))
+  value_3 (agg.Max d) s = if is_sure_copy s then (range_at d s.1).lo else keep s.0 (Min (3 * d))
 
   abbrev pub value_4 : Agg → List Value × RangeRow → Value
   value_4 (agg.Sum d) s = value.Int (pos 0)
-  value_4 (agg.Min d) s = (column d s.1).hi
-  value_4 (agg.Max d) s = (column d s.1).lo
+  value_4 (agg.Min d) s = (range_at d s.1).hi
+  value_4 (agg.Max d) s = (range_at d s.1).lo
 
   -- the columns of a pair of a box and a member
   abbrev pub values : List Agg → List Value × RangeRow → List Value
@@ -172,7 +172,7 @@ module _ (by : KeyReading) (more : List PAgg) (rows : Bounded) (ok : IsRelation 
     abbrev belonging : Bounded
     belonging = filter (belongs_to key) rows
 
-    column_ends : (r : RangeRow) → IsRangeRow by.ks r → Ends rl rs rh (group.wide by r) (3 * d) (column d r)
+    column_ends : (r : RangeRow) → IsRangeRow by.ks r → Ends rl rs rh (group.wide by r) (3 * d) (range_at d r)
     column_ends r v =
         ends_at rl rs rh (group.wide by r) 0 d (3 * d) r.cells (cell r.cells d) (group.wide_cells by r v)
         (at_own r.cells d (certain (value.Int (pos 0))) (omega (arith, here, cells_length IsRangeOf by.ks r.cells v.cells))) (let e : 3 * d ≡ 0 + 3 * d = omega arith in e)
@@ -183,17 +183,17 @@ module _ (by : KeyReading) (more : List PAgg) (rows : Bounded) (ok : IsRelation 
         ∙ map_valid (IsRangeRow by.ks) (λ r. value_at (group.wide by r) i) f belonging (all_filter (IsRangeRow by.ks) (belongs_to key) rows ok)
         (λ r v. ap (λ o. unwrap_or o (value.Int (pos 0))) (at r v))
 
-    pub greatest_hi : keep key (Max (3 * d + 2)) ≡ greatest (map (λ r. (column d r).hi) belonging)
-    greatest_hi = ap greatest (kept_column (3 * d + 2) (λ r. (column d r).hi) (λ r v. (column_ends r v).hi))
+    pub greatest_hi : keep key (Max (3 * d + 2)) ≡ greatest (map (λ r. (range_at d r).hi) belonging)
+    greatest_hi = ap greatest (kept_column (3 * d + 2) (λ r. (range_at d r).hi) (λ r v. (column_ends r v).hi))
 
-    pub greatest_sg : keep key (Max (3 * d + 1)) ≡ greatest (map (λ r. (column d r).sg) belonging)
-    greatest_sg = ap greatest (kept_column (3 * d + 1) (λ r. (column d r).sg) (λ r v. (column_ends r v).sg))
+    pub greatest_sg : keep key (Max (3 * d + 1)) ≡ greatest (map (λ r. (range_at d r).sg) belonging)
+    greatest_sg = ap greatest (kept_column (3 * d + 1) (λ r. (range_at d r).sg) (λ r v. (column_ends r v).sg))
 
-    pub least_lo : keep key (Min (3 * d)) ≡ least (map (λ r. (column d r).lo) belonging)
-    least_lo = ap least (kept_column (3 * d) (λ r. (column d r).lo) (λ r v. (column_ends r v).lo))
+    pub least_lo : keep key (Min (3 * d)) ≡ least (map (λ r. (range_at d r).lo) belonging)
+    least_lo = ap least (kept_column (3 * d) (λ r. (range_at d r).lo) (λ r v. (column_ends r v).lo))
 
-    pub least_sg : keep key (Min (3 * d + 1)) ≡ least (map (λ r. (column d r).sg) belonging)
-    least_sg = ap least (kept_column (3 * d + 1) (λ r. (column d r).sg) (λ r v. (column_ends r v).sg))
+    pub least_sg : keep key (Min (3 * d + 1)) ≡ least (map (λ r. (range_at d r).sg) belonging)
+    least_sg = ap least (kept_column (3 * d + 1) (λ r. (range_at d r).sg) (λ r v. (column_ends r v).sg))
 
   -- kept columns stay while columns are added
   pub kept_more : (row more : List Value) (q : ℕ) (key : List Value) (aggs : List Agg) → KeptAt row q key aggs → KeptAt (row ++ more) q key aggs

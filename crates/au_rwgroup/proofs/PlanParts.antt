@@ -7,7 +7,7 @@ use Rattle.au_plain.specs.PTerms.{PTerm, Column}
 use Rattle.au_plain.specs.Plans.{PlanTree, Keep, extend_all}
 use Rattle.au_rwexpr.specs.Counts.{positive}
 use Rattle.au_rwgroup.specs.Groups.{first_grouping}
-use Rattle.au_rwgroup.specs.GroupPlan.{kept_for, places, all_member_columns, all_member_aggs, all_result_columns, second_grouping, result_places, group}
+use Rattle.au_rwgroup.specs.GroupPlan.{kept_for, places, all_member_columns, all_member_aggs, all_result_columns, second_grouping, result_places, group_plan}
 
 -- the places that were worked out
 pub record PlacesAre (c k : ℕ) (aggs : List Agg) (kept : List PAgg) (counts keys row triple there number : ℕ) : Type 0 where
@@ -21,7 +21,7 @@ pub record PlacesAre (c k : ℕ) (aggs : List Agg) (kept : List PAgg) (counts ke
 
 module _ (c k : ℕ) (aggs : List Agg) (kept : List PAgg) (counts keys row triple there number : ℕ) (at : PlacesAre c k aggs kept counts keys row triple there number) where
   -- the whole plan, from its parts
-  pub plan_is : (of groups p : PlanTree) (shown : List ℕ) (columns : List PTerm) → columns ≡ all_result_columns (positive (Column there)) (positive (Column (counts + 1))) row aggs → shown ≡ result_places k (there + 1) number → groups ≡ second_grouping keys row (all_member_columns (places keys row triple) (counts + 3) aggs) (all_member_aggs (triple + 8) aggs) (first_grouping c keys kept of) of → p ≡ Keep shown (extend_all columns groups) → p ≡ group c k aggs of
+  pub plan_is : (of groups p : PlanTree) (shown : List ℕ) (columns : List PTerm) → columns ≡ all_result_columns (positive (Column there)) (positive (Column (counts + 1))) row aggs → shown ≡ result_places k (there + 1) number → groups ≡ second_grouping keys row (all_member_columns (places keys row triple) (counts + 3) aggs) (all_member_aggs (triple + 8) aggs) (first_grouping c keys kept of) of → p ≡ Keep shown (extend_all columns groups) → p ≡ group_plan c k aggs of
   plan_is of groups p shown columns columns_are shown_are groups_are whole =
       let kept_long = ap (λ xs. 3 * k + 3 + length xs) at.kept_is in
       let row_at = at.row_is ∙ kept_long in

@@ -20,7 +20,7 @@ use Rattle.au_plain.specs.PlanNumbers.{magnitudes, group_numbers}
 use Rattle.au_plain.specs.Meaning.{plain_rows, kept, passes, plain_aggregate, plain_group}
 use Rattle.au_encode.specs.Encode.{encode_row, encode_cells, encode_counts}
 use Rattle.au_rwexpr.specs.Cells.{run}
-use Rattle.au_rwexpr.specs.Meets.{meets}
+use Rattle.au_rwexpr.specs.Meets.{meets_term}
 use Rattle.au_rwgroup.specs.GroupPlan.{second_grouping}
 use Rattle.au_rwexpr.proofs.Places.{EndsOfAll, all_ends_at, all_ends_more}
 use Rattle.au_rwexpr.proofs.Columns.{add_columns}
@@ -134,10 +134,10 @@ module _ (by : KeyReading) (more : List PAgg) (rows : Bounded) (ok : IsRelation 
   pub cells_at : (s : List Value × RangeRow) → IsPair s → EndsOfAll rl rs rh (joined s) b s.1.cells
   cells_at s v = all_ends_at rl rs rh (box_row s.0) (encode_counts s.1.annot) b s.1.cells (box_row_long s.0 v.0)
 
-  meets_now : (key : List Value) (r : RangeRow) → IsKey key → IsRangeRow by.ks r → passes (meets b 0 by.k) (box_row key ++ encode_row r) ≡ overlaps key r
+  meets_now : (key : List Value) (r : RangeRow) → IsKey key → IsRangeRow by.ks r → passes (meets_term b 0 by.k) (box_row key ++ encode_row r) ≡ overlaps key r
   meets_now key r some v =
       let row = box_row key ++ encode_row r in
-      ap (λ t. is_true (plain_value (meets b 0 by.k) t)) (sym (append-nil row))
+      ap (λ t. is_true (plain_value (meets_term b 0 by.k) t)) (sym (append-nil row))
       ∙ ap is_true (meets_has row b 0 by.k (by.keys r.cells) (box key) (by.long r v) (box_long key some) (by.shifted r v row b (all_ends_at rl rs rh (box_row key) (encode_counts r.annot) b r.cells (box_row_long key some)))
       (all_ends_more rl rs rh (box_row key) (encode_row r) 0 (box key) (all_ends_at rl rs rh [] (tail key) 0 (box key) refl)) [])
 
@@ -152,19 +152,19 @@ module _ (by : KeyReading) (more : List PAgg) (rows : Bounded) (ok : IsRelation 
   all_pairs = pairs box_row members keys_list
 
   -- The rows of the join.
-  pub joined_rows : (ts : List Rows) (boxes p : PlanTree) → plain_rows boxes ts ≡ map box_row keys_list → Gives ts p rows → plain_rows (Join (meets b 0 by.k) boxes p) ts ≡ map joined all_pairs
+  pub joined_rows : (ts : List Rows) (boxes p : PlanTree) → plain_rows boxes ts ≡ map box_row keys_list → Gives ts p rows → plain_rows (Join (meets_term b 0 by.k) boxes p) ts ≡ map joined all_pairs
   joined_rows ts boxes p g h =
-      (λ i. filter (passes (meets b 0 by.k)) (flat_map (λ x. map (λ y. x ++ y) (h i)) (g i)))
-      ∙ join_rows IsKey (IsRangeRow by.ks) box_row encode_row (passes (meets b 0 by.k)) overlaps meets_now keys_list rows all_keys ok
+      (λ i. filter (passes (meets_term b 0 by.k)) (flat_map (λ x. map (λ y. x ++ y) (h i)) (g i)))
+      ∙ join_rows IsKey (IsRangeRow by.ks) box_row encode_row (passes (meets_term b 0 by.k)) overlaps meets_now keys_list rows all_keys ok
 
   module _ (columns : List PTerm) (values : List Value × RangeRow → List Value) (added : (s : List Value × RangeRow) → IsPair s → add_columns reading columns (joined s) ≡ Some (joined s ++ values s)) (aggs : List PAgg) where
     abbrev pub wide : List Value × RangeRow → List Value
     wide s = joined s ++ values s
 
     -- the rows of the join with the further columns
-    pub wide_rows : (ts : List Rows) (boxes p : PlanTree) → plain_rows boxes ts ≡ map box_row keys_list → Gives ts p rows → plain_rows (extend_all columns (Join (meets b 0 by.k) boxes p)) ts ≡ map wide all_pairs
+    pub wide_rows : (ts : List Rows) (boxes p : PlanTree) → plain_rows boxes ts ≡ map box_row keys_list → Gives ts p rows → plain_rows (extend_all columns (Join (meets_term b 0 by.k) boxes p)) ts ≡ map wide all_pairs
     wide_rows ts boxes p g h =
-        rows-extend_all columns (Join (meets b 0 by.k) boxes p) ts
+        rows-extend_all columns (Join (meets_term b 0 by.k) boxes p) ts
         ∙ ap (map (grow columns)) (joined_rows ts boxes p g h)
         ∙ map-map joined (grow columns) all_pairs
         ∙ map_valid IsPair (λ s. grow columns (joined s)) wide all_pairs (pairs_ok keys_list all_keys) (λ s v. grow_is columns (joined s) (wide s) (added s v))

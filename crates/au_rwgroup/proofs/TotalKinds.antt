@@ -24,7 +24,7 @@ use Rattle.au_encode.specs.Encode.{encoded_kinds, triple_kinds}
 use Rattle.au_rwexpr.specs.Flatten.{lo, sg, hi, three}
 use Rattle.au_rwexpr.specs.Counts.{zero_term, one_term}
 use Rattle.au_rwexpr.specs.Cells.{run}
-use Rattle.au_rwgroup.specs.Totals.{signed, total_columns, total_sums, sums, total}
+use Rattle.au_rwgroup.specs.Totals.{signed, total_columns, total_sums, sums, total_plan}
 use Rattle.au_rwexpr.proofs.Places.{At, at_past, ends_at}
 use Rattle.au_rwexpr.proofs.Columns.{AllMean, adds}
 use Rattle.au_rwexpr.proofs.OnKinds.{HasKind, column_kind, test_kind, case_kind, multiply_kind}
@@ -136,6 +136,6 @@ sums_plan_kinds tk ks js aggs typed p h =
     ∙ ap (λ ms. Some (encoded_kinds ms)) (sums_are ks aggs js b.0 b.1)
 
 -- Total's plan has them.
-pub total_plan_kinds : (tk : List (List Kind)) (ks js : List Kind) (aggs : List Agg) → total_kinds aggs ks ≡ Some js → (p : PlanTree) → HasKinds tk p ks → HasKinds tk (total (length ks) aggs p) js
+pub total_plan_kinds : (tk : List (List Kind)) (ks js : List Kind) (aggs : List Agg) → total_kinds aggs ks ≡ Some js → (p : PlanTree) → HasKinds tk p ks → HasKinds tk (total_plan (length ks) aggs p) js
 total_plan_kinds tk ks js [] typed p h = ap (λ ms. Some (encoded_kinds ms)) (some_is [] js typed)
 total_plan_kinds tk ks js (a ∷ aggs) typed p h = sums_plan_kinds tk ks js (a ∷ aggs) typed p h

@@ -50,7 +50,7 @@ use Rattle.au_rwexpr.proofs.Places.{At, EndsOfAll, ends_at}
 use Rattle.au_rwexpr.proofs.PlanNumbersOf.{all_fit, all_made, numbers-extend_all}
 use Rattle.au_combine.proofs.BoxPlaces.{at_own}
 use Rattle.au_combine.proofs.BoxRows.{cell}
-use Rattle.au_rwgroup.specs.Totals.{agg_place, signed, total_columns, total_sums, sums, total}
+use Rattle.au_rwgroup.specs.Totals.{agg_place, signed, total_columns, total_sums, sums, total_plan}
 use Rattle.au_rwgroup.proofs.Signed.{below-zero, signed_number}
 use Rattle.au_rwgroup.proofs.TotalRows as rows_of
 use Rattle.au_rwgroup.proofs.TotalRows.{IsSumOf, low, mid, high, zero_at, no_key}
@@ -238,6 +238,6 @@ module _ (ks : List Kind) where
         (all_of (λ row. Fit (grow_numbers ones row)) (λ row. refl) (plain_rows grouped ts))
 
 -- Total's plan adds no number that does not fit.
-pub total_fits : (ks : List Kind) (aggs : List Agg) → AllByRecursion (IsSumOf (length ks)) aggs → (ts : List Rows) (p : PlanTree) (rows : Bounded) → IsRelation ks rows → Gives ts p rows → AllFitRows rows → Fit (flat_map (agg_numbers (all_rows rows)) aggs) → Fit (plan_numbers p ts) → Fit (plan_numbers (total (length ks) aggs p) ts)
+pub total_fits : (ks : List Kind) (aggs : List Agg) → AllByRecursion (IsSumOf (length ks)) aggs → (ts : List Rows) (p : PlanTree) (rows : Bounded) → IsRelation ks rows → Gives ts p rows → AllFitRows rows → Fit (flat_map (agg_numbers (all_rows rows)) aggs) → Fit (plan_numbers p ts) → Fit (plan_numbers (total_plan (length ks) aggs p) ts)
 total_fits ks [] ok ts p rows v g held f np = refl
 total_fits ks (a ∷ aggs) ok ts p rows v g held f np = sums_fit ks (a ∷ aggs) ok ts p rows v g held f np

@@ -31,7 +31,7 @@ use Rattle.au_encode.proofs.Decoded.{cells_length}
 use Rattle.au_rwexpr.specs.Flatten.{lo, hi, three}
 use Rattle.au_rwexpr.specs.Cells.{run}
 use Rattle.au_rwexpr.specs.Counts.{one_term}
-use Rattle.au_rwgroup.specs.Totals.{agg_place, total_columns, total_sums, sums, total}
+use Rattle.au_rwgroup.specs.Totals.{agg_place, total_columns, total_sums, sums, total_plan}
 use Rattle.au_rwexpr.proofs.Places.{At, EndsOfAll, all_ends, all_ends_at, ends_at}
 use Rattle.au_rwexpr.proofs.Columns.{adds, AllMean}
 use Rattle.au_rwexpr.proofs.OnValues.{reading, lo_has, sg_has, hi_has, column_has}
@@ -183,6 +183,6 @@ module _ (ks : List Kind) where
         (adds reading cells (three one_term one_term one_term) (value.Int (pos 1) ∷ value.Int (pos 1) ∷ value.Int (pos 1) ∷ []) ((λ more. refl), ((λ more. refl), ((λ more. refl), tt)))))
 
 -- Total's plan gives the row of the bounded operator.
-pub total_gives : (ks : List Kind) (aggs : List Agg) → AllByRecursion (IsSumOf (length ks)) aggs → (ts : List Rows) (p : PlanTree) (rows : Bounded) → IsRelation ks rows → Gives ts p rows → Gives ts (total (length ks) aggs p) (bounded.total aggs rows)
+pub total_gives : (ks : List Kind) (aggs : List Agg) → AllByRecursion (IsSumOf (length ks)) aggs → (ts : List Rows) (p : PlanTree) (rows : Bounded) → IsRelation ks rows → Gives ts p rows → Gives ts (total_plan (length ks) aggs p) (bounded.total aggs rows)
 total_gives ks [] ok ts p rows v g = refl
 total_gives ks (a ∷ aggs) ok ts p rows v g = sums_give ks (a ∷ aggs) ok ts p rows v g

@@ -7,7 +7,7 @@ use Rattle.au_expr.specs.Figures.{Fit}
 use Rattle.au_algebra.specs.declared.query.Agg.{Agg}
 use Rattle.au_algebra.specs.Ordinary.{Rows}
 use Rattle.au_algebra.specs.Bounded.{Bounded, all_rows, distinct_rows, group}
-use Rattle.au_algebra.specs.Fits.{agg_numbers, group_numbers, triple_numbers}
+use Rattle.au_algebra.specs.Fits.{agg_numbers, grouping_numbers, triple_numbers}
 use Rattle.au_algebra.specs.Typing.{group_kinds, total_kinds}
 use Rattle.au_plain.specs.Plans.{PlanTree}
 use Rattle.au_plain.specs.PlanNumbers.{plan_numbers}
@@ -25,7 +25,7 @@ abbrev pub AddsByGroup : ℕ → ℕ → List Agg → PlanTree → PlanTree → 
 AddsByGroup c keys aggs of p =
     (tables : List Rows) (ks js : List Kind) (rows : Bounded) →
     length ks ≡ c → group_kinds keys aggs ks ≡ Some js → EncodesHeld tables of ks rows →
-    Fit (group_numbers (take keys) aggs rows ++ triple_numbers (group keys aggs rows)) →
+    Fit (grouping_numbers (take keys) aggs rows ++ triple_numbers (group keys aggs rows)) →
     AddsInRange (plan_numbers of tables) (plan_numbers p tables)
 
 -- those of the aggregates

@@ -4,7 +4,7 @@ use Rattle.au_value.specs.declared.kinds.Kind.{Kind}
 use Rattle.au_algebra.specs.declared.query.Agg.{Agg}
 use Rattle.au_algebra.specs.Ordinary.{Rows}
 use Rattle.au_algebra.specs.Bounded.{Bounded, all_rows, distinct_rows, group, total}
-use Rattle.au_algebra.specs.Fits.{agg_numbers, group_numbers, triple_numbers}
+use Rattle.au_algebra.specs.Fits.{agg_numbers, grouping_numbers, triple_numbers}
 use Rattle.au_algebra.specs.Typing.{group_kinds, total_kinds}
 use Rattle.au_plain.specs.Plans.{PlanTree}
 use Rattle.au_plain.specs.PlanKinds.{FitTables}
@@ -24,7 +24,7 @@ abbrev pub Groups : ℕ → ℕ → List Agg → PlanTree → PlanTree → Type 
 Groups c keys aggs of p =
     (kinds : List (List Kind)) (tables : List Rows) (ks js : List Kind) (rows : Bounded) (ns : List ℤ) →
     FitTables tables → length ks ≡ c → group_kinds keys aggs ks ≡ Some js → Gives kinds tables of ks rows ns →
-    Gives kinds tables p js (group keys aggs rows) (ns ++ (group_numbers (take keys) aggs rows ++ triple_numbers (group keys aggs rows)))
+    Gives kinds tables p js (group keys aggs rows) (ns ++ (grouping_numbers (take keys) aggs rows ++ triple_numbers (group keys aggs rows)))
 
 -- Where the input gives a relation of `c` columns, for which the aggregates are typed, the plan gives the sums over all
 -- its rows. Its numbers are those of the input and of the aggregates.

@@ -9,7 +9,7 @@ use Rattle.au_plain.specs.Plans.{PlanTree, Keep, Join, Group, extend_all}
 use Rattle.au_rwexpr.specs.Flatten.{lo, sg, hi, three}
 use Rattle.au_rwexpr.specs.Counts.{zero_term, one_term, positive}
 use Rattle.au_rwexpr.specs.Cells.{cell_places, run, three_places}
-use Rattle.au_rwexpr.specs.Meets.{meets, same_guesses}
+use Rattle.au_rwexpr.specs.Meets.{meets_term, same_guesses}
 use Rattle.au_rwgroup.specs.Groups.{all_sure, first_grouping}
 use Rattle.au_rwgroup.specs.Totals.{signed}
 
@@ -110,14 +110,14 @@ all_result_columns there has_guess z (a ∷ aggs) =
 
 -- the boxes joined with the rows that overlap them, with further columns, grouped by the boxes
 abbrev pub second_grouping : ℕ → ℕ → List PTerm → List PAgg → PlanTree → PlanTree → PlanTree
-second_grouping k b columns aggs boxes rows = Group (run 0 b) aggs (extend_all columns (Join (meets b 0 k) boxes rows))
+second_grouping k b columns aggs boxes rows = Group (run 0 b) aggs (extend_all columns (Join (meets_term b 0 k) boxes rows))
 
 -- a group's columns: the hulls of its keys, the ranges of the aggregates behind their results, and its triple
 abbrev pub result_places : ℕ → ℕ → ℕ → List ℕ
 result_places k results n = cell_places 0 k ++ (cell_places results n ++ three_places (3 * k))
 
-abbrev pub group : ℕ → ℕ → List Agg → PlanTree → PlanTree
-group c k aggs p =
+abbrev pub group_plan : ℕ → ℕ → List Agg → PlanTree → PlanTree
+group_plan c k aggs p =
     let kept = flat_map kept_for aggs in
     let b = 3 * k + 3 + length kept in
     let joined = places k b (b + 3 * c) in

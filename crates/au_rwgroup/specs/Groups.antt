@@ -38,5 +38,5 @@ first_grouping c k kept p =
     (Extend (Add (Column (w + 2)) (Column (w + 3))) (boxes k (first_aggs (3 * c + 3) kept) (extend_all (group_columns c k) p)))
 
 -- one row per list of guesses of all columns
-abbrev pub distinct : ℕ → PlanTree → PlanTree
-distinct c p = first_grouping c c [] p
+abbrev pub distinct_plan : ℕ → PlanTree → PlanTree
+distinct_plan c p = first_grouping c c [] p

@@ -45,6 +45,6 @@ sums c aggs p =
     (Group [] (total_sums 0 aggs) (Union (Rows w (replicate w (Int (pos 0)) ∷ [])) (Keep (run (3 * c + 3) w) (extend_all columns p))))
 
 -- with no aggregate the triple of one copy alone
-abbrev pub total : ℕ → List Agg → PlanTree → PlanTree
-total c [] p = Rows 3 ((Int (pos 1) ∷ Int (pos 1) ∷ Int (pos 1) ∷ []) ∷ [])
-total c (a ∷ aggs) p = sums c (a ∷ aggs) p
+abbrev pub total_plan : ℕ → List Agg → PlanTree → PlanTree
+total_plan c [] p = Rows 3 ((Int (pos 1) ∷ Int (pos 1) ∷ Int (pos 1) ∷ []) ∷ [])
+total_plan c (a ∷ aggs) p = sums c (a ∷ aggs) p

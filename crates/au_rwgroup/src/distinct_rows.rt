@@ -4,7 +4,7 @@ ghost use Rattle.au_plain.specs.Plans.{plan_tree};
 ghost use Rattle.au_plain.specs.PlanNumbers.{scans};
 ghost use Rattle.au_rwgroup.specs.Adds.{AddsByDistinct};
 ghost use Rattle.au_rwgroup.specs.Gives.{Distincts};
-ghost use Rattle.au_rwgroup.specs.Groups.{distinct as one_of_each};
+ghost use Rattle.au_rwgroup.specs.Groups.{distinct_plan as one_of_each};
 
 use crate::guessed_keys::first_grouping;
 use au_plain::{Layout, Plan};

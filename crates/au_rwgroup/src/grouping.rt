@@ -55,7 +55,7 @@ fn group_plan(
     aggs: &[Agg],
     layout: &Layout,
 ) -> Result<Plan, NoMemory>
-    ensures plan { IfOk result (λ p. plan_tree p ≡ plan.group layout.now.columns keys aggs.now (plan_tree of)) }
+    ensures plan { IfOk result (λ p. plan_tree p ≡ plan.group_plan layout.now.columns keys aggs.now (plan_tree of)) }
     ensures columns { OnOk result (keys + length aggs.now < 2 ^ 64) }
 {
     let kept = kept_aggregates(alloc, aggs)?;
@@ -145,7 +145,7 @@ fn member_pairs(
     boxes: Plan,
     rows: Plan,
 ) -> Result<Plan, NoMemory>
-    ensures { IfOk result (λ p. plan_tree p ≡ extended (map pterm columns.items) (tree.Join (meeting.meets joined.row 0 joined.keys) (plan_tree boxes) (plan_tree rows))) }
+    ensures { IfOk result (λ p. plan_tree p ≡ extended (map pterm columns.items) (tree.Join (meeting.meets_term joined.row 0 joined.keys) (plan_tree boxes) (plan_tree rows))) }
 {
     let held = (boxes, rows, columns);
     let (overlap, (boxes, rows, columns)) = beside(box_overlap(alloc, joined), held)?;
@@ -155,7 +155,7 @@ fn member_pairs(
 
 // Whether the row overlaps the box.
 fn box_overlap(alloc: Global, joined: JoinedRow) -> Result<PExpr, NoMemory>
-    ensures { IfOk result (λ e. pterm e ≡ meeting.meets joined.row 0 joined.keys) }
+    ensures { IfOk result (λ e. pterm e ≡ meeting.meets_term joined.row 0 joined.keys) }
 {
     let row = RangeColumns::at(joined.row)?;
     meets(alloc, row, RangeColumns::at(0)?, joined.keys)

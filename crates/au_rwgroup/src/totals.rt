@@ -11,7 +11,7 @@ ghost use Rattle.au_rwexpr.specs.Flatten.{three};
 ghost use Rattle.au_value.specs.declared.value.Value.TheVariants as value;
 ghost use Rattle.au_rwgroup.specs.Adds.{AddsByTotal};
 ghost use Rattle.au_rwgroup.specs.Gives.{Totals};
-ghost use Rattle.au_rwgroup.specs.Totals.{agg_place, sum_terms, sums, total as totalled, total_columns as terms_of, total_sums as sums_of};
+ghost use Rattle.au_rwgroup.specs.Totals.{agg_place, sum_terms, sums, total_plan as totalled, total_columns as terms_of, total_sums as sums_of};
 
 use crate::count_terms::{one, signed};
 use crate::literal_rows::{one_row, repeated};

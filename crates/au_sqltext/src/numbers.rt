@@ -6,14 +6,14 @@ ghost use Rattle.au_expr.specs.Numbers.{number_if_any};
 ghost use Rattle.au_plain.specs.PlanKinds.{row_fits};
 ghost use Rattle.au_plain.specs.PTerms.{pterm};
 ghost use Rattle.au_plain.specs.Plans.{plan_tree};
-ghost use Rattle.au_sqltext.specs.Fitting.{agg_fits, is_usize, numbers_fit, term_fits};
+ghost use Rattle.au_sqltext.specs.Fitting.{agg_fits, is_usize, written_numbers_fit, term_fits};
 
 use au_plain::{PAgg, PExpr, PRow, Plan};
 use au_value::Value;
 
 /// Reads each number of a plan. It changes nothing, and tells that each fits the type that holds it.
 pub fn read_numbers(plan: &Plan)
-    ensures { numbers_fit (plan_tree plan.now) ≡ true }
+    ensures { written_numbers_fit (plan_tree plan.now) ≡ true }
 {
     match plan {
         Plan::Scan(table, width) => {

@@ -14,7 +14,7 @@ use Rattle.au_blocks.specs.Tables.{fits_kinds, is_range_of}
 use Rattle.au_algebra.specs.Lists.{least, greatest}
 use Rattle.au_algebra.proofs.Each.{all_at, all_from}
 use Rattle.au_algebra.proofs.Extremes.{least_below, greatest_above, least_among, greatest_among}
-use Rattle.au_translate.specs.Translate.{cell_at, low_at, high_at, span_in}
+use Rattle.au_translate.specs.Translate.{candidate_cell, low_at, high_at, span_in}
 
 -- ---- rows that fit their kinds
 
@@ -62,7 +62,7 @@ passes_at p (y ∷ xs) all (suc i) x h = passes_at p xs (and_parts (p y) (list_a
 
 -- ---- the ranges from a column on
 
-cell_here : (j : ℕ) (a : Candidate) (cs us : List Span) (u : Span) → a.cells ≡ cs → drop j cs ≡ u ∷ us → cell_at j a ≡ u
+cell_here : (j : ℕ) (a : Candidate) (cs us : List Span) (u : Span) → a.cells ≡ cs → drop j cs ≡ u ∷ us → candidate_cell j a ≡ u
 cell_here zero a [] us u is e = cc
 cell_here (suc j) a [] us u is e = cc
 cell_here zero a (c ∷ cs) us u is e = let same : c ≡ u = cc in rw is same

@@ -19,14 +19,14 @@ abbrev pub shown : Choices → Candidate
 shown b = unwrap_or (slice_get b.alternatives (unwrap_or b.guess 0)) (candidate [] once)
 
 -- the range in a column of an alternative, and its ends
-abbrev pub cell_at : ℕ → Candidate → Span
-cell_at j a = unwrap_or (slice_get a.cells j) (certain (Int (pos 0)))
+abbrev pub candidate_cell : ℕ → Candidate → Span
+candidate_cell j a = unwrap_or (slice_get a.cells j) (certain (Int (pos 0)))
 
 abbrev pub low_at : ℕ → Candidate → Value
-low_at j a = (cell_at j a).lo
+low_at j a = (candidate_cell j a).lo
 
 abbrev pub high_at : ℕ → Candidate → Value
-high_at j a = (cell_at j a).hi
+high_at j a = (candidate_cell j a).hi
 
 -- the range in a column over some alternatives, with this guess
 abbrev pub span_in : List Candidate → ℕ → Value → Span

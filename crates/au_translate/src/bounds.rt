@@ -4,7 +4,7 @@ ghost use Rattle.std.specs.List.{AllByRecursion};
 ghost use Rattle.au_value.specs.Ranges.{lesser as lesser_of, greater as greater_of};
 ghost use Rattle.au_annot.specs.Triples.{IsTriple, counts};
 ghost use Rattle.au_algebra.specs.Lists.{least as least_of, greatest as greatest_of};
-ghost use Rattle.au_translate.specs.Translate.{cell_at, greatest_number, guessed_copies as guessed_copies_of, high_at, least_number, low_at, shown as shown_of, triple_of};
+ghost use Rattle.au_translate.specs.Translate.{candidate_cell, greatest_number, guessed_copies as guessed_copies_of, high_at, least_number, low_at, shown as shown_of, triple_of};
 
 use au_annot::{Annot, Count, Triple};
 use au_blocks::{Alternative, Block, Cell};
@@ -23,7 +23,7 @@ pub(crate) fn shown(block: &Block) -> &[Cell]
 /// is the only alternative, the cell's own ends are they.
 pub(crate) fn ends<'a>(block: &'a Block, at: usize, cell: &'a Cell) -> (&'a Value, &'a Value)
     requires wide { AllByRecursion (λ a. at < length a.cells) block.now.alternatives }
-    requires cell { cell.now ≡ cell_at at (shown_of block.now) }
+    requires cell { cell.now ≡ candidate_cell at (shown_of block.now) }
     ensures least { result.0.now ≡ least_of (map (low_at at) block.now.alternatives) }
     ensures greatest { result.1.now ≡ greatest_of (map (high_at at) block.now.alternatives) }
 {
@@ -100,7 +100,7 @@ fn high(alternative: &Alternative, at: usize) -> &Value
 // The cell in a column of an alternative.
 fn cell(alternative: &Alternative, at: usize) -> &Cell
     requires { at < length alternative.now.cells }
-    ensures { result.now ≡ cell_at at alternative.now }
+    ensures { result.now ≡ candidate_cell at alternative.now }
 {
     &alternative.cells()[at]
 }

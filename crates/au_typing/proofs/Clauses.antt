@@ -8,15 +8,15 @@ use Rattle.std.proofs.lemmas.Grind.{flat_map-append, common_steps}
 use Rattle.au_expr.specs.Terms.{term, Column}
 use Rattle.au_expr.specs.declared.expr.Expr.{Expr}
 use Rattle.au_algebra.specs.Trees.{Tree as Query, Project}
-use Rattle.au_parse.specs.Tree.{Tree, ItemTree}
+use Rattle.au_parse.specs.Tree.{TermTree, ItemTree}
 use Rattle.au_parse.specs.Views.{item_view}
 use Rattle.au_parse.specs.declared.Item.{Item}
 use Rattle.au_typing.specs.Aggregates.{Written, taken_from}
 use Rattle.au_typing.specs.Scopes.{Scope, name_faults, then_faults}
 use Rattle.au_typing.specs.Terms.{Setting, rows, first_column, argument_of}
 use Rattle.au_typing.specs.Items.{Output, item_faults, item_outputs, item_written, items_faults, items_written, outputs_from, columns_from}
-use Rattle.au_typing.specs.Selects.{Clauses, Typing, alias_faults, arguments, body, clause_faults, clauses_faults, clauses_written, distinct_if, from_faults, having_written, is_join, outputs, product, scope_of, selected, setting_of}
-use Rattle.au_typing.specs.Results.{ClauseAnswers, ClausesAnswer, FilterAnswers, Gathers, HeldClauses, ItemsFound, Puts, Refuses, SelectAnswer, TermsAnswer, TermsFound, all_terms, clause_term, from_view, groups_tree, held_body, held_typing, next_column, selected_by, setting_view}
+use Rattle.au_typing.specs.Selects.{Clauses, Typing, alias_faults, arguments, body, clause_faults, clauses_faults, clauses_written, distinct_if, from_faults, having_written, is_join, outputs, from_product, scope_of, selected, setting_of}
+use Rattle.au_typing.specs.Results.{ClauseAnswers, ClausesAnswer, FilterAnswers, Gathers, HeldClauses, ItemsFound, Puts, SelectAnswer, TermsAnswer, TermsFound, all_terms, clause_term, from_view, groups_tree, held_body, held_typing, next_column, selected_by, setting_view}
 use Rattle.au_typing.specs.declared.fault.TypingFault.{TypingFault}
 use Rattle.au_typing.specs.declared.outputs.Outputs.{Outputs}
 use Rattle.au_typing.specs.declared.select.ClauseTerms.{ClauseTerms}
@@ -28,6 +28,7 @@ use Rattle.au_typing.proofs.FromItems.{from_sound}
 use Rattle.au_typing.proofs.Stars.{puts_on}
 use Rattle.au_typing.proofs.Steps.{gathers_on, next_after, refuses_left, refuses_right}
 use Rattle.au_typing.proofs.Within.{Contains-flat_map}
+use Rattle.au_typing.specs.Queries.{Refuses}
 
 -- one of two lists has an element
 either : (xs ys : List Written) → (nat_lt 0 (length xs) || nat_lt 0 (length ys)) ≡ nat_lt 0 (length (xs ++ ys))
@@ -132,7 +133,7 @@ terms_step s g c (Ok filter) (Err f) having start mid new before after no_argume
 terms_step s g c (Err f) items having start mid new before after no_arguments no_aggs no_exprs no_columns ff found fault fh = filter_refuses s g c f ff
 
 -- a tree under a condition that is written
-selected_is : (s : Scope) (g : Setting) (n : ℕ) (clause : Option (ℕ × Tree)) (q : Query) → selected_by (clause_term s g n clause) q ≡ selected s g n clause q
+selected_is : (s : Scope) (g : Setting) (n : ℕ) (clause : Option (ℕ × TermTree)) (q : Query) → selected_by (clause_term s g n clause) q ≡ selected s g n clause q
 selected_is s g n None q = refl
 selected_is s g n (Some c) q = refl
 
@@ -175,8 +176,8 @@ select_step c from (Ok r) new found =
     let sound : then_faults (from_faults all) (clauses_faults s g c) ≡ [] =
     ap (λ fs. then_faults fs (clauses_faults s g c)) (from_sound from new)
     ∙ ap (λ h. clauses_faults s h c) (sym found.0) ∙ clauses_sound s (setting_view r.0) c r.1 found.1 found.2 in
-    typing_is s c (is_join all) r.0 r.1 (product all) found.2 ∙ ap (λ h. typing_with c (is_join all) [] s h (product all)) found.0
-    ∙ ap (λ fs. typing_with c (is_join all) fs s g (product all)) (sym sound)
+    typing_is s c (is_join all) r.0 r.1 (from_product all) found.2 ∙ ap (λ h. typing_with c (is_join all) [] s h (from_product all)) found.0
+    ∙ ap (λ fs. typing_with c (is_join all) fs s g (from_product all)) (sym sound)
 select_step c from (Err f) new found =
     let all = map from_view from in
     let s = scope_of all in

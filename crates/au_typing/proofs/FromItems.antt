@@ -6,13 +6,14 @@ use Rattle.std.specs.Str.{str_eq_ignore_ascii_case}
 use Rattle.std.proofs.lemmas.List.{take_more, map_push}
 use Rattle.std.proofs.Math.Seq.{drop-length}
 use Rattle.au_algebra.specs.Trees.{Tree as Query}
-use Rattle.au_typing.specs.Results.{Refuses, from_view}
-use Rattle.au_typing.specs.Selects.{FromItem, alias_faults, from_faults, is_join, joined, product}
+use Rattle.au_typing.specs.Results.{from_view}
+use Rattle.au_typing.specs.Selects.{FromItem, alias_faults, from_faults, is_join, from_joined, from_product}
 use Rattle.au_typing.specs.Scopes.{fault_if, then_faults}
 use Rattle.au_typing.specs.declared.fault.TypingFault.{TypingFault}
 use Rattle.au_typing.specs.declared.fault.TypingFault.TheVariants as fault
 use Rattle.au_typing.specs.declared.select.FromPart.{FromPart}
 use Rattle.au_typing.proofs.Names.{then_contains}
+use Rattle.au_typing.specs.Queries.{Refuses}
 
 -- one FROM item at most joins where it joins itself
 pub is_join-few : (from : List FromPart) → length from ≤ 1 → list_any (λ (item : FromPart). item.part.joins) from ≡ is_join (map from_view from)
@@ -62,8 +63,8 @@ aliases_end from = rw (drop-length from) refl
 
 -- FROM items joined with those before them
 abbrev pub joined_all : Option Query → List FromItem → Query
-joined_all None from = product from
-joined_all (Some q) from = joined q from
+joined_all None from = from_product from
+joined_all (Some q) from = from_joined q from
 
 -- nothing is wrong with well-typed FROM items but their names
 parts_sound : (from : List FromPart) → flat_map (λ (item : FromItem). item.typing.faults) (map from_view from) ≡ []

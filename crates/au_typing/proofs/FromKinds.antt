@@ -8,7 +8,7 @@ use Rattle.au_value.specs.Order.{data_kind}
 use Rattle.au_algebra.specs.Trees.{Tree as Query, Product}
 use Rattle.au_algebra.specs.Typing.{kinds_of}
 use Rattle.au_blocks.specs.declared.column.Column.{Column}
-use Rattle.au_typing.specs.Selects.{Typing, FromItem, fields_of, owned, scope_of, joined, product}
+use Rattle.au_typing.specs.Selects.{Typing, FromItem, fields_of, owned, scope_of, from_joined, from_product}
 use Rattle.au_typing.specs.Queries.{data_kinds}
 use Rattle.au_typing.proofs.TermKinds.{field_kinds}
 
@@ -32,7 +32,7 @@ item_kinds item = data_kinds item.typing.columns
 -- more FROM items behind a tree
 joined_kinds :
     (ts : List (List Kind)) (q : Query) (ks : List Kind) (from : List FromItem) → kinds_of ts q ≡ Some ks → FromTyped ts from →
-    kinds_of ts (joined q from) ≡ Some (ks ++ flat_map item_kinds from)
+    kinds_of ts (from_joined q from) ≡ Some (ks ++ flat_map item_kinds from)
 joined_kinds ts q ks [] h p = h ∙ ap Some (sym (append-nil ks))
 joined_kinds ts q ks (item ∷ others) h p =
     let t = p.0 in
@@ -52,6 +52,6 @@ scope_kinds (item ∷ others) =
     ∙ (let a = owned_kinds item.name item.typing.columns in let b = scope_kinds others in λ i. a i ++ b i)
 
 -- the joined FROM items have the kinds of the scope's columns
-pub product_kinds : (ts : List (List Kind)) (from : List FromItem) → HasItem from → FromTyped ts from → kinds_of ts (product from) ≡ Some (field_kinds (scope_of from))
+pub product_kinds : (ts : List (List Kind)) (from : List FromItem) → HasItem from → FromTyped ts from → kinds_of ts (from_product from) ≡ Some (field_kinds (scope_of from))
 product_kinds ts [] some p = absurd some
 product_kinds ts (item ∷ others) some p = joined_kinds ts item.typing.tree (item_kinds item) others p.0 p.1 ∙ ap Some (sym (scope_kinds (item ∷ others)))

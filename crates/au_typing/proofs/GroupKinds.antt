@@ -9,11 +9,11 @@ use Rattle.au_expr.specs.Kinds.{kind_in, is_kind, kind_if}
 use Rattle.au_algebra.specs.Typing.{agg_kind, is_sum}
 use Rattle.au_parse.specs.declared.AggWord.{AggWord}
 use Rattle.au_parse.specs.declared.AggWord.TheVariants.{Count, Sum, Min, Max}
-use Rattle.au_parse.specs.Tree.{Tree, ItemTree}
-use Rattle.au_typing.specs.Aggregates.{Written, written, taken, taken_from}
+use Rattle.au_parse.specs.Tree.{TermTree, ItemTree}
+use Rattle.au_typing.specs.Aggregates.{Written, written, column_agg, taken_from}
 use Rattle.au_typing.specs.Scales.{number_if}
 use Rattle.au_typing.specs.Scopes.{Scope, fault_if}
-use Rattle.au_typing.specs.Terms.{Grouping, rows, groups, term_kind, term_faults, aggregate_kind, aggregate_faults, counts, is_extreme, argument_of, argument_term}
+use Rattle.au_typing.specs.Terms.{Grouping, rows, groups, term_kind, term_faults, aggregate_kind, aggregate_faults, is_counting, is_extreme, argument_of, argument_term}
 use Rattle.au_typing.specs.Items.{item_written, items_written, item_faults, items_faults}
 use Rattle.au_typing.specs.declared.fault.TypingFault.TheVariants as fault
 use Rattle.au_typing.proofs.Faults.{none_of}
@@ -28,9 +28,9 @@ argument_kind s w = kind_in (field_kinds s) (argument_of s w)
 -- An aggregate in which nothing is wrong: its argument has a kind, and what is taken of that has the kind that is named.
 pub record IsFine (s : Scope) (by : Bool) (w : Written) : Type 0 where
   pub argument : IsKnown (argument_kind s w)
-  pub kind : (ks : List Kind) (place : ℕ) → slice_get ks place ≡ argument_kind s w → agg_kind ks (taken w.word place) ≡ written_kind s w
+  pub kind : (ks : List Kind) (place : ℕ) → slice_get ks place ≡ argument_kind s w → agg_kind ks (column_agg w.word place) ≡ written_kind s w
   pub is_known : IsKnown (written_kind s w)
-  pub sums : by ≡ false → (place : ℕ) → is_sum (taken w.word place) ≡ true
+  pub sums : by ≡ false → (place : ℕ) → is_sum (column_agg w.word place) ≡ true
 
 -- a test that a kind is Int
 is_int : (o : Option Kind) → o ≡ Some Int → (if is_kind Int o then Some Int else None) ≡ Some Int
@@ -38,7 +38,7 @@ is_int o e = ap (λ p. if is_kind Int p then Some Int else None) e
 
 -- a count
 counted :
-    (s : Scope) (by : Bool) (argument : Option Tree) → written_kind s (record { word = Count; argument = argument }) ≡ Some Int →
+    (s : Scope) (by : Bool) (argument : Option TermTree) → written_kind s (record { word = Count; argument = argument }) ≡ Some Int →
     argument_term s Count argument ≡ argument_term s Count None → IsFine s by (record { word = Count; argument = argument })
 counted s by argument e a =
     let is : argument_kind s (record { word = Count; argument = argument }) ≡ Some Int = ap (kind_in (field_kinds s)) a in
@@ -51,7 +51,7 @@ needs false counting at h e = cc
 
 -- an aggregate of an argument
 aggregates :
-    (s : Scope) (g : Grouping) (at : ℕ) (word : AggWord) (e : Tree) → aggregate_faults (groups g) at (is_extreme word) (counts word e) ≡ [] →
+    (s : Scope) (g : Grouping) (at : ℕ) (word : AggWord) (e : TermTree) → aggregate_faults (groups g) at (is_extreme word) (is_counting word e) ≡ [] →
     term_faults s rows at e ≡ [] → IsKnown (aggregate_kind word (term_kind s e)) → IsFine s g.by (record { word = word; argument = Some e })
 aggregates s g at Count e h f k = counted s g.by (Some e) (ap (λ b. data_of (kind_if b Int)) (term_known s rows at e f)) refl
 aggregates s g at Sum e h f k =
@@ -68,7 +68,7 @@ aggregates s g at Min e h f k =
       argument = ap is_some is ∙ data_known (term_kind s e) (term_known s rows at e f);
       kind = λ ks place p. p ∙ is;
       is_known = data_known (term_kind s e) k;
-      sums = λ ungrouped place. absurd (needs g.by (counts Min e && g.joins) at h ungrouped);
+      sums = λ ungrouped place. absurd (needs g.by (is_counting Min e && g.joins) at h ungrouped);
     }
 aggregates s g at Max e h f k =
     let is = row_term_is s 0 at e f in
@@ -76,31 +76,31 @@ aggregates s g at Max e h f k =
       argument = ap is_some is ∙ data_known (term_kind s e) (term_known s rows at e f);
       kind = λ ks place p. p ∙ is;
       is_known = data_known (term_kind s e) k;
-      sums = λ ungrouped place. absurd (needs g.by (counts Max e && g.joins) at h ungrouped);
+      sums = λ ungrouped place. absurd (needs g.by (is_counting Max e && g.joins) at h ungrouped);
     }
 
 -- each aggregate of a term without a fault
-pub term_aggregates : (s : Scope) (g : Grouping) (around : ℕ) (t : Tree) → term_faults s (groups g) around t ≡ [] → AllByRecursion (IsFine s g.by) (written t)
-term_aggregates s g around (Tree.column name) h = tt
-term_aggregates s g around (Tree.number at m) h = tt
-term_aggregates s g around (Tree.decimal at n digits) h = tt
-term_aggregates s g around (Tree.text at m) h = tt
-term_aggregates s g around (Tree.flag at b) h = tt
-term_aggregates s g around (Tree.binary at operator left right) h =
+pub term_aggregates : (s : Scope) (g : Grouping) (around : ℕ) (t : TermTree) → term_faults s (groups g) around t ≡ [] → AllByRecursion (IsFine s g.by) (written t)
+term_aggregates s g around (TermTree.column name) h = tt
+term_aggregates s g around (TermTree.number at m) h = tt
+term_aggregates s g around (TermTree.decimal at n digits) h = tt
+term_aggregates s g around (TermTree.text at m) h = tt
+term_aggregates s g around (TermTree.flag at b) h = tt
+term_aggregates s g around (TermTree.binary at operator left right) h =
     let p = binary_parts s (groups g) around at operator left right h in
     all_both (IsFine s g.by) (written left) (written right) (term_aggregates s g around left p.0) (term_aggregates s g around right p.1)
-term_aggregates s g around (Tree.negate at e) h = term_aggregates s g around e (negate_parts s (groups g) around at e h).0
-term_aggregates s g around (Tree.not at e) h = term_aggregates s g around e (not_parts s (groups g) around at e h).0
-term_aggregates s g around (Tree.case at parts) h = term_aggregates s g at parts h
-term_aggregates s g around (Tree.when condition value rest) h =
+term_aggregates s g around (TermTree.negate at e) h = term_aggregates s g around e (negate_parts s (groups g) around at e h).0
+term_aggregates s g around (TermTree.not at e) h = term_aggregates s g around e (not_parts s (groups g) around at e h).0
+term_aggregates s g around (TermTree.case at parts) h = term_aggregates s g at parts h
+term_aggregates s g around (TermTree.when condition value rest) h =
     let p = when_parts s (groups g) around condition value rest h in
     all_both (IsFine s g.by) (written condition ++ written value) (written rest)
     (all_both (IsFine s g.by) (written condition) (written value) (term_aggregates s g around condition p.0) (term_aggregates s g around value p.1))
     (term_aggregates s g around rest p.2)
-term_aggregates s g around (Tree.count_rows at) h = (counted s g.by None refl refl, tt)
-term_aggregates s g around (Tree.aggregate at word e) h =
+term_aggregates s g around (TermTree.count_rows at) h = (counted s g.by None refl refl, tt)
+term_aggregates s g around (TermTree.aggregate at word e) h =
     let p = aggregate_parts s (groups g) around at word e h in
-    (aggregates s g at word e p.0 p.1 (term_known s (groups g) around (Tree.aggregate at word e) h), tt)
+    (aggregates s g at word e p.0 p.1 (term_known s (groups g) around (TermTree.aggregate at word e) h), tt)
 
 -- each aggregate of an item without a fault
 item_aggregates : (s : Scope) (g : Grouping) (item : ItemTree) → item_faults s (groups g) item ≡ [] → AllByRecursion (IsFine s g.by) (item_written item)

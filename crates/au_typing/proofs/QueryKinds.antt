@@ -14,7 +14,7 @@ use Rattle.au_parse.specs.Whole.{HasSource, WholeQuery, WholeSources}
 use Rattle.au_blocks.specs.declared.column.Column.{Column}
 use Rattle.au_typing.specs.Scopes.{fault_if, then_faults}
 use Rattle.au_typing.specs.Selects.{Typing, FromItem, alias_faults, clauses_faults, from_faults, distinct_if, setting_of, scope_of, is_join, Clauses}
-use Rattle.au_typing.specs.Queries.{Relation, IsWellTyped, tree_of, kinds_of as its_kinds, table_of, table_typing, table_kinds, columns_of, data_kinds, kinds_fit, set_columns, side_tree, sides_faults, set_typing, typing, from_items}
+use Rattle.au_typing.specs.Queries.{Relation, IsWellTyped, resolved_tree, resolved_kinds, table_place, table_typing, table_kinds, columns_if, data_kinds, kinds_fit, set_columns, side_tree, sides_faults, set_typing, typing, from_items}
 use Rattle.au_typing.specs.Laws.{TreeIsTyped}
 use Rattle.au_typing.specs.declared.fault.TypingFault.{TypingFault}
 use Rattle.au_typing.specs.declared.fault.TypingFault.TheVariants as fault
@@ -26,14 +26,14 @@ use Rattle.au_typing.proofs.SetColumns.{same_itself, set_data, side_kinds}
 
 -- a table that was found has its columns' kinds
 table_typed :
-    (tables : List Relation) (at : ℕ) (word : List ℕ) (o : Option ℕ) → table_of tables word ≡ o → (table_typing tables at o).faults ≡ [] →
+    (tables : List Relation) (at : ℕ) (word : List ℕ) (o : Option ℕ) → table_place tables word ≡ o → (table_typing tables at o).faults ≡ [] →
     IsTypedAs (table_kinds tables) (table_typing tables at o)
 table_typed tables at word None e h = cc
 table_typed tables at word (Some i) e h =
     let f = found (λ table. str_eq_ignore_ascii_case table.name word) tables i e in
     slice_get-map (λ table. data_kinds table.columns) tables i
     ∙ ap (option_map (λ table. data_kinds table.columns)) f.there
-    ∙ ap (λ o. Some (data_kinds (columns_of o))) (sym f.there)
+    ∙ ap (λ o. Some (data_kinds (columns_if o))) (sym f.there)
 
 -- a query of which each row is taken once
 once_kinds : (ts : List (List Kind)) (distinct : Bool) (q : Query) → kinds_of ts (distinct_if distinct q) ≡ kinds_of ts q
@@ -103,8 +103,8 @@ module _ (tables : List Relation) where
         FromTyped (table_kinds tables) (from_items tables sources)
     sources_typed Sources.no_sources w h = tt
     sources_typed (Sources.table at word alias others) w h =
-        let p = none_of (table_typing tables at (table_of tables word)).faults (flat_map (λ item. item.typing.faults) (from_items tables others)) h in
-        (table_typed tables at word (table_of tables word) refl p.0, sources_typed others w p.1)
+        let p = none_of (table_typing tables at (table_place tables word)).faults (flat_map (λ item. item.typing.faults) (from_items tables others)) h in
+        (table_typed tables at word (table_place tables word) refl p.0, sources_typed others w p.1)
     sources_typed (Sources.inner at query alias others) w h =
         let p = none_of (typing tables query).faults (flat_map (λ item. item.typing.faults) (from_items tables others)) h in
         (query_typed query w.0 p.0, sources_typed others w.1 p.1)
@@ -116,5 +116,5 @@ tree_is_typed tables statement w h = query_typed tables statement w h ∙ ap Som
 -- the same of a tree and kinds that are those of the statement
 pub answer_is_typed :
     (tables : List Relation) (statement : QueryTree) (q : Query) (ks : List Kind) → WholeQuery statement → IsWellTyped tables statement →
-    q ≡ tree_of tables statement → ks ≡ its_kinds tables statement → kinds_of (table_kinds tables) q ≡ Some (map data_kind ks)
+    q ≡ resolved_tree tables statement → ks ≡ resolved_kinds tables statement → kinds_of (table_kinds tables) q ≡ Some (map data_kind ks)
 answer_is_typed tables statement q ks w h e f = ap (kinds_of (table_kinds tables)) e ∙ tree_is_typed tables statement w h ∙ ap (λ js. Some (map data_kind js)) (sym f)

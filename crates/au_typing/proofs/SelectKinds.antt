@@ -9,12 +9,12 @@ use Rattle.au_expr.specs.Kinds.{kind_in, is_kind, kind_if}
 use Rattle.au_algebra.specs.Trees.{Tree as Query, Project}
 use Rattle.au_algebra.specs.Typing.{kinds_of, items_kinds, kinds_if}
 use Rattle.au_parse.specs.declared.Name.{Name}
-use Rattle.au_parse.specs.Tree.{Tree, ItemTree}
+use Rattle.au_parse.specs.Tree.{TermTree, ItemTree}
 use Rattle.au_parse.specs.Whole.{has_keys}
 use Rattle.au_typing.specs.Scopes.{Scope, name_faults}
-use Rattle.au_typing.specs.Terms.{Setting, Grouping, rows, groups, term_kind, term_faults, expression}
+use Rattle.au_typing.specs.Terms.{Setting, Grouping, rows, groups, term_kind, term_faults, resolved_expression}
 use Rattle.au_typing.specs.Items.{item_written, items_written, item_faults, items_faults, outputs_from, columns_from}
-use Rattle.au_typing.specs.Selects.{Clauses, FromItem, clause_faults, clauses_faults, from_faults, selected, having_written, clauses_written, arguments, grouping, body, outputs, distinct_if, setting_of, is_grouped, is_join, key_places, scope_of, select, product}
+use Rattle.au_typing.specs.Selects.{Clauses, FromItem, clause_faults, clauses_faults, from_faults, selected, having_written, clauses_written, arguments, grouping, body, outputs, distinct_if, setting_of, is_grouped, is_join, key_places, scope_of, resolved_select, from_product}
 use Rattle.au_typing.specs.Queries.{data_kinds}
 use Rattle.au_typing.proofs.Faults.{none_of, fitting, then_none}
 use Rattle.au_typing.proofs.Found.{all_both, known, StandsAt, stands_parts, stands_behind}
@@ -33,7 +33,7 @@ held false k h = absurd (true≢false (sym h))
 module _ (ts : List (List Kind)) (s : Scope) where
   -- WHERE and HAVING keep the kinds of rows
   selected_kinds :
-      (setting : Setting) (ks : List Kind) → Fits s setting ks → (n : ℕ) (c : Option (ℕ × Tree)) (q : Query) → clause_faults s setting c ≡ [] →
+      (setting : Setting) (ks : List Kind) → Fits s setting ks → (n : ℕ) (c : Option (ℕ × TermTree)) (q : Query) → clause_faults s setting c ≡ [] →
       StandsAt (written_kind s) ks n (having_written c) →
       kinds_of ts q ≡ Some ks → kinds_of ts (selected s setting n c q) ≡ Some ks
   selected_kinds setting ks columns n None q h w t = t
@@ -41,7 +41,7 @@ module _ (ts : List (List Kind)) (s : Scope) where
       let p = none_of (term_faults s setting c.0 c.1) (flag_misfit s c.0 c.1) h in
       let flag : is_kind Flag (term_kind s c.1) ≡ true =
       held (is_kind Flag (term_kind s c.1)) Flag (fitting c.0 (term_kind s c.1 ∷ []) (kind_if (is_kind Flag (term_kind s c.1)) Flag) p.1 (and_from _ true (term_known s setting c.0 c.1 p.0) refl)) in
-      ap (option_and_then (λ js. kinds_if (is_kind Flag (kind_in js (expression s setting n c.1))) js)) t
+      ap (option_and_then (λ js. kinds_if (is_kind Flag (kind_in js (resolved_expression s setting n c.1))) js)) t
       ∙ ap (λ b. kinds_if b ks) (ap (is_kind Flag) (term_is s setting ks columns n c.0 c.1 p.0 w) ∙ flag_data (term_kind s c.1) ∙ flag)
 
   -- items over a tree, each row perhaps once
@@ -60,7 +60,7 @@ module _ (ts : List (List Kind)) (s : Scope) where
       ∙ ap Some (sym (columns_kinds 1 (outputs_from s setting n items)))
 
 -- a condition without groups has no aggregates
-having_none : (s : Scope) (c : Option (ℕ × Tree)) → clause_faults s rows c ≡ [] → having_written c ≡ []
+having_none : (s : Scope) (c : Option (ℕ × TermTree)) → clause_faults s rows c ≡ [] → having_written c ≡ []
 having_none s None h = refl
 having_none s (Some c) h =
     written_none s c.0 c.1 (none_of (term_faults s rows c.0 c.1) (flag_misfit s c.0 c.1) h).0
@@ -81,7 +81,7 @@ items_none s (item ∷ items) h =
     λ i. a i ++ b i
 
 -- each aggregate of a HAVING without a fault
-having_aggregates : (s : Scope) (g : Grouping) (c : Option (ℕ × Tree)) → clause_faults s (groups g) c ≡ [] → AllByRecursion (IsFine s g.by) (having_written c)
+having_aggregates : (s : Scope) (g : Grouping) (c : Option (ℕ × TermTree)) → clause_faults s (groups g) c ≡ [] → AllByRecursion (IsFine s g.by) (having_written c)
 having_aggregates s g None h = tt
 having_aggregates s g (Some c) h =
     term_aggregates s g c.0 c.1 (none_of (term_faults s (groups g) c.0 c.1) (flag_misfit s c.0 c.1) h).0
@@ -154,7 +154,7 @@ module _ (ts : List (List Kind)) (s : Scope) (c : Clauses) (q : Query) (typed : 
 -- A SELECT without a fault over typed FROM items is typed with its columns' kinds.
 pub select_kinds :
     (ts : List (List Kind)) (c : Clauses) (from : List FromItem) → HasItem from → FromTyped ts from → c.grouped ≡ has_keys c.keys →
-    (select c from).faults ≡ [] → IsTypedAs ts (select c from)
+    (resolved_select c from).faults ≡ [] → IsTypedAs ts (resolved_select c from)
 select_kinds ts c from some p e h =
     let f = then_none (from_faults from) (clauses_faults (scope_of from) (setting_of (scope_of from) (is_join from) c) c) h in
-    setting_kinds ts (scope_of from) c (product from) (product_kinds ts from some p) (is_grouped c) (is_join from) e f.1
+    setting_kinds ts (scope_of from) c (from_product from) (product_kinds ts from some p) (is_grouped c) (is_join from) e f.1

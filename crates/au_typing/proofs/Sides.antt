@@ -6,8 +6,7 @@ use Rattle.std.proofs.lemmas.List.{length-map}
 use Rattle.au_blocks.specs.declared.column.Column.{Column}
 use Rattle.std.specs.Str.{str_eq_ignore_ascii_case}
 use Rattle.au_typing.specs.declared.schema.Schema.{Schema}
-use Rattle.au_typing.specs.Queries.{Relation, columns_of, relation, relations, table_of, table_typing}
-use Rattle.au_typing.specs.Results.{Refuses}
+use Rattle.au_typing.specs.Queries.{Relation, columns_if, relation, relations, table_place, table_typing, Refuses}
 use Rattle.au_typing.specs.Selects.{Typing}
 use Rattle.au_typing.specs.declared.fault.TypingFault.TheVariants as fault
 use Rattle.au_algebra.specs.Trees.{Table}
@@ -23,7 +22,7 @@ position-map f p xs =
     ap (λ n. cond (nat_lt n (length xs)) (Some n) None) (sym (place-map f p xs)) ∙ ap (λ l. cond (nat_lt (position_or_len p (map f xs)) l) (Some (position_or_len p (map f xs))) None) (sym (length-map xs f))
 
 -- the table of a name, among the tables as they are held
-pub table_is : (schemas : List Schema) (word : List ℕ) → position (λ s. str_eq_ignore_ascii_case s.name word) schemas ≡ table_of (relations schemas) word
+pub table_is : (schemas : List Schema) (word : List ℕ) → position (λ s. str_eq_ignore_ascii_case s.name word) schemas ≡ table_place (relations schemas) word
 table_is schemas word = position-map relation (λ table. str_eq_ignore_ascii_case table.name word) schemas
 
 -- what the table of this number is
@@ -34,16 +33,16 @@ the_table place columns = record { faults = []; tree = Table place; columns = co
 pub table_found :
     (schemas : List Schema) (word : List ℕ) (at place : ℕ) (s : Schema) → position (λ t. str_eq_ignore_ascii_case t.name word) schemas ≡ Some place →
     place < length schemas → s ≡ get_or schemas place s →
-    the_table place s.columns.items ≡ table_typing (relations schemas) at (table_of (relations schemas) word)
+    the_table place s.columns.items ≡ table_typing (relations schemas) at (table_place (relations schemas) word)
 table_found schemas word at place s is within there =
-    let number : Some place ≡ table_of (relations schemas) word = sym is ∙ table_is schemas word in
+    let number : Some place ≡ table_place (relations schemas) word = sym is ∙ table_is schemas word in
     let one : slice_get (relations schemas) place ≡ Some (relation s) =
     slice_get-map relation schemas place ∙ ap (option_map relation) (slice_get-get_or schemas place s within ∙ ap Some (sym there)) in
-    ap (λ (o : Option Relation). the_table place (columns_of o)) (sym one) ∙ ap (table_typing (relations schemas) at) number
+    ap (λ (o : Option Relation). the_table place (columns_if o)) (sym one) ∙ ap (table_typing (relations schemas) at) number
 
 pub table_missing :
     (schemas : List Schema) (word : List ℕ) (at : ℕ) → position (λ t. str_eq_ignore_ascii_case t.name word) schemas ≡ None →
-    Refuses (table_typing (relations schemas) at (table_of (relations schemas) word)).faults (fault.UnknownTable at)
+    Refuses (table_typing (relations schemas) at (table_place (relations schemas) word)).faults (fault.UnknownTable at)
 table_missing schemas word at is =
-    let number : None ≡ table_of (relations schemas) word = sym is ∙ table_is schemas word in
+    let number : None ≡ table_place (relations schemas) word = sym is ∙ table_is schemas word in
     subst (λ o. Refuses (table_typing (relations schemas) at o).faults (fault.UnknownTable at)) number (inr (0, omega arith, refl))

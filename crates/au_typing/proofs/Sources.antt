@@ -10,10 +10,10 @@ use Rattle.au_parse.specs.declared.Source.{Source}
 use Rattle.au_parse.specs.declared.Source.TheVariants as source
 use Rattle.au_parse.specs.declared.Statement.{Statement, Select}
 use Rattle.au_parse.proofs.SourceRows.{select_view}
-use Rattle.au_typing.specs.Queries.{Relation, from_items, table_of, table_typing, typing}
+use Rattle.au_typing.specs.Queries.{Relation, from_items, table_place, table_typing, typing, Refuses}
 use Rattle.au_typing.specs.Judged.{Judges, Shows, source_faults, source_item}
-use Rattle.au_typing.specs.Results.{Refuses, clauses_of, from_view, part_typing}
-use Rattle.au_typing.specs.Selects.{Clauses, FromItem, Typing, alias_faults, clauses_faults, from_faults, is_join, scope_of, select, setting_of}
+use Rattle.au_typing.specs.Results.{clauses_of, from_view, part_typing}
+use Rattle.au_typing.specs.Selects.{Clauses, FromItem, Typing, alias_faults, clauses_faults, from_faults, is_join, scope_of, resolved_select, setting_of}
 use Rattle.au_typing.specs.Scopes.{then_faults}
 use Rattle.au_typing.specs.declared.fault.TypingFault.{TypingFault}
 use Rattle.au_typing.specs.declared.select.FromPart.{FromPart}
@@ -51,9 +51,9 @@ faults_of tables (s ∷ list) = ap (λ faults. source_faults tables s ++ faults)
 
 -- a SELECT is that of its clauses and its FROM items
 pub select_is : (tables : List Relation) (part : Box SelectPart Global) (statement : Statement) → statement ≡ Select part
-    → select (clauses_of part.value) (map (source_item tables) part.value.sources.items) ≡ typing tables (statement_tree statement)
+    → resolved_select (clauses_of part.value) (map (source_item tables) part.value.sources.items) ≡ typing tables (statement_tree statement)
 select_is tables part statement is =
-    ap (select (clauses_of part.value)) (items_of tables part.value.sources.items) ∙ ap (typing tables) (sym (select_view part)) ∙ ap (λ s. typing tables (statement_tree s)) (sym is)
+    ap (resolved_select (clauses_of part.value)) (items_of tables part.value.sources.items) ∙ ap (typing tables) (sym (select_view part)) ∙ ap (λ s. typing tables (statement_tree s)) (sym is)
 
 -- the size of a SELECT
 pub select_size : (part : Box SelectPart Global) (statement : Statement) → statement ≡ Select part → query_size (statement_tree statement) ≡ 1 + sources_size (sources_of part.value.sources.items)
@@ -62,10 +62,10 @@ select_size part statement is = ap (λ s. query_size (statement_tree s)) is ∙ 
 -- the answer of a SELECT
 pub select_judged :
     (t : Typing) (tables : List Relation) (c : Clauses) (list : List Source) (from : List FromItem) (r : Result Part TypingFault) →
-    from ≡ map (source_item tables) list → select c (map (source_item tables) list) ≡ t →
-    IfOk r (λ p. part_typing p ≡ select c from) → IfErr r (Refuses (select c from).faults) → Judges t r
-select_judged t tables c list from (Ok p) items is ok err = ok ∙ ap (select c) items ∙ is
-select_judged t tables c list from (Err f) items is ok err = subst (λ s. Refuses s.faults f) (ap (select c) items ∙ is) err
+    from ≡ map (source_item tables) list → resolved_select c (map (source_item tables) list) ≡ t →
+    IfOk r (λ p. part_typing p ≡ resolved_select c from) → IfErr r (Refuses (resolved_select c from).faults) → Judges t r
+select_judged t tables c list from (Ok p) items is ok err = ok ∙ ap (resolved_select c) items ∙ is
+select_judged t tables c list from (Err f) items is ok err = subst (λ s. Refuses s.faults f) (ap (resolved_select c) items ∙ is) err
 
 -- a fault of the first stage
 then_left : (fs more : List TypingFault) (f : TypingFault) → Refuses fs f → Refuses (then_faults fs more) f
@@ -75,7 +75,7 @@ then_left (g ∷ fs) more f h = h
 
 -- a fault of a FROM item is one of the SELECT
 pub select_refuses :
-    (t : Typing) (tables : List Relation) (c : Clauses) (list : List Source) (f : TypingFault) → select c (map (source_item tables) list) ≡ t →
+    (t : Typing) (tables : List Relation) (c : Clauses) (list : List Source) (f : TypingFault) → resolved_select c (map (source_item tables) list) ≡ t →
     Refuses (flat_map (source_faults tables) list) f → Refuses t.faults f
 select_refuses t tables c list f is h =
     let from = map (source_item tables) list in
@@ -103,8 +103,8 @@ name_or (Some x) d = refl
 
 -- a table as a FROM item
 pub table_item : (tables : List Relation) (at : ℕ) (word name : List ℕ) (alias : Option (List ℕ)) (s : Source) → s ≡ source.Table at word alias → name ≡ unwrap_or alias word
-    → record { at = at; name = name; typing = table_typing tables at (table_of tables word) } ≡ source_item tables s
-table_item tables at word name alias s is named = ap (λ n. record { at = at; name = n; typing = table_typing tables at (table_of tables word) }) named ∙ ap (source_item tables) (sym is)
+    → record { at = at; name = name; typing = table_typing tables at (table_place tables word) } ≡ source_item tables s
+table_item tables at word name alias s is named = ap (λ n. record { at = at; name = n; typing = table_typing tables at (table_place tables word) }) named ∙ ap (source_item tables) (sym is)
 
 -- a fault of one source is one of all
 pub faults_within :

@@ -6,15 +6,16 @@ use Rattle.std.proofs.lemmas.List.{take_more, take-append-drop, take_all, length
 use Rattle.std.proofs.lemmas.List.Elements.{Contains-append_left, Contains-append_right}
 use Rattle.std.proofs.lemmas.Grind.{flat_map-append}
 use Rattle.au_expr.specs.Terms.{term}
-use Rattle.au_parse.specs.Tree.{Tree}
+use Rattle.au_parse.specs.Tree.{TermTree}
 use Rattle.au_typing.specs.declared.setting.Gathered.{Gathered}
 use Rattle.au_typing.specs.Scopes.{Scope, is_owner}
 use Rattle.au_typing.specs.Terms.{Setting, place_faults, column_term, term_faults}
 use Rattle.au_typing.specs.Items.{Output, if_owned, star_output, columns_from, column_at, star_faults}
-use Rattle.au_typing.specs.Results.{Puts, PutsValue, Refuses, Answer, Answers, output}
+use Rattle.au_typing.specs.Results.{Puts, PutsValue, Answer, Answers, output}
 use Rattle.au_typing.specs.declared.fault.TypingFault.{TypingFault}
 use Rattle.au_typing.specs.declared.scope.Field.{Field}
 use Rattle.au_typing.specs.declared.outputs.Outputs.{Outputs}
+use Rattle.au_typing.specs.Queries.{Refuses}
 use Rattle.au_expr.specs.declared.expr.Expr.{Expr}
 
 -- the places of a list and of another behind it
@@ -140,7 +141,7 @@ star_past g at q k fields f old mid within here is before =
     (subst (λ ps. Puts (map (star_output g) ps) old mid) (sym (stars_left_out q k fields f within here is)) before.0, ap (flat_map (λ (p : ℕ × Field). place_faults g at (Some p.0))) (stars_left_out q k fields f within here is) ∙ before.1)
 
 -- a fault of a term that is an item
-pub value_refuses : (s : Scope) (g : Setting) (t : Tree) (old new : Gathered) (before after : Outputs) (name : Result (Option (List ℕ)) TypingFault) (found : Answer) (r : Result (Unit {0}) TypingFault)
+pub value_refuses : (s : Scope) (g : Setting) (t : TermTree) (old new : Gathered) (before after : Outputs) (name : Result (Option (List ℕ)) TypingFault) (found : Answer) (r : Result (Unit {0}) TypingFault)
     → IfErr name (λ f. (setting : Setting) → Refuses (term_faults s setting 0 t) f) → Answers s g 0 t old new found → PutsValue before after name found r → IfErr r (Refuses (term_faults s g 0 t))
 value_refuses s g t old new before after (Ok name) (Ok x) (Ok done) named fx j = tt
 value_refuses s g t old new before after (Ok name) (Ok x) (Err f) named fx j = inl j

@@ -11,11 +11,11 @@ use Rattle.au_expr.specs.Terms.{Term, And, Compare, Or}
 use Rattle.au_expr.specs.Kinds.{kind_in, is_kind, kind_if, only_if}
 use Rattle.au_parse.specs.declared.AggWord.{AggWord}
 use Rattle.au_parse.specs.declared.Name.{Name}
-use Rattle.au_parse.specs.Tree.{Tree, Operator}
+use Rattle.au_parse.specs.Tree.{TermTree, Operator}
 use Rattle.au_typing.specs.Aggregates.{Written, written}
 use Rattle.au_typing.specs.Scales.{common, number_if, rescaled, sum_kind}
 use Rattle.au_typing.specs.Scopes.{Scope, place_of, field_of, kind_unless, field_kind, name_faults, found_faults, is_meant}
-use Rattle.au_typing.specs.Terms.{Setting, rows, term_kind, term_faults, place_faults, misfit, aggregate_faults, counts, is_extreme, column_term, expression, branches, operated, operator_kind, aggregate_kind, when_kind}
+use Rattle.au_typing.specs.Terms.{Setting, rows, term_kind, term_faults, place_faults, misfit, aggregate_faults, is_counting, is_extreme, column_term, resolved_expression, branches, operated, operator_kind, aggregate_kind, when_kind}
 use Rattle.au_typing.specs.declared.scope.Field.{Field}
 use Rattle.au_typing.specs.declared.fault.TypingFault.{TypingFault}
 use Rattle.au_typing.proofs.Faults.{none_of, then_none, fitting}
@@ -51,20 +51,20 @@ meant s name h =
     }
 
 -- what is wrong with a whole, where its parts are known
-abbrev binary_misfit : Scope → ℕ → Operator → Tree → Tree → List TypingFault
+abbrev binary_misfit : Scope → ℕ → Operator → TermTree → TermTree → List TypingFault
 binary_misfit s at operator left right = misfit at (term_kind s left ∷ term_kind s right ∷ []) (operator_kind operator (term_kind s left) (term_kind s right))
 
-abbrev number_misfit : Scope → ℕ → Tree → List TypingFault
+abbrev number_misfit : Scope → ℕ → TermTree → List TypingFault
 number_misfit s at e = misfit at (term_kind s e ∷ []) (number_if (term_kind s e))
 
-abbrev pub flag_misfit : Scope → ℕ → Tree → List TypingFault
+abbrev pub flag_misfit : Scope → ℕ → TermTree → List TypingFault
 flag_misfit s at e = misfit at (term_kind s e ∷ []) (kind_if (is_kind Flag (term_kind s e)) Flag)
 
-abbrev when_misfit : Scope → ℕ → Tree → Tree → Tree → List TypingFault
+abbrev when_misfit : Scope → ℕ → TermTree → TermTree → TermTree → List TypingFault
 when_misfit s around condition value rest =
     misfit around (term_kind s condition ∷ term_kind s value ∷ term_kind s rest ∷ []) (when_kind (term_kind s condition) (term_kind s value) (term_kind s rest))
 
-abbrev aggregate_misfit : Scope → ℕ → AggWord → Tree → List TypingFault
+abbrev aggregate_misfit : Scope → ℕ → AggWord → TermTree → List TypingFault
 aggregate_misfit s at word e = misfit at (term_kind s e ∷ []) (aggregate_kind word (term_kind s e))
 
 -- three lists are empty where they are together
@@ -75,18 +75,18 @@ none_of_three xs ys zs h =
 -- nothing is wrong with the parts of a term without a fault
 module _ (s : Scope) (setting : Setting) (around : ℕ) where
   pub binary_parts :
-      (at : ℕ) (operator : Operator) (left right : Tree) → term_faults s setting around (Tree.binary at operator left right) ≡ [] →
+      (at : ℕ) (operator : Operator) (left right : TermTree) → term_faults s setting around (TermTree.binary at operator left right) ≡ [] →
       (term_faults s setting around left ≡ []) × (term_faults s setting around right ≡ []) × (binary_misfit s at operator left right ≡ [])
   binary_parts at operator left right h = none_of_three (term_faults s setting around left) (term_faults s setting around right) (binary_misfit s at operator left right) h
 
-  pub negate_parts : (at : ℕ) (e : Tree) → term_faults s setting around (Tree.negate at e) ≡ [] → (term_faults s setting around e ≡ []) × (number_misfit s at e ≡ [])
+  pub negate_parts : (at : ℕ) (e : TermTree) → term_faults s setting around (TermTree.negate at e) ≡ [] → (term_faults s setting around e ≡ []) × (number_misfit s at e ≡ [])
   negate_parts at e h = none_of (term_faults s setting around e) (number_misfit s at e) h
 
-  pub not_parts : (at : ℕ) (e : Tree) → term_faults s setting around (Tree.not at e) ≡ [] → (term_faults s setting around e ≡ []) × (flag_misfit s at e ≡ [])
+  pub not_parts : (at : ℕ) (e : TermTree) → term_faults s setting around (TermTree.not at e) ≡ [] → (term_faults s setting around e ≡ []) × (flag_misfit s at e ≡ [])
   not_parts at e h = none_of (term_faults s setting around e) (flag_misfit s at e) h
 
   pub when_parts :
-      (condition value rest : Tree) → term_faults s setting around (Tree.when condition value rest) ≡ [] →
+      (condition value rest : TermTree) → term_faults s setting around (TermTree.when condition value rest) ≡ [] →
       (term_faults s setting around condition ≡ []) × (term_faults s setting around value ≡ []) × (term_faults s setting around rest ≡ []) × (when_misfit s around condition value rest ≡ [])
   when_parts condition value rest h =
       let p = none_of (term_faults s setting around condition ++ term_faults s setting around value ++ term_faults s setting around rest) (when_misfit s around condition value rest) h in
@@ -94,42 +94,42 @@ module _ (s : Scope) (setting : Setting) (around : ℕ) where
       (q.0, q.1, q.2, p.1)
 
   pub aggregate_parts :
-      (at : ℕ) (word : AggWord) (e : Tree) → term_faults s setting around (Tree.aggregate at word e) ≡ [] →
-      (aggregate_faults setting at (is_extreme word) (counts word e) ≡ []) × (term_faults s rows at e ≡ []) × (aggregate_misfit s at word e ≡ [])
-  aggregate_parts at word e h = none_of_three (aggregate_faults setting at (is_extreme word) (counts word e)) (term_faults s rows at e) (aggregate_misfit s at word e) h
+      (at : ℕ) (word : AggWord) (e : TermTree) → term_faults s setting around (TermTree.aggregate at word e) ≡ [] →
+      (aggregate_faults setting at (is_extreme word) (is_counting word e) ≡ []) × (term_faults s rows at e ≡ []) × (aggregate_misfit s at word e ≡ [])
+  aggregate_parts at word e h = none_of_three (aggregate_faults setting at (is_extreme word) (is_counting word e)) (term_faults s rows at e) (aggregate_misfit s at word e) h
 
-  column_parts : (name : Name) → term_faults s setting around (Tree.column name) ≡ [] → (name_faults s name ≡ []) × (place_faults setting name.at (place_of s name) ≡ [])
+  column_parts : (name : Name) → term_faults s setting around (TermTree.column name) ≡ [] → (name_faults s name ≡ []) × (place_faults setting name.at (place_of s name) ≡ [])
   column_parts name h = then_none (name_faults s name) (place_faults setting name.at (place_of s name)) h
 
 -- terms without a fault have a kind
-pub term_known : (s : Scope) (setting : Setting) (around : ℕ) (t : Tree) → term_faults s setting around t ≡ [] → IsKnown (term_kind s t)
-term_known s setting around (Tree.column name) h = ap is_some (meant s name (column_parts s setting around name h).0).kind
-term_known s setting around (Tree.number at m) h = refl
-term_known s setting around (Tree.decimal at m digits) h = refl
-term_known s setting around (Tree.text at w) h = refl
-term_known s setting around (Tree.flag at b) h = refl
-term_known s setting around (Tree.binary at operator left right) h =
+pub term_known : (s : Scope) (setting : Setting) (around : ℕ) (t : TermTree) → term_faults s setting around t ≡ [] → IsKnown (term_kind s t)
+term_known s setting around (TermTree.column name) h = ap is_some (meant s name (column_parts s setting around name h).0).kind
+term_known s setting around (TermTree.number at m) h = refl
+term_known s setting around (TermTree.decimal at m digits) h = refl
+term_known s setting around (TermTree.text at w) h = refl
+term_known s setting around (TermTree.flag at b) h = refl
+term_known s setting around (TermTree.binary at operator left right) h =
     let p = binary_parts s setting around at operator left right h in
     fitting at (term_kind s left ∷ term_kind s right ∷ []) (operator_kind operator (term_kind s left) (term_kind s right)) p.2
     (and_from _ _ (term_known s setting around left p.0) (and_from _ true (term_known s setting around right p.1) refl))
-term_known s setting around (Tree.negate at e) h =
+term_known s setting around (TermTree.negate at e) h =
     let p = negate_parts s setting around at e h in
     fitting at (term_kind s e ∷ []) (number_if (term_kind s e)) p.1 (and_from _ true (term_known s setting around e p.0) refl)
-term_known s setting around (Tree.not at e) h =
+term_known s setting around (TermTree.not at e) h =
     let p = not_parts s setting around at e h in
     fitting at (term_kind s e ∷ []) (kind_if (is_kind Flag (term_kind s e)) Flag) p.1 (and_from _ true (term_known s setting around e p.0) refl)
-term_known s setting around (Tree.case at parts) h = term_known s setting at parts h
-term_known s setting around (Tree.when condition value rest) h =
+term_known s setting around (TermTree.case at parts) h = term_known s setting at parts h
+term_known s setting around (TermTree.when condition value rest) h =
     let p = when_parts s setting around condition value rest h in
     fitting around (term_kind s condition ∷ term_kind s value ∷ term_kind s rest ∷ []) (when_kind (term_kind s condition) (term_kind s value) (term_kind s rest)) p.3
     (and_from _ _ (term_known s setting around condition p.0) (and_from _ _ (term_known s setting around value p.1) (and_from _ true (term_known s setting around rest p.2) refl)))
-term_known s setting around (Tree.count_rows at) h = refl
-term_known s setting around (Tree.aggregate at word e) h =
+term_known s setting around (TermTree.count_rows at) h = refl
+term_known s setting around (TermTree.aggregate at word e) h =
     let p = aggregate_parts s setting around at word e h in
     fitting at (term_kind s e ∷ []) (aggregate_kind word (term_kind s e)) p.2 (and_from _ true (term_known s rows at e p.1) refl)
 
 -- the kind of the values of an aggregate that is written
-abbrev pub kind_of_written : Scope → AggWord → Option Tree → Option Kind
+abbrev pub kind_of_written : Scope → AggWord → Option TermTree → Option Kind
 kind_of_written s word None = Some Int
 kind_of_written s word (Some e) = data_of (aggregate_kind word (term_kind s e))
 
@@ -193,108 +193,108 @@ module _ (s : Scope) (setting : Setting) (ks : List Kind) (columns : Fits s sett
 
   -- The values of terms have their kinds over a row in which the columns and the aggregates stand with theirs, and so
   -- do the parts of a CASE whose branches are brought to a kind of such values.
-  record IsTerm (n : ℕ) (t : Tree) : Type 0 where
-    is : kind_in ks (expression s setting n t) ≡ data_of (term_kind s t)
-    brought : (to : Kind) → data_of (term_kind s t) ≡ Some (data_kind to) → kind_in ks (branches s (Some to) t (expression s setting n t)) ≡ Some (data_kind to)
+  record IsTerm (n : ℕ) (t : TermTree) : Type 0 where
+    is : kind_in ks (resolved_expression s setting n t) ≡ data_of (term_kind s t)
+    brought : (to : Kind) → data_of (term_kind s t) ≡ Some (data_kind to) → kind_in ks (branches s (Some to) t (resolved_expression s setting n t)) ≡ Some (data_kind to)
 
   -- what is no WHEN part
-  abbrev IsBranch : Tree → Type 0
+  abbrev IsBranch : TermTree → Type 0
   IsBranch t = (to : Option Kind) (e : Term) → branches s to t e ≡ rescaled (term_kind s t) to e
 
-  plain : (n : ℕ) (t : Tree) → IsBranch t → kind_in ks (expression s setting n t) ≡ data_of (term_kind s t) → IsTerm n t
+  plain : (n : ℕ) (t : TermTree) → IsBranch t → kind_in ks (resolved_expression s setting n t) ≡ data_of (term_kind s t) → IsTerm n t
   plain n t branch e = record {
     is = e;
-    brought = λ to same. ap (kind_in ks) (branch (Some to) (expression s setting n t)) ∙ rescaled_kind ks (term_kind s t) to (expression s setting n t) (e ∙ same);
+    brought = λ to same. ap (kind_in ks) (branch (Some to) (resolved_expression s setting n t)) ∙ rescaled_kind ks (term_kind s t) to (resolved_expression s setting n t) (e ∙ same);
   }
 
   number_is : (k : Option Kind) (e : Term) → kind_in ks e ≡ data_of k → is_some (number_if k) ≡ true → kind_if (is_kind Int (kind_in ks e)) Int ≡ data_of (number_if k)
   number_is k e h known = let facts = itself_number k known in rw (h, facts.0, facts.1) refl
 
-  case_is : (n at : ℕ) (parts : Tree) → IsTerm n parts → IsKnown (term_kind s parts) → kind_in ks (expression s setting n (Tree.case at parts)) ≡ data_of (term_kind s parts)
+  case_is : (n at : ℕ) (parts : TermTree) → IsTerm n parts → IsKnown (term_kind s parts) → kind_in ks (resolved_expression s setting n (TermTree.case at parts)) ≡ data_of (term_kind s parts)
   case_is n at parts found known =
       let k = known_is (term_kind s parts) known in
-      ap (λ to. kind_in ks (branches s to parts (expression s setting n parts))) k ∙ found.brought (known_kind (term_kind s parts)) (ap data_of k) ∙ ap data_of (sym k)
+      ap (λ to. kind_in ks (branches s to parts (resolved_expression s setting n parts))) k ∙ found.brought (known_kind (term_kind s parts)) (ap data_of k) ∙ ap data_of (sym k)
 
-  when_is : (n : ℕ) (condition value rest : Tree) → IsTerm n condition → IsTerm (n + length (written condition)) value → IsTerm (n + length (written condition) + length (written value)) rest
-      → IsKnown (when_kind (term_kind s condition) (term_kind s value) (term_kind s rest)) → IsTerm n (Tree.when condition value rest)
+  when_is : (n : ℕ) (condition value rest : TermTree) → IsTerm n condition → IsTerm (n + length (written condition)) value → IsTerm (n + length (written condition) + length (written value)) rest
+      → IsKnown (when_kind (term_kind s condition) (term_kind s value) (term_kind s rest)) → IsTerm n (TermTree.when condition value rest)
   when_is n condition value rest c v r known = by_flag (is_kind Flag (term_kind s condition)) refl known
     where
-      by_common : (o : Option Kind) → common (term_kind s value) (term_kind s rest) ≡ o → is_kind Flag (term_kind s condition) ≡ true → IsKnown o → IsTerm n (Tree.when condition value rest)
+      by_common : (o : Option Kind) → common (term_kind s value) (term_kind s rest) ≡ o → is_kind Flag (term_kind s condition) ≡ true → IsKnown o → IsTerm n (TermTree.when condition value rest)
       by_common None e flag known = absurd (false≢true known)
       by_common (Some t) e flag known =
           let same = common_data (term_kind s value) (term_kind s rest) t e in
-          let test : is_kind Flag (kind_in ks (expression s setting n condition)) ≡ true = ap (is_kind Flag) c.is ∙ flag_data (term_kind s condition) ∙ flag in
+          let test : is_kind Flag (kind_in ks (resolved_expression s setting n condition)) ≡ true = ap (is_kind Flag) c.is ∙ flag_data (term_kind s condition) ∙ flag in
           record {
             is = rw (test, v.is, r.is, same.0, same.1, kind_itself (data_kind t), flag, e) refl;
             brought = λ to h.
-                let known_whole : term_kind s (Tree.when condition value rest) ≡ Some t = rw (flag, e) refl in
+                let known_whole : term_kind s (TermTree.when condition value rest) ≡ Some t = rw (flag, e) refl in
                 let data_same : Some (data_kind t) ≡ Some (data_kind to) = sym (ap data_of known_whole) ∙ h in
-                let first = rescaled_kind ks (term_kind s value) to (expression s setting (n + length (written condition)) value) (v.is ∙ same.0 ∙ data_same) in
+                let first = rescaled_kind ks (term_kind s value) to (resolved_expression s setting (n + length (written condition)) value) (v.is ∙ same.0 ∙ data_same) in
                 let second = r.brought to (same.1 ∙ data_same) in
                 rw (test, first, second, kind_itself (data_kind to)) refl;
           }
 
-      by_flag : (b : Bool) → is_kind Flag (term_kind s condition) ≡ b → IsKnown (only_if b (common (term_kind s value) (term_kind s rest))) → IsTerm n (Tree.when condition value rest)
+      by_flag : (b : Bool) → is_kind Flag (term_kind s condition) ≡ b → IsKnown (only_if b (common (term_kind s value) (term_kind s rest))) → IsTerm n (TermTree.when condition value rest)
       by_flag true e known = by_common (common (term_kind s value) (term_kind s rest)) refl e known
       by_flag false e known = absurd (false≢true known)
 
   term_found :
-      (n around : ℕ) (t : Tree) → term_faults s setting around t ≡ [] → StandsAt (written_kind s) ks n (written t) → IsTerm n t
-  term_found n around (Tree.column name) h w = let p = column_parts s setting around name h in plain n (Tree.column name) (λ to e. refl) (column_kind name p.0 p.1)
-  term_found n around (Tree.number at m) h w = plain n (Tree.number at m) (λ to e. refl) refl
-  term_found n around (Tree.decimal at m digits) h w = plain n (Tree.decimal at m digits) (λ to e. refl) refl
-  term_found n around (Tree.text at m) h w = plain n (Tree.text at m) (λ to e. refl) refl
-  term_found n around (Tree.flag at b) h w = plain n (Tree.flag at b) (λ to e. refl) refl
-  term_found n around (Tree.binary at operator left right) h w =
+      (n around : ℕ) (t : TermTree) → term_faults s setting around t ≡ [] → StandsAt (written_kind s) ks n (written t) → IsTerm n t
+  term_found n around (TermTree.column name) h w = let p = column_parts s setting around name h in plain n (TermTree.column name) (λ to e. refl) (column_kind name p.0 p.1)
+  term_found n around (TermTree.number at m) h w = plain n (TermTree.number at m) (λ to e. refl) refl
+  term_found n around (TermTree.decimal at m digits) h w = plain n (TermTree.decimal at m digits) (λ to e. refl) refl
+  term_found n around (TermTree.text at m) h w = plain n (TermTree.text at m) (λ to e. refl) refl
+  term_found n around (TermTree.flag at b) h w = plain n (TermTree.flag at b) (λ to e. refl) refl
+  term_found n around (TermTree.binary at operator left right) h w =
       let p = binary_parts s setting around at operator left right h in
       let u = stands_parts (written_kind s) ks n (written left) (written right) w in
-      let k = known_is (operator_kind operator (term_kind s left) (term_kind s right)) (term_known s setting around (Tree.binary at operator left right) h) in
-      plain n (Tree.binary at operator left right) (λ to e. refl)
-      (operated_kind ks (expression s setting n left) (expression s setting (n + length (written left)) right) (term_kind s left) (term_kind s right)
+      let k = known_is (operator_kind operator (term_kind s left) (term_kind s right)) (term_known s setting around (TermTree.binary at operator left right) h) in
+      plain n (TermTree.binary at operator left right) (λ to e. refl)
+      (operated_kind ks (resolved_expression s setting n left) (resolved_expression s setting (n + length (written left)) right) (term_kind s left) (term_kind s right)
       (term_found n around left p.0 u.0).is (term_found (n + length (written left)) around right p.1 u.1).is operator _ k ∙ ap data_of (sym k))
-  term_found n around (Tree.negate at e) h w =
-      plain n (Tree.negate at e) (λ to x. refl)
-      (number_is (term_kind s e) (expression s setting n e) (term_found n around e (negate_parts s setting around at e h).0 w).is (term_known s setting around (Tree.negate at e) h))
-  term_found n around (Tree.not at e) h w =
-      plain n (Tree.not at e) (λ to x. refl)
+  term_found n around (TermTree.negate at e) h w =
+      plain n (TermTree.negate at e) (λ to x. refl)
+      (number_is (term_kind s e) (resolved_expression s setting n e) (term_found n around e (negate_parts s setting around at e h).0 w).is (term_known s setting around (TermTree.negate at e) h))
+  term_found n around (TermTree.not at e) h w =
+      plain n (TermTree.not at e) (λ to x. refl)
       (ap (λ o. kind_if (is_kind Flag o) Flag) (term_found n around e (not_parts s setting around at e h).0 w).is ∙ flag_if (term_kind s e))
-  term_found n around (Tree.case at parts) h w = plain n (Tree.case at parts) (λ to e. refl) (case_is n at parts (term_found n at parts h w) (term_known s setting at parts h))
-  term_found n around (Tree.when condition value rest) h w =
+  term_found n around (TermTree.case at parts) h w = plain n (TermTree.case at parts) (λ to e. refl) (case_is n at parts (term_found n at parts h w) (term_known s setting at parts h))
+  term_found n around (TermTree.when condition value rest) h w =
       let p = when_parts s setting around condition value rest h in
       let u = stands_three (written_kind s) ks n (written condition) (written value) (written rest) w in
       when_is n condition value rest (term_found n around condition p.0 u.0) (term_found (n + length (written condition)) around value p.1 u.1)
-      (term_found (n + length (written condition) + length (written value)) around rest p.2 u.2) (term_known s setting around (Tree.when condition value rest) h)
-  term_found n around (Tree.count_rows at) h w = plain n (Tree.count_rows at) (λ to e. refl) w.0
-  term_found n around (Tree.aggregate at word e) h w = plain n (Tree.aggregate at word e) (λ to x. refl) w.0
+      (term_found (n + length (written condition) + length (written value)) around rest p.2 u.2) (term_known s setting around (TermTree.when condition value rest) h)
+  term_found n around (TermTree.count_rows at) h w = plain n (TermTree.count_rows at) (λ to e. refl) w.0
+  term_found n around (TermTree.aggregate at word e) h w = plain n (TermTree.aggregate at word e) (λ to x. refl) w.0
 
   pub term_is :
-      (n around : ℕ) (t : Tree) → term_faults s setting around t ≡ [] → StandsAt (written_kind s) ks n (written t) →
-      kind_in ks (expression s setting n t) ≡ data_of (term_kind s t)
+      (n around : ℕ) (t : TermTree) → term_faults s setting around t ≡ [] → StandsAt (written_kind s) ks n (written t) →
+      kind_in ks (resolved_expression s setting n t) ≡ data_of (term_kind s t)
   term_is n around t h w = (term_found n around t h w).is
 
 -- a term without groups has no aggregates
-pub written_none : (s : Scope) (around : ℕ) (t : Tree) → term_faults s rows around t ≡ [] → written t ≡ []
-written_none s around (Tree.column name) h = refl
-written_none s around (Tree.number at m) h = refl
-written_none s around (Tree.decimal at m digits) h = refl
-written_none s around (Tree.text at m) h = refl
-written_none s around (Tree.flag at b) h = refl
-written_none s around (Tree.binary at operator left right) h =
+pub written_none : (s : Scope) (around : ℕ) (t : TermTree) → term_faults s rows around t ≡ [] → written t ≡ []
+written_none s around (TermTree.column name) h = refl
+written_none s around (TermTree.number at m) h = refl
+written_none s around (TermTree.decimal at m digits) h = refl
+written_none s around (TermTree.text at m) h = refl
+written_none s around (TermTree.flag at b) h = refl
+written_none s around (TermTree.binary at operator left right) h =
     let p = binary_parts s rows around at operator left right h in
     let a = written_none s around left p.0 in
     let b = written_none s around right p.1 in
     λ i. a i ++ b i
-written_none s around (Tree.negate at e) h = written_none s around e (negate_parts s rows around at e h).0
-written_none s around (Tree.not at e) h = written_none s around e (not_parts s rows around at e h).0
-written_none s around (Tree.case at parts) h = written_none s at parts h
-written_none s around (Tree.when condition value rest) h =
+written_none s around (TermTree.negate at e) h = written_none s around e (negate_parts s rows around at e h).0
+written_none s around (TermTree.not at e) h = written_none s around e (not_parts s rows around at e h).0
+written_none s around (TermTree.case at parts) h = written_none s at parts h
+written_none s around (TermTree.when condition value rest) h =
     let p = when_parts s rows around condition value rest h in
     let a = written_none s around condition p.0 in
     let b = written_none s around value p.1 in
     let c = written_none s around rest p.2 in
     λ i. a i ++ b i ++ c i
-written_none s around (Tree.count_rows at) h = cc
-written_none s around (Tree.aggregate at word e) h = cc
+written_none s around (TermTree.count_rows at) h = cc
+written_none s around (TermTree.aggregate at word e) h = cc
 
 -- the kinds of the values of a scope's columns
 abbrev pub field_kinds : Scope → List Kind
@@ -305,6 +305,6 @@ pub rows_fit : (s : Scope) → Fits s rows (field_kinds s)
 rows_fit s at i f there h = slice_get-map (λ g. data_kind g.kind) s.fields i ∙ ap (option_map (λ g. data_kind g.kind)) there
 
 -- terms have their kinds over the rows of the FROM items
-pub row_term_is : (s : Scope) (n around : ℕ) (t : Tree) → term_faults s rows around t ≡ [] → kind_in (field_kinds s) (expression s rows n t) ≡ data_of (term_kind s t)
+pub row_term_is : (s : Scope) (n around : ℕ) (t : TermTree) → term_faults s rows around t ≡ [] → kind_in (field_kinds s) (resolved_expression s rows n t) ≡ data_of (term_kind s t)
 row_term_is s n around t h =
     term_is s rows (field_kinds s) (rows_fit s) n around t h (subst (StandsAt (written_kind s) (field_kinds s) n) (sym (written_none s around t h)) tt)

@@ -5,10 +5,10 @@ use Rattle.std.specs.List.{enumerate_from}
 use Rattle.au_value.specs.declared.kinds.Kind.{Kind}
 use Rattle.au_value.specs.declared.kinds.Kind.TheVariants.{Int}
 use Rattle.au_expr.specs.Terms.{Term}
-use Rattle.au_parse.specs.Tree.{Tree, ItemTree}
+use Rattle.au_parse.specs.Tree.{TermTree, ItemTree}
 use Rattle.au_blocks.specs.declared.column.Column.{Column}
 use Rattle.au_typing.specs.Scopes.{Scope, is_owner, knows_owner, field_of}
-use Rattle.au_typing.specs.Terms.{Setting, term_kind, term_faults, place_faults, expression, column_term}
+use Rattle.au_typing.specs.Terms.{Setting, term_kind, term_faults, place_faults, resolved_expression, column_term}
 use Rattle.au_typing.specs.Aggregates.{Written, written}
 use Rattle.au_typing.specs.declared.scope.Field.{Field}
 use Rattle.au_typing.specs.declared.fault.TypingFault.{TypingFault}
@@ -31,11 +31,11 @@ abbrev pub star_output : Setting → ℕ × Field → Output
 star_output setting f = record { term = column_term setting (Some f.0); name = Some f.1.name; kind = Some f.1.kind }
 
 -- the name of a term: the name of a column as its item has it
-abbrev pub own_name : Scope → Tree → Option (List ℕ)
-own_name scope (Tree.column name) = option_map (λ f. f.name) (field_of scope name)
+abbrev pub own_name : Scope → TermTree → Option (List ℕ)
+own_name scope (TermTree.column name) = option_map (λ f. f.name) (field_of scope name)
 own_name scope _ = None
 
-abbrev pub value_name : Scope → Tree → Option (List ℕ) → Option (List ℕ)
+abbrev pub value_name : Scope → TermTree → Option (List ℕ) → Option (List ℕ)
 value_name scope e None = own_name scope e
 value_name scope e (Some alias) = Some alias
 
@@ -51,7 +51,7 @@ items_written items = flat_map item_written items
 abbrev pub item_outputs : Scope → Setting → ℕ → ItemTree → List Output
 item_outputs scope setting n (ItemTree.star at) = map (star_output setting) (starred scope None)
 item_outputs scope setting n (ItemTree.star_of at qualifier) = map (star_output setting) (starred scope (Some qualifier))
-item_outputs scope setting n (ItemTree.value e alias) = record { term = expression scope setting n e; name = value_name scope e alias; kind = term_kind scope e } ∷ []
+item_outputs scope setting n (ItemTree.value e alias) = record { term = resolved_expression scope setting n e; name = value_name scope e alias; kind = term_kind scope e } ∷ []
 
 abbrev pub outputs_from : Scope → Setting → ℕ → List ItemTree → List Output
 outputs_from scope setting n [] = []

@@ -5,8 +5,8 @@ use Rattle.au_algebra.specs.Trees.{tree}
 use Rattle.au_parse.specs.Views.{statement_tree}
 use Rattle.au_parse.specs.declared.Source.{Source}
 use Rattle.au_parse.specs.declared.Source.TheVariants as source
-use Rattle.au_typing.specs.Queries.{Relation, set_columns, side_tree, sides_faults, table_of, table_typing, typing}
-use Rattle.au_typing.specs.Results.{Refuses, from_view, part_typing}
+use Rattle.au_typing.specs.Queries.{Relation, set_columns, side_tree, sides_faults, table_place, table_typing, typing, Refuses}
+use Rattle.au_typing.specs.Results.{from_view, part_typing}
 use Rattle.au_blocks.specs.declared.column.Column.{Column}
 use Rattle.au_typing.specs.Scales.{scale}
 use Rattle.au_typing.specs.Scopes.{then_faults}
@@ -42,7 +42,7 @@ Brings at left right (Err f) = Refuses (sides_faults at left.columns right.colum
 
 -- the FROM item that is written, and what is wrong with it
 abbrev pub source_item : List Relation → Source → FromItem
-source_item tables (source.Table at word alias) = record { at = at; name = unwrap_or alias word; typing = table_typing tables at (table_of tables word) }
+source_item tables (source.Table at word alias) = record { at = at; name = unwrap_or alias word; typing = table_typing tables at (table_place tables word) }
 source_item tables (source.Inner' at p q name) = record { at = at; name = name; typing = typing tables (statement_tree q) }
 
 abbrev pub source_faults : List Relation → Source → List TypingFault

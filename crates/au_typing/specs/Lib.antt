@@ -1,3 +1,4 @@
+-- The definitions, in the order in which they are to be read.
 pub mod Scales
 pub mod Scopes
 pub mod Aggregates
@@ -5,8 +6,9 @@ pub mod Terms
 pub mod Items
 pub mod Selects
 pub mod Queries
+pub mod Laws
+-- What the contracts of inner calls and the proofs speak of.
 pub mod Shapes
 pub mod Results
-pub mod Laws
 pub mod Judged
 pub mod Joined

@@ -1,16 +1,16 @@
 -- What the calls answer: what they look for where nothing is wrong with the text, or else one of its faults.
 -- In this order: answers as such, what the calls hold, terms, output columns, and the clauses of a SELECT.
-use Rattle.std.specs.Prelude.{ℕ, ◌+◌, ◌≡◌, ◌⊎◌, List, [], ◌∷◌, ◌++◌, length, map, flat_map, Option, Bool, Some, None, option_map, if◌then◌else◌, Result, Ok, Err, Contains}
+use Rattle.std.specs.Prelude.{ℕ, ◌+◌, ◌≡◌, ◌⊎◌, List, [], ◌∷◌, ◌++◌, length, map, flat_map, Option, Bool, Some, None, option_map, if◌then◌else◌, Result, Ok, Err}
 use Rattle.au_value.specs.declared.kinds.Kind.{Kind}
 use Rattle.au_expr.specs.declared.expr.Expr.{Expr}
 use Rattle.au_expr.specs.Terms.{Term, term, Column, Case}
 use Rattle.au_parse.specs.declared.AggWord.{AggWord}
 use Rattle.au_parse.specs.declared.SelectPart.{SelectPart}
 use Rattle.au_parse.specs.Views.{condition_view, item_view}
-use Rattle.au_parse.specs.Tree.{Tree, ItemTree, Operator}
+use Rattle.au_parse.specs.Tree.{TermTree, ItemTree, Operator}
 use Rattle.au_typing.specs.Shapes.{signed_kind, signed_term, argument_given}
 use Rattle.au_typing.specs.declared.shape.Sign.{Sign}
-use Rattle.au_typing.specs.Aggregates.{Written, written, taken, taken_from}
+use Rattle.au_typing.specs.Aggregates.{Written, written, column_agg, taken_from}
 use Rattle.au_typing.specs.Items.{Output, columns_from, items_faults, items_written, outputs_from, star_output, starred}
 use Rattle.au_typing.specs.Scales.{rescaled}
 use Rattle.au_typing.specs.Scopes.{Scope, name_faults}
@@ -18,24 +18,21 @@ use Rattle.au_typing.specs.declared.outputs.Outputs.{Outputs}
 use Rattle.au_typing.specs.declared.select.FromPart.{FromPart}
 use Rattle.au_typing.specs.declared.select.Part.{Part}
 use Rattle.au_typing.specs.declared.select.ClauseTerms.{ClauseTerms}
-use Rattle.au_typing.specs.Selects.{Clauses, FromItem, Typing, clause_faults, clauses_faults, clauses_written, distinct_if, having_written, is_join, outputs, product, select, setting_of}
+use Rattle.au_typing.specs.Selects.{Clauses, FromItem, Typing, clause_faults, clauses_faults, clauses_written, distinct_if, having_written, is_join, outputs, from_product, resolved_select, setting_of}
 use Rattle.au_algebra.specs.Trees.{Tree as Query, tree, Select, Project, Product, Group, Total}
 use Rattle.au_algebra.specs.declared.query.Agg.{Agg}
 use Rattle.au_value.specs.declared.kinds.Kind.TheVariants.{Flag}
 use Rattle.au_expr.specs.Kinds.{is_kind, kind_if}
-use Rattle.au_typing.specs.Terms.{Setting, rows, groups, term_faults, term_kind, expression, argument_of, first_column, operator_kind, operated, branches, when_kind, aggregate_kind}
+use Rattle.au_typing.specs.Terms.{Setting, rows, groups, term_faults, term_kind, resolved_expression, argument_of, first_column, operator_kind, operated, branches, when_kind, aggregate_kind}
 use Rattle.au_typing.specs.declared.fault.TypingFault.{TypingFault}
 use Rattle.au_typing.specs.declared.fault.TypingFault.TheVariants as fault
 use Rattle.au_typing.specs.declared.scope.Scope.{Scope as HeldScope}
 use Rattle.au_typing.specs.declared.setting.Setting.{Setting as HeldSetting}
 use Rattle.au_typing.specs.declared.setting.Setting.TheVariants as held
 use Rattle.au_typing.specs.declared.setting.Gathered.{Gathered}
+use Rattle.au_typing.specs.Queries.{Refuses}
 
 -- ---- answers
-
--- one of these faults, or want of memory
-abbrev pub Refuses : List TypingFault → TypingFault → Type 0
-Refuses faults f = (f ≡ fault.NoMemory) ⊎ Contains faults f
 
 -- Kinds that don't fit, at this place, or want of memory.
 abbrev pub Misfits : ℕ → Option Kind → TypingFault → Type 0
@@ -78,7 +75,7 @@ pub record Gathers (scope : Scope) (n : ℕ) (ws : List Written) (old new : Gath
   pub aggs : new.aggs.items ≡ old.aggs.items ++ taken_from n ws
 
 -- the aggregates of this tree
-abbrev pub GathersAll : Scope → Setting → Tree → Gathered → Gathered → Type 0
+abbrev pub GathersAll : Scope → Setting → TermTree → Gathered → Gathered → Type 0
 GathersAll scope setting tree old new = Gathers scope (next_column setting old) (written tree) old new
 
 -- ---- terms
@@ -88,13 +85,13 @@ abbrev pub Answer : Type 0
 Answer = Result (Expr × Kind) TypingFault
 
 -- Nothing is wrong with the term, and this is its expression and its kind.
-pub record TermFound (scope : Scope) (setting : Setting) (around n : ℕ) (tree : Tree) (e : Term) (k : Kind) : Type 0 where
+pub record TermFound (scope : Scope) (setting : Setting) (around n : ℕ) (tree : TermTree) (e : Term) (k : Kind) : Type 0 where
   pub sound : term_faults scope setting around tree ≡ []
   pub kind : term_kind scope tree ≡ Some k
-  pub term : expression scope setting n tree ≡ e
+  pub term : resolved_expression scope setting n tree ≡ e
 
 -- The term is found and its aggregates are gathered, or one of its faults is named.
-abbrev pub Answers : Scope → Setting → ℕ → Tree → Gathered → Gathered → Answer → Type 0
+abbrev pub Answers : Scope → Setting → ℕ → TermTree → Gathered → Gathered → Answer → Type 0
 Answers scope setting around tree old new answer =
     IsFoundOr (term_faults scope setting around tree) (λ r. TermFound scope setting around (next_column setting old) tree (term r.0) r.1 × GathersAll scope setting tree old new) answer
 
@@ -113,13 +110,13 @@ abbrev pub Signs : Sign → ℕ → Answer → Answer → Type 0
 Signs s at operand answer = OfOne (λ x. IsOfKind at (signed_kind s (Some x.1)) (λ e. signed_term s (term x.0) ≡ e)) operand answer
 
 -- Nothing is wrong with the parts of a CASE, and this is their expression with each branch brought to a kind, and their own kind.
-pub record BranchesFound (scope : Scope) (setting : Setting) (around n : ℕ) (to : Option Kind) (tree : Tree) (e : Term) (k : Kind) : Type 0 where
+pub record BranchesFound (scope : Scope) (setting : Setting) (around n : ℕ) (to : Option Kind) (tree : TermTree) (e : Term) (k : Kind) : Type 0 where
   pub sound : term_faults scope setting around tree ≡ []
   pub kind : term_kind scope tree ≡ Some k
-  pub term : branches scope to tree (expression scope setting n tree) ≡ e
+  pub term : branches scope to tree (resolved_expression scope setting n tree) ≡ e
 
 -- The parts of a CASE are found and their aggregates are gathered, or one of their faults is named.
-abbrev pub CaseAnswers : Scope → Setting → ℕ → Option Kind → Tree → Gathered → Gathered → Answer → Type 0
+abbrev pub CaseAnswers : Scope → Setting → ℕ → Option Kind → TermTree → Gathered → Gathered → Answer → Type 0
 CaseAnswers scope setting around to tree old new answer =
     IsFoundOr (term_faults scope setting around tree) (λ r. BranchesFound scope setting around (next_column setting old) to tree (term r.0) r.1 × GathersAll scope setting tree old new) answer
 
@@ -141,7 +138,7 @@ Chooses at to condition value rest answer =
 pub record TakesOne (setting : Setting) (word : AggWord) (old new : Gathered) (argument e : Term) : Type 0 where
   pub column : Column (next_column setting old) ≡ e
   pub arguments : map term new.arguments.items ≡ map term old.arguments.items ++ argument_given word argument ∷ []
-  pub aggs : new.aggs.items ≡ old.aggs.items ++ taken word (next_column setting old) ∷ []
+  pub aggs : new.aggs.items ≡ old.aggs.items ++ column_agg word (next_column setting old) ∷ []
 
 -- The answer of an argument is made that of its aggregate.
 abbrev pub Takes : Setting → AggWord → ℕ → Gathered → Gathered → Answer → Answer → Type 0
@@ -202,18 +199,18 @@ IsFlagOf at x (Err f) = (f ≡ fault.KindMismatch at) × (kind_if (is_kind Flag 
 abbrev pub IsFlag : ℕ → Answer → Result (Option Expr) TypingFault → Type 0
 IsFlag at value answer = OfOne (IsFlagOf at) value answer
 
-abbrev pub clause_term : Scope → Setting → ℕ → Option (ℕ × Tree) → Option Term
-clause_term scope setting n clause = option_map (λ c. expression scope setting n c.1) clause
+abbrev pub clause_term : Scope → Setting → ℕ → Option (ℕ × TermTree) → Option Term
+clause_term scope setting n clause = option_map (λ c. resolved_expression scope setting n c.1) clause
 
 -- The condition is found and its aggregates are gathered, or one of its faults is named.
-abbrev pub ClauseAnswers : Scope → Setting → Option (ℕ × Tree) → Gathered → Gathered → Result (Option Expr) TypingFault → Type 0
+abbrev pub ClauseAnswers : Scope → Setting → Option (ℕ × TermTree) → Gathered → Gathered → Result (Option Expr) TypingFault → Type 0
 ClauseAnswers scope setting clause old new answer =
     IsFoundOr (clause_faults scope setting clause)
     (λ o. (clause_faults scope setting clause ≡ []) × (clause_term scope setting (next_column setting old) clause ≡ option_map term o) × Gathers scope (next_column setting old) (having_written clause) old new)
     answer
 
 -- The expression of WHERE is found, or one of its faults is named.
-abbrev pub FilterAnswers : Scope → Option (ℕ × Tree) → Result (Option Expr) TypingFault → Type 0
+abbrev pub FilterAnswers : Scope → Option (ℕ × TermTree) → Result (Option Expr) TypingFault → Type 0
 FilterAnswers scope clause answer =
     IsFoundOr (clause_faults scope rows clause) (λ o. (clause_faults scope rows clause ≡ []) × (clause_term scope rows 0 clause ≡ option_map term o)) answer
 
@@ -283,4 +280,4 @@ held_typing distinct joins setting terms q = record {
 
 -- What the terms of a SELECT over FROM items make is what it is, or one of its faults is named.
 abbrev pub SelectAnswer : Clauses → List FromItem → HeldClauses → Type 0
-SelectAnswer c from answer = IsFoundOr ((select c from).faults) (λ r. held_typing c.distinct (is_join from) r.0 r.1 (product from) ≡ select c from) answer
+SelectAnswer c from answer = IsFoundOr ((resolved_select c from).faults) (λ r. held_typing c.distinct (is_join from) r.0 r.1 (from_product from) ≡ resolved_select c from) answer

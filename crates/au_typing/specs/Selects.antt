@@ -6,11 +6,11 @@ use Rattle.std.specs.Str.{str_eq_ignore_ascii_case}
 use Rattle.au_expr.specs.Terms.{Term, Column as column}
 use Rattle.au_algebra.specs.Trees.{Tree as Query, Table, Select, Project, Product, Distinct, Group, Total}
 use Rattle.au_parse.specs.declared.Name.{Name}
-use Rattle.au_parse.specs.Tree.{Tree, ItemTree}
+use Rattle.au_parse.specs.Tree.{TermTree, ItemTree}
 use Rattle.au_blocks.specs.declared.column.Column.{Column}
 use Rattle.au_typing.specs.Scopes.{Scope, fault_if, name_faults, place_of, then_faults}
 use Rattle.au_typing.specs.Aggregates.{Written, written, taken_from}
-use Rattle.au_typing.specs.Terms.{Setting, Grouping, rows, groups, condition_faults, expression, argument_of, first_column}
+use Rattle.au_typing.specs.Terms.{Setting, Grouping, rows, groups, condition_faults, resolved_expression, argument_of, first_column}
 use Rattle.au_typing.specs.Items.{Output, items_faults, items_written, outputs_from, columns_from}
 use Rattle.au_typing.specs.declared.scope.Field.{Field}
 use Rattle.au_typing.specs.declared.fault.TypingFault.{TypingFault}
@@ -49,13 +49,13 @@ abbrev pub from_faults : List FromItem → List TypingFault
 from_faults from = flat_map (λ item. item.typing.faults) from ++ alias_faults [] from
 
 -- FROM items joined from the left
-abbrev pub joined : Query → List FromItem → Query
-joined q [] = q
-joined q (item ∷ others) = joined (Product q item.typing.tree) others
+abbrev pub from_joined : Query → List FromItem → Query
+from_joined q [] = q
+from_joined q (item ∷ others) = from_joined (Product q item.typing.tree) others
 
-abbrev pub product : List FromItem → Query
-product [] = Table 0
-product (item ∷ others) = joined item.typing.tree others
+abbrev pub from_product : List FromItem → Query
+from_product [] = Table 0
+from_product (item ∷ others) = from_joined item.typing.tree others
 
 abbrev pub is_join : List FromItem → Bool
 is_join from = nat_lt 1 (length from) || list_any (λ item. item.typing.joins) from
@@ -64,10 +64,10 @@ is_join from = nat_lt 1 (length from) || list_any (λ item. item.typing.joins) f
 pub record Clauses : Type 0 where
   pub distinct : Bool
   pub items : List ItemTree
-  pub condition : Option (ℕ × Tree)
+  pub condition : Option (ℕ × TermTree)
   pub keys : List Name
   pub grouped : Bool
-  pub having : Option (ℕ × Tree)
+  pub having : Option (ℕ × TermTree)
 
 -- A SELECT is grouped by GROUP BY, HAVING or an aggregate in its items.
 abbrev pub is_grouped : Clauses → Bool
@@ -80,7 +80,7 @@ abbrev pub setting_of : Scope → Bool → Clauses → Setting
 setting_of scope joins c = if is_grouped c then groups (record { keys = key_places scope c.keys; by = c.grouped; joins = joins }) else rows
 
 -- what is wrong with a WHERE or HAVING, if there is one
-abbrev pub clause_faults : Scope → Setting → Option (ℕ × Tree) → List TypingFault
+abbrev pub clause_faults : Scope → Setting → Option (ℕ × TermTree) → List TypingFault
 clause_faults scope setting None = []
 clause_faults scope setting (Some c) = condition_faults scope setting c.0 c.1
 
@@ -90,11 +90,11 @@ clauses_faults scope setting c =
     clause_faults scope rows c.condition ++ flat_map (name_faults scope) c.keys ++ items_faults scope setting c.items ++ clause_faults scope setting c.having
 
 -- a tree under a WHERE or HAVING, if there is one; the number is the column of its first aggregate
-abbrev pub selected : Scope → Setting → ℕ → Option (ℕ × Tree) → Query → Query
+abbrev pub selected : Scope → Setting → ℕ → Option (ℕ × TermTree) → Query → Query
 selected scope setting n None q = q
-selected scope setting n (Some c) q = Select (expression scope setting n c.1) q
+selected scope setting n (Some c) q = Select (resolved_expression scope setting n c.1) q
 
-abbrev pub having_written : Option (ℕ × Tree) → List Written
+abbrev pub having_written : Option (ℕ × TermTree) → List Written
 having_written None = []
 having_written (Some c) = written c.1
 
@@ -126,11 +126,11 @@ distinct_if distinct q = if distinct then Distinct q else q
 abbrev pub select_under : Scope → Setting → Clauses → List FromItem → Typing
 select_under scope setting c from = record {
   faults = then_faults (from_faults from) (clauses_faults scope setting c);
-  tree = distinct_if c.distinct (Project (map (λ o. o.term) (outputs scope setting c)) (body scope setting c (product from)));
+  tree = distinct_if c.distinct (Project (map (λ o. o.term) (outputs scope setting c)) (body scope setting c (from_product from)));
   columns = columns_from 1 (outputs scope setting c);
   joins = is_join from;
 }
 
 -- a SELECT of these clauses over these FROM items
-abbrev pub select : Clauses → List FromItem → Typing
-select c from = let scope = scope_of from in select_under scope (setting_of scope (is_join from) c) c from
+abbrev pub resolved_select : Clauses → List FromItem → Typing
+resolved_select c from = let scope = scope_of from in select_under scope (setting_of scope (is_join from) c) c from

@@ -9,7 +9,7 @@ use Rattle.au_expr.specs.Terms.{Term, Column, Literal, Add, Subtract, Multiply, 
 use Rattle.au_expr.specs.Kinds.{is_kind, kind_if, only_if}
 use Rattle.au_parse.specs.declared.AggWord.{AggWord}
 use Rattle.au_parse.specs.declared.AggWord.TheVariants.{Count, Sum, Min, Max}
-use Rattle.au_parse.specs.Tree.{Tree, Operator}
+use Rattle.au_parse.specs.Tree.{TermTree, Operator}
 use Rattle.au_typing.specs.Aggregates.{Written, written}
 use Rattle.au_typing.specs.Scales.{common, number_if, product_kind, rescaled, sum_kind}
 use Rattle.au_typing.specs.Scopes.{Scope, fault_if, place_of, field_kind, name_faults, then_faults}
@@ -37,19 +37,19 @@ abbrev pub when_kind : Option Kind → Option Kind → Option Kind → Option Ki
 when_kind i j k = only_if (is_kind Flag i) (common j k)
 
 -- the kind of a term, where its names are known and its parts fit
-abbrev pub term_kind : Scope → Tree → Option Kind
-term_kind scope (Tree.column name) = field_kind scope name
-term_kind scope (Tree.number at n) = Some Int
-term_kind scope (Tree.decimal at n digits) = Some (Dec digits)
-term_kind scope (Tree.text at w) = Some Text
-term_kind scope (Tree.flag at b) = Some Flag
-term_kind scope (Tree.binary at operator left right) = operator_kind operator (term_kind scope left) (term_kind scope right)
-term_kind scope (Tree.negate at e) = number_if (term_kind scope e)
-term_kind scope (Tree.not at e) = kind_if (is_kind Flag (term_kind scope e)) Flag
-term_kind scope (Tree.case at parts) = term_kind scope parts
-term_kind scope (Tree.when condition value rest) = when_kind (term_kind scope condition) (term_kind scope value) (term_kind scope rest)
-term_kind scope (Tree.count_rows at) = Some Int
-term_kind scope (Tree.aggregate at word e) = aggregate_kind word (term_kind scope e)
+abbrev pub term_kind : Scope → TermTree → Option Kind
+term_kind scope (TermTree.column name) = field_kind scope name
+term_kind scope (TermTree.number at n) = Some Int
+term_kind scope (TermTree.decimal at n digits) = Some (Dec digits)
+term_kind scope (TermTree.text at w) = Some Text
+term_kind scope (TermTree.flag at b) = Some Flag
+term_kind scope (TermTree.binary at operator left right) = operator_kind operator (term_kind scope left) (term_kind scope right)
+term_kind scope (TermTree.negate at e) = number_if (term_kind scope e)
+term_kind scope (TermTree.not at e) = kind_if (is_kind Flag (term_kind scope e)) Flag
+term_kind scope (TermTree.case at parts) = term_kind scope parts
+term_kind scope (TermTree.when condition value rest) = when_kind (term_kind scope condition) (term_kind scope value) (term_kind scope rest)
+term_kind scope (TermTree.count_rows at) = Some Int
+term_kind scope (TermTree.aggregate at word e) = aggregate_kind word (term_kind scope e)
 
 -- The kinds of these parts are known and don't fit: the whole has none.
 abbrev pub misfit : ℕ → List (Option Kind) → Option Kind → List TypingFault
@@ -81,22 +81,22 @@ place_faults (groups g) at None = []
 place_faults (groups g) at (Some place) = fault_if (is_none (key_of g.keys place)) (fault.NotGrouped at)
 
 -- whether a term names a column
-abbrev pub names_column : Tree → Bool
-names_column (Tree.column name) = true
-names_column (Tree.binary at operator left right) = names_column left || names_column right
-names_column (Tree.negate at e) = names_column e
-names_column (Tree.not at e) = names_column e
-names_column (Tree.case at parts) = names_column parts
-names_column (Tree.when condition value rest) = names_column condition || (names_column value || names_column rest)
-names_column (Tree.aggregate at word e) = names_column e
+abbrev pub names_column : TermTree → Bool
+names_column (TermTree.column name) = true
+names_column (TermTree.binary at operator left right) = names_column left || names_column right
+names_column (TermTree.negate at e) = names_column e
+names_column (TermTree.not at e) = names_column e
+names_column (TermTree.case at parts) = names_column parts
+names_column (TermTree.when condition value rest) = names_column condition || (names_column value || names_column rest)
+names_column (TermTree.aggregate at word e) = names_column e
 names_column _ = false
 
 -- whether an aggregate counts rows, or sums what names no column
-abbrev pub counts : AggWord → Tree → Bool
-counts Count e = true
-counts Sum e = not (names_column e)
-counts Min e = false
-counts Max e = false
+abbrev pub is_counting : AggWord → TermTree → Bool
+is_counting Count e = true
+is_counting Sum e = not (names_column e)
+is_counting Min e = false
+is_counting Max e = false
 
 abbrev pub is_extreme : AggWord → Bool
 is_extreme Count = false
@@ -110,28 +110,28 @@ aggregate_faults rows at extreme counting = fault.MisplacedAggregate at ∷ []
 aggregate_faults (groups g) at extreme counting = fault_if (extreme && not g.by) (fault.MinMaxNeedsGroup at) ++ fault_if (counting && g.joins) (fault.CountOverJoin at)
 
 -- What is wrong with a term. The number is the place of the CASE around a WHEN part.
-abbrev pub term_faults : Scope → Setting → ℕ → Tree → List TypingFault
-term_faults scope setting around (Tree.column name) = then_faults (name_faults scope name) (place_faults setting name.at (place_of scope name))
-term_faults scope setting around (Tree.number at n) = []
-term_faults scope setting around (Tree.decimal at n digits) = []
-term_faults scope setting around (Tree.text at w) = []
-term_faults scope setting around (Tree.flag at b) = []
-term_faults scope setting around (Tree.binary at operator left right) =
+abbrev pub term_faults : Scope → Setting → ℕ → TermTree → List TypingFault
+term_faults scope setting around (TermTree.column name) = then_faults (name_faults scope name) (place_faults setting name.at (place_of scope name))
+term_faults scope setting around (TermTree.number at n) = []
+term_faults scope setting around (TermTree.decimal at n digits) = []
+term_faults scope setting around (TermTree.text at w) = []
+term_faults scope setting around (TermTree.flag at b) = []
+term_faults scope setting around (TermTree.binary at operator left right) =
     term_faults scope setting around left ++ term_faults scope setting around right
     ++ misfit at (term_kind scope left ∷ term_kind scope right ∷ []) (operator_kind operator (term_kind scope left) (term_kind scope right))
-term_faults scope setting around (Tree.negate at e) = term_faults scope setting around e ++ misfit at (term_kind scope e ∷ []) (number_if (term_kind scope e))
-term_faults scope setting around (Tree.not at e) = term_faults scope setting around e ++ misfit at (term_kind scope e ∷ []) (kind_if (is_kind Flag (term_kind scope e)) Flag)
-term_faults scope setting around (Tree.case at parts) = term_faults scope setting at parts
-term_faults scope setting around (Tree.when condition value rest) =
+term_faults scope setting around (TermTree.negate at e) = term_faults scope setting around e ++ misfit at (term_kind scope e ∷ []) (number_if (term_kind scope e))
+term_faults scope setting around (TermTree.not at e) = term_faults scope setting around e ++ misfit at (term_kind scope e ∷ []) (kind_if (is_kind Flag (term_kind scope e)) Flag)
+term_faults scope setting around (TermTree.case at parts) = term_faults scope setting at parts
+term_faults scope setting around (TermTree.when condition value rest) =
     term_faults scope setting around condition ++ term_faults scope setting around value ++ term_faults scope setting around rest
     ++ misfit around (term_kind scope condition ∷ term_kind scope value ∷ term_kind scope rest ∷ [])
     (when_kind (term_kind scope condition) (term_kind scope value) (term_kind scope rest))
-term_faults scope setting around (Tree.count_rows at) = aggregate_faults setting at false true
-term_faults scope setting around (Tree.aggregate at word e) =
-    aggregate_faults setting at (is_extreme word) (counts word e) ++ term_faults scope rows at e ++ misfit at (term_kind scope e ∷ []) (aggregate_kind word (term_kind scope e))
+term_faults scope setting around (TermTree.count_rows at) = aggregate_faults setting at false true
+term_faults scope setting around (TermTree.aggregate at word e) =
+    aggregate_faults setting at (is_extreme word) (is_counting word e) ++ term_faults scope rows at e ++ misfit at (term_kind scope e ∷ []) (aggregate_kind word (term_kind scope e))
 
 -- what is wrong with a WHERE or HAVING at this place: its term, or that this is no flag
-abbrev pub condition_faults : Scope → Setting → ℕ → Tree → List TypingFault
+abbrev pub condition_faults : Scope → Setting → ℕ → TermTree → List TypingFault
 condition_faults scope setting at e = term_faults scope setting at e ++ misfit at (term_kind scope e ∷ []) (kind_if (is_kind Flag (term_kind scope e)) Flag)
 
 -- the expression of a column that a term stands over
@@ -148,47 +148,47 @@ operation Operator.and a b = And a b
 operation Operator.or a b = Or a b
 
 -- The operands of a sum, a difference and a comparison are brought to one kind.
-abbrev pub operand : Operator → Option Kind → Option Kind → Term → Term
-operand Operator.add own to e = rescaled own to e
-operand Operator.subtract own to e = rescaled own to e
-operand Operator.multiply own to e = e
-operand (Operator.compare how) own to e = rescaled own to e
-operand Operator.and own to e = e
-operand Operator.or own to e = e
+abbrev pub scaled_operand : Operator → Option Kind → Option Kind → Term → Term
+scaled_operand Operator.add own to e = rescaled own to e
+scaled_operand Operator.subtract own to e = rescaled own to e
+scaled_operand Operator.multiply own to e = e
+scaled_operand (Operator.compare how) own to e = rescaled own to e
+scaled_operand Operator.and own to e = e
+scaled_operand Operator.or own to e = e
 
 abbrev pub operated : Operator → Option Kind → Option Kind → Term → Term → Term
-operated operator j k a b = operation operator (operand operator j (common j k) a) (operand operator k (common j k) b)
+operated operator j k a b = operation operator (scaled_operand operator j (common j k) a) (scaled_operand operator k (common j k) b)
 
 -- the parts of a CASE as an expression, in which each branch is brought to a kind
-abbrev pub branches : Scope → Option Kind → Tree → Term → Term
-branches scope to (Tree.when condition value rest) (Case c a b) = Case c (rescaled (term_kind scope value) to a) (branches scope to rest b)
+abbrev pub branches : Scope → Option Kind → TermTree → Term → Term
+branches scope to (TermTree.when condition value rest) (Case c a b) = Case c (rescaled (term_kind scope value) to a) (branches scope to rest b)
 branches scope to tree e = rescaled (term_kind scope tree) to e
 
 -- The expression of a term. The number is the column of the first aggregate that is written in it; the others follow.
-abbrev pub expression : Scope → Setting → ℕ → Tree → Term
-expression scope setting n (Tree.column name) = column_term setting (place_of scope name)
-expression scope setting n (Tree.number at m) = Literal (value.Int m)
-expression scope setting n (Tree.decimal at m digits) = Literal (value.Int m)
-expression scope setting n (Tree.text at w) = Literal (value.Text w)
-expression scope setting n (Tree.flag at b) = Literal (value.Flag b)
-expression scope setting n (Tree.binary at operator left right) =
-    operated operator (term_kind scope left) (term_kind scope right) (expression scope setting n left) (expression scope setting (n + length (written left)) right)
-expression scope setting n (Tree.negate at e) = Negate (expression scope setting n e)
-expression scope setting n (Tree.not at e) = Not (expression scope setting n e)
-expression scope setting n (Tree.case at parts) = branches scope (term_kind scope parts) parts (expression scope setting n parts)
-expression scope setting n (Tree.when condition value rest) =
-    Case (expression scope setting n condition) (expression scope setting (n + length (written condition)) value)
-    (expression scope setting (n + length (written condition) + length (written value)) rest)
-expression scope setting n (Tree.count_rows at) = Column n
-expression scope setting n (Tree.aggregate at word e) = Column n
+abbrev pub resolved_expression : Scope → Setting → ℕ → TermTree → Term
+resolved_expression scope setting n (TermTree.column name) = column_term setting (place_of scope name)
+resolved_expression scope setting n (TermTree.number at m) = Literal (value.Int m)
+resolved_expression scope setting n (TermTree.decimal at m digits) = Literal (value.Int m)
+resolved_expression scope setting n (TermTree.text at w) = Literal (value.Text w)
+resolved_expression scope setting n (TermTree.flag at b) = Literal (value.Flag b)
+resolved_expression scope setting n (TermTree.binary at operator left right) =
+    operated operator (term_kind scope left) (term_kind scope right) (resolved_expression scope setting n left) (resolved_expression scope setting (n + length (written left)) right)
+resolved_expression scope setting n (TermTree.negate at e) = Negate (resolved_expression scope setting n e)
+resolved_expression scope setting n (TermTree.not at e) = Not (resolved_expression scope setting n e)
+resolved_expression scope setting n (TermTree.case at parts) = branches scope (term_kind scope parts) parts (resolved_expression scope setting n parts)
+resolved_expression scope setting n (TermTree.when condition value rest) =
+    Case (resolved_expression scope setting n condition) (resolved_expression scope setting (n + length (written condition)) value)
+    (resolved_expression scope setting (n + length (written condition) + length (written value)) rest)
+resolved_expression scope setting n (TermTree.count_rows at) = Column n
+resolved_expression scope setting n (TermTree.aggregate at word e) = Column n
 
 -- the argument of an aggregate, over the rows of the FROM items
-abbrev pub argument_term : Scope → AggWord → Option Tree → Term
+abbrev pub argument_term : Scope → AggWord → Option TermTree → Term
 argument_term scope word None = Literal (value.Int (pos 1))
 argument_term scope Count (Some e) = Literal (value.Int (pos 1))
-argument_term scope Sum (Some e) = expression scope rows 0 e
-argument_term scope Min (Some e) = expression scope rows 0 e
-argument_term scope Max (Some e) = expression scope rows 0 e
+argument_term scope Sum (Some e) = resolved_expression scope rows 0 e
+argument_term scope Min (Some e) = resolved_expression scope rows 0 e
+argument_term scope Max (Some e) = resolved_expression scope rows 0 e
 
 abbrev pub argument_of : Scope → Written → Term
 argument_of scope w = argument_term scope w.word w.argument

@@ -4,8 +4,9 @@ ghost use Rattle.std.specs.Option.{option_copied};
 ghost use Rattle.au_expr.specs.Terms.{term};
 ghost use Rattle.au_parse.specs.Views.{item_view, term_tree};
 ghost use Rattle.au_typing.specs.Items.{column_at as column_of, item_faults, item_outputs, item_written, star_faults, star_output, value_name};
-ghost use Rattle.au_typing.specs.Results.{Gathers, Puts, PutsValue, Refuses, next_column, output, scope_view, setting_view, star_outputs};
+ghost use Rattle.au_typing.specs.Results.{Gathers, Puts, PutsValue, next_column, output, scope_view, setting_view, star_outputs};
 ghost use Rattle.au_typing.specs.Terms.{Setting as SettingOf, term_faults};
+ghost use Rattle.au_typing.specs.Queries.{Refuses};
 
 use crate::fault::TypingFault;
 use crate::scope::{Scope, column, is_owner, knows_owner};

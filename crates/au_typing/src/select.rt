@@ -9,8 +9,9 @@ ghost use Rattle.au_typing.specs.Scopes.{name_faults};
 ghost use Rattle.au_parse.specs.Levels.{arms_tree};
 ghost use Rattle.au_parse.specs.Views.{condition_view, item_view, term_tree};
 ghost use Rattle.au_typing.specs.Aggregates.{written};
-ghost use Rattle.au_typing.specs.Results.{ClauseAnswers, ClausesAnswer, FilterAnswers, IsFlag, ItemsFound, Refuses, SelectAnswer, TermsAnswer, all_terms, clauses_of, from_view, groups_tree, held_body, held_typing, joined_to, part_typing, scope_view, selected_by, setting_view};
-ghost use Rattle.au_typing.specs.Selects.{alias_faults, distinct_if, is_grouped, is_join, key_places, owned, product, scope_of, select, setting_of};
+ghost use Rattle.au_typing.specs.Results.{ClauseAnswers, ClausesAnswer, FilterAnswers, IsFlag, ItemsFound, SelectAnswer, TermsAnswer, all_terms, clauses_of, from_view, groups_tree, held_body, held_typing, joined_to, part_typing, scope_view, selected_by, setting_view};
+ghost use Rattle.au_typing.specs.Selects.{alias_faults, distinct_if, is_grouped, is_join, key_places, owned, from_product, scope_of, resolved_select, setting_of};
+ghost use Rattle.au_typing.specs.Queries.{Refuses};
 
 use crate::fault::TypingFault;
 use crate::outputs::{Outputs, put_item};
@@ -135,7 +136,7 @@ fn joined_to(alloc: Global, before: Option<Query>, query: Query) -> Result<Query
 
 // The FROM items joined from the left.
 fn product(alloc: Global, from: Vec<FromPart>) -> Result<Query, NoMemory>
-    ensures { IfOk result (λ q. tree q ≡ product (map from_view from.items)) }
+    ensures { IfOk result (λ q. tree q ≡ from_product (map from_view from.items)) }
 {
     let mut joined = None;
     for item in from {
@@ -505,8 +506,8 @@ pub(crate) fn select(
     part: &SelectPart,
     from: Vec<FromPart>,
 ) -> Result<Part, TypingFault>
-    ensures part { IfOk result (λ p. part_typing p ≡ select (clauses_of part.now) (map from_view from.items)) }
-    ensures fault { IfErr result (Refuses ((select (clauses_of part.now) (map from_view from.items)).faults)) }
+    ensures part { IfOk result (λ p. part_typing p ≡ resolved_select (clauses_of part.now) (map from_view from.items)) }
+    ensures fault { IfErr result (Refuses ((resolved_select (clauses_of part.now) (map from_view from.items)).faults)) }
 {
     let joins = is_join(from.as_slice());
     match clauses_over(alloc, part, from.as_slice()) {

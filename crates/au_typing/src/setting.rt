@@ -1,7 +1,7 @@
 //! What a term stands over, and the aggregates that have been gathered from terms.
 ghost use Rattle.std.specs.Prelude.{◌≡◌, ◌++◌, ◌∷◌, [], ◌+◌, length, map, OnOk, IfOk};
 ghost use Rattle.au_expr.specs.Terms.{term};
-ghost use Rattle.au_typing.specs.Aggregates.{taken};
+ghost use Rattle.au_typing.specs.Aggregates.{column_agg};
 ghost use Rattle.au_typing.specs.Results.{next_column, setting_view};
 
 use au_algebra::Agg;
@@ -33,7 +33,7 @@ pub(crate) struct Gathered {
 }
 
 fn taken(word: AggWord, place: usize) -> Agg
-    ensures { result ≡ taken word place }
+    ensures { result ≡ column_agg word place }
 {
     match word {
         AggWord::Count | AggWord::Sum => Agg::Sum(place),
@@ -63,7 +63,7 @@ impl Gathered {
     ) -> Result<usize, NoMemory>
         ensures column { IfOk result (λ n. n ≡ next_column (setting_view setting.now) self.old) }
         ensures arguments { IfOk result (λ n. self.new.arguments.items ≡ self.old.arguments.items ++ argument ∷ []) }
-        ensures aggs { IfOk result (λ n. self.new.aggs.items ≡ self.old.aggs.items ++ taken word n ∷ []) }
+        ensures aggs { IfOk result (λ n. self.new.aggs.items ≡ self.old.aggs.items ++ column_agg word n ∷ []) }
     {
         let before = match setting {
             Setting::Rows => 0,

@@ -2,7 +2,7 @@
 ghost use Rattle.std.specs.Prelude.{◌≡◌, ◌≤◌, ℕ, [], Some, None, false, true, IfOk, IfErr, IfSome, IfNone, Contains};
 ghost use Rattle.au_expr.specs.Terms.{term, Case, Literal};
 ghost use Rattle.au_parse.specs.Levels.{arms_tree, operator_of};
-ghost use Rattle.au_parse.specs.Tree.{Tree};
+ghost use Rattle.au_parse.specs.Tree.{TermTree};
 ghost use Rattle.au_parse.specs.Views.{term_tree};
 ghost use Rattle.au_typing.specs.Joined.{ChoosesParts, JoinsOperands, OfPair, OfTriple};
 ghost use Rattle.au_typing.specs.Results.{Answers, CaseAnswers, Chooses, EndsCase, Joins, Signs, Takes, scope_view, setting_view};
@@ -13,7 +13,7 @@ ghost use Rattle.au_typing.specs.declared.setting.Gathered.{Gathered as Gathered
 ghost use Rattle.au_typing.specs.declared.fault.TypingFault.TheVariants as fault;
 ghost use Rattle.au_value.specs.declared.kinds.Kind.TheVariants as kind;
 ghost use Rattle.au_value.specs.declared.value.Value.TheVariants as value;
-ghost use Rattle.au_typing.specs.Terms.{aggregate_faults, aggregate_kind, column_term, key_of, counts, is_extreme, names_column, operand, operated, operation as operation_of, operator_kind, place_faults, term_kind, when_kind};
+ghost use Rattle.au_typing.specs.Terms.{aggregate_faults, aggregate_kind, column_term, key_of, is_counting, is_extreme, names_column, scaled_operand, operated, operation as operation_of, operator_kind, place_faults, term_kind, when_kind};
 
 use crate::fault::TypingFault;
 use crate::results::{both, together};
@@ -59,7 +59,7 @@ fn field_kind(scope: &Scope, name: &Name) -> Option<Kind>
 }
 
 fn named(scope: &Scope, setting: &Setting, name: &Name) -> Answer
-    ensures { (around : ℕ) (old : GatheredOf) → Answers (scope_view scope.now) (setting_view setting.now) around (Tree.column name.now) old old result }
+    ensures { (around : ℕ) (old : GatheredOf) → Answers (scope_view scope.now) (setting_view setting.now) around (TermTree.column name.now) old old result }
 {
     match column(scope, name) {
         Ok((place, field)) => match column_at(setting, name.at, place) {
@@ -126,7 +126,7 @@ fn operand(
     e: Expr,
 ) -> Result<Expr, NoMemory>
     requires { scale to ≤ 9 }
-    ensures { IfOk result (λ x. term x ≡ operand (operator_of operation) (Some own) to (term e)) }
+    ensures { IfOk result (λ x. term x ≡ scaled_operand (operator_of operation) (Some own) to (term e)) }
 {
     match operation {
         Operation::Add | Operation::Subtract | Operation::Compare(_) => {
@@ -231,7 +231,7 @@ fn is_extreme(word: AggWord) -> bool
 
 // Whether an aggregate counts rows, or sums what names no column.
 fn counts(word: AggWord, argument: &Term) -> bool
-    ensures { result ≡ counts word (term_tree argument.now) }
+    ensures { result ≡ is_counting word (term_tree argument.now) }
 {
     match word {
         AggWord::Count => true,
@@ -526,7 +526,7 @@ fn typed_case(
 
 // The same of COUNT(*).
 fn counted_rows(setting: &Setting, gathered: &mut Gathered, at: usize) -> Answer
-    ensures { (scope : ScopeOf) (around : ℕ) → Answers scope (setting_view setting.now) around (Tree.count_rows at) gathered.old gathered.new result }
+    ensures { (scope : ScopeOf) (around : ℕ) → Answers scope (setting_view setting.now) around (TermTree.count_rows at) gathered.old gathered.new result }
 {
     if let Some(fault) = aggregate_fault(setting, at, false, true) {
         return Err(fault);
@@ -547,7 +547,7 @@ fn typed_aggregate(
     word: AggWord,
     e: &Term,
 ) -> Answer
-    ensures { (around : ℕ) → Answers (scope_view scope.now) (setting_view setting.now) around (Tree.aggregate at word (term_tree e.now)) gathered.old gathered.new result }
+    ensures { (around : ℕ) → Answers (scope_view scope.now) (setting_view setting.now) around (TermTree.aggregate at word (term_tree e.now)) gathered.old gathered.new result }
 {
     if let Some(fault) = aggregate_fault(setting, at, is_extreme(word), counts(word, e)) {
         return Err(fault);

@@ -2,15 +2,15 @@
 ghost use Rattle.std.specs.Prelude.{◌≡◌, ◌<◌, [], true, Some, Contains, IfOk, IfErr, IfSome, IfNone, flat_map, length, map, position};
 ghost use Rattle.std.specs.Str.{str_eq_ignore_ascii_case};
 ghost use Rattle.au_algebra.specs.Trees.{tree};
-ghost use Rattle.au_algebra.specs.Typing.{kinds_of as kinds_of_tree};
+ghost use Rattle.au_algebra.specs.Typing.{kinds_of};
 ghost use Rattle.au_expr.specs.Terms.{term};
 ghost use Rattle.au_value.specs.Order.{data_kind};
 ghost use Rattle.au_parse.specs.Tree.{SetWord};
 ghost use Rattle.au_parse.specs.Views.{statement_tree};
 ghost use Rattle.au_parse.specs.Whole.{WholeQuery};
-ghost use Rattle.au_typing.specs.Queries.{IsWellTyped, brought_from, defects, is_narrower, kinds_fit, kinds_of, kinds_of_columns, names_of, relations, set_columns, set_tree, set_typing, side_tree, sides_faults, table_kinds, table_of, table_typing, tree_of, typing};
+ghost use Rattle.au_typing.specs.Queries.{IsWellTyped, brought_from, typing_defects, is_narrower, kinds_fit, resolved_kinds, kinds_of_columns, resolved_names, relations, set_columns, set_tree, set_typing, side_tree, sides_faults, table_kinds, table_place, table_typing, resolved_tree, typing, Refuses};
 ghost use Rattle.au_typing.specs.Judged.{Brings, FewDigits, Judges, JudgesSides, Shows, source_faults, source_item};
-ghost use Rattle.au_typing.specs.Results.{Refuses, from_view, part_typing};
+ghost use Rattle.au_typing.specs.Results.{from_view, part_typing};
 
 use crate::fault::TypingFault;
 use crate::results::{both, together};
@@ -54,7 +54,7 @@ fn table_of(schemas: &[Schema], word: &Word) -> Option<usize>
 
 // The table of a name.
 fn table(alloc: Global, schemas: &[Schema], at: usize, word: &Word) -> Result<Part, TypingFault>
-    ensures { Judges (table_typing (relations schemas.now) at (table_of (relations schemas.now) word.now)) result }
+    ensures { Judges (table_typing (relations schemas.now) at (table_place (relations schemas.now) word.now)) result }
 {
     match table_of(schemas, word) {
         Some(place) => {
@@ -424,11 +424,11 @@ pub fn resolve(
 ) -> Result<Typed, TypingFault>
     requires { WholeQuery (statement_tree statement.now) }
     ensures well_typed { IfOk result (λ _. IsWellTyped (relations schemas.now) (statement_tree statement.now)) }
-    ensures tree { IfOk result (λ t. tree t.query ≡ tree_of (relations schemas.now) (statement_tree statement.now)) }
-    ensures names { IfOk result (λ t. t.names.items ≡ names_of (relations schemas.now) (statement_tree statement.now)) }
-    ensures kinds { IfOk result (λ t. t.kinds.items ≡ kinds_of (relations schemas.now) (statement_tree statement.now)) }
-    ensures typed { IfOk result (λ t. kinds_of_tree (table_kinds (relations schemas.now)) (tree t.query) ≡ Some (map data_kind t.kinds.items)) }
-    ensures fault { IfErr result (Refuses (defects (relations schemas.now) (statement_tree statement.now))) }
+    ensures tree { IfOk result (λ t. tree t.query ≡ resolved_tree (relations schemas.now) (statement_tree statement.now)) }
+    ensures names { IfOk result (λ t. t.names.items ≡ resolved_names (relations schemas.now) (statement_tree statement.now)) }
+    ensures kinds { IfOk result (λ t. t.kinds.items ≡ resolved_kinds (relations schemas.now) (statement_tree statement.now)) }
+    ensures typed { IfOk result (λ t. kinds_of (table_kinds (relations schemas.now)) (tree t.query) ≡ Some (map data_kind t.kinds.items)) }
+    ensures fault { IfErr result (Refuses (typing_defects (relations schemas.now) (statement_tree statement.now))) }
 {
     match query(alloc, schemas, statement) {
         Ok(part) => Ok(with_columns(alloc, part.query, part.columns)?),

@@ -5,7 +5,7 @@ use Rattle.std.specs.List.{list_all}
 use Rattle.std.specs.Str.Parse.{digits_value}
 use Rattle.std.proofs.lemmas.Bool.{and_parts, true≢false}
 use Rattle.au_value.specs.Texts.{Text}
-use Rattle.au_words.specs.Words.{Asked, all_options, asked_by, asked_of, demo, demo_of, first_word, is_form, is_number, is_taken, number_of, positionals, unless, value_of, verb_of}
+use Rattle.au_words.specs.Words.{Asked, all_options, asked_by, asked_of, demo, demo_of, first_word, is_form, is_number, is_taken, number_of, positionals, unless, option_value, verb_of}
 use Rattle.au_words.specs.CommandLine.{HasForm, IsUsage}
 use Rattle.au_words.specs.declared.fault.UsageFault.{UsageFault}
 use Rattle.au_words.specs.declared.fault.UsageFault.TheVariants.{Words}
@@ -28,7 +28,7 @@ read most text = if is_number 1 most text then Some (digits_value 10 text) else 
 
 -- all that stands behind an option is a number that it takes
 abbrev IsRead : Text → ℕ → List Text → Type 0
-IsRead name most words = option_and_then (read most) (value_of name words) ≡ number_of name words
+IsRead name most words = option_and_then (read most) (option_value name words) ≡ number_of name words
 
 found_number : (most : ℕ) (value : Text) → is_number 1 most value ≡ true → read most value ≡ Some (digits_value 10 value)
 found_number most value h = rw h refl

@@ -2,7 +2,7 @@
 use Rattle.std.proofs.Common.{◌≡◌, ◌∙◌, ℕ, true, false, List, [], ◌∷◌, map, refl, sym, ap, Some, None}
 use Rattle.std.specs.Prelude.{position}
 use Rattle.au_value.specs.Texts.{Text}
-use Rattle.au_words.specs.Words.{is_bad_table, same_names, table_fault, name_part, table_of}
+use Rattle.au_words.specs.Words.{is_bad_table, same_names, table_fault, name_part, named_path}
 use Rattle.au_words.specs.CommandLine.{name_of, seen_table}
 use Rattle.au_words.specs.declared.fault.UsageFault.TheVariants.{BadTable, SameTable}
 use Rattle.au_words.specs.declared.words.TableWord.{TableWord}
@@ -11,12 +11,12 @@ firsts_of_tables : (tables : List TableWord) → map (λ (p : Text × Text). p.0
 firsts_of_tables [] = refl
 firsts_of_tables (table ∷ tables) = ap (λ xs. name_of table ∷ xs) (firsts_of_tables tables)
 
-firsts_of_words : (words : List Text) → map (λ (p : Text × Text). p.0) (map table_of words) ≡ map name_part words
+firsts_of_words : (words : List Text) → map (λ (p : Text × Text). p.0) (map named_path words) ≡ map name_part words
 firsts_of_words [] = refl
 firsts_of_words (word ∷ words) = ap (λ xs. name_part word ∷ xs) (firsts_of_words words)
 
 -- the tables have the names of the words
-pub names_of : (tables : List TableWord) (words : List Text) → map seen_table tables ≡ map table_of words → map name_of tables ≡ map name_part words
+pub names_of : (tables : List TableWord) (words : List Text) → map seen_table tables ≡ map named_path words → map name_of tables ≡ map name_part words
 names_of tables words e = sym (firsts_of_tables tables) ∙ ap (map (λ (p : Text × Text). p.0)) e ∙ firsts_of_words words
 
 -- a bad word

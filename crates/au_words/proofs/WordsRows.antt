@@ -7,7 +7,7 @@ use Rattle.clap.specs.Takes.{level_passes}
 use Rattle.clap.specs.Values.{bool_text}
 use Rattle.clap.specs.declared.parser.matches.ValueSource.TheVariants.{DefaultValue}
 use Rattle.clap.specs.declared.builder.value_parser.Reading.TheVariants.{AsWritten}
-use Rattle.au_words.specs.Words.{positionals, value_of}
+use Rattle.au_words.specs.Words.{positionals, option_value}
 use Rattle.au_words.specs.CommandLine.{HasWords}
 use Rattle.au_words.proofs.RowsById.{added, has_row-at, put_at_end, row_at, row_for}
 use Rattle.au_words.proofs.WordSteps.{combine, line, rules, state, table}
@@ -134,8 +134,8 @@ words_rows name words some e =
     record {
       table = ap (option_and_then row_text) both.table_row ∙ flag_read (codes "table") g.table;
       combine = ap (option_and_then row_text) both.combine_row ∙ flag_read (codes "combine") g.combine;
-      workers = ap (option_and_then (λ (r : Row). slice_get r.values 0)) both.beside.workers_row ∙ value_read (codes "workers") (value_of (codes "--workers") words);
-      compress = ap (option_and_then (λ (r : Row). slice_get r.values 0)) both.beside.compress_row ∙ value_read (codes "compress") (value_of (codes "--compress") words);
+      workers = ap (option_and_then (λ (r : Row). slice_get r.values 0)) both.beside.workers_row ∙ value_read (codes "workers") (option_value (codes "--workers") words);
+      compress = ap (option_and_then (λ (r : Row). slice_get r.values 0)) both.beside.compress_row ∙ value_read (codes "compress") (option_value (codes "--compress") words);
       first = ap (option_and_then (λ (r : Row). slice_get r.values 0)) both.beside.first_row ∙ first_read (positionals words) some;
       later = λ several. ap (option_map (λ (r : Row). r.values)) both.beside.later_row ∙ later_read (positionals words) several;
     }

@@ -7,7 +7,7 @@ use Rattle.std.specs.Str.{bytes_eq}
 use Rattle.std.proofs.lemmas.Bool.{and_parts}
 use Rattle.clap.specs.Walk.{Row, Text, Walk, settled_rows, used, walked}
 use Rattle.clap.specs.Takes.{settle_passes, turn_passes, walk_passes}
-use Rattle.au_words.specs.Words.{all_options, has_name, is_option, is_taken, positionals, value_of}
+use Rattle.au_words.specs.Words.{all_options, has_name, is_option, is_taken, positionals, option_value}
 use Rattle.au_words.proofs.OptionWords.{Kind, kind_of, positional_differs, positional_named}
 use Rattle.au_words.proofs.WordSteps.{combine, compress, held, line, line_rules, passes_combine, passes_compress, passes_first, passes_later, passes_table, passes_workers, rules, settled_first, settled_later, settles_first, settles_later, state, table, walks_combine, walks_compress, walks_first, walks_later, walks_table, walks_workers, workers}
 use Rattle.au_words.proofs.ReadRows.{Given, Reads, flag_found, missing, reads_combine, reads_compress, reads_first, reads_later, reads_table, reads_workers, value_found}
@@ -88,8 +88,8 @@ abbrev pub given_by : Given → List Text → Given
 given_by g words = record {
   table = g.table || list_any (bytes_eq (codes "--table")) words;
   combine = g.combine || list_any (bytes_eq (codes "--combine")) words;
-  workers = option_or g.workers (value_of (codes "--workers") words);
-  compress = option_or g.compress (value_of (codes "--compress") words);
+  workers = option_or g.workers (option_value (codes "--workers") words);
+  compress = option_or g.compress (option_value (codes "--compress") words);
 }
 
 abbrev Walks : Text → List Text → Type 0

@@ -11,7 +11,7 @@ use Rattle.clap.specs.declared.builder.command.Command.{Command as Line}
 use Rattle.clap.specs.Values.{bool_text}
 use Rattle.clap.specs.declared.builder.action.ArgAction.TheVariants.{SetTrue, Append}
 use Rattle.au_value.specs.Texts.{Text}
-use Rattle.au_words.specs.Words.{first_word, is_form, later_words, positionals, value_of, verb_of}
+use Rattle.au_words.specs.Words.{first_word, is_form, later_words, positionals, option_value, verb_of}
 use Rattle.au_words.specs.Words as words
 use Rattle.au_words.specs.declared.fault.UsageFault.{UsageFault}
 use Rattle.au_words.specs.declared.words.Asked.{Asked}
@@ -117,7 +117,7 @@ IsFlag text given = text ≡ Some (bool_text given)
 pub record HasWords (rest : List Text) (rows : List Row) : Type 0 where
   pub table : IsFlag (one_of (codes "table") rows) (list_any (bytes_eq (codes "--table")) rest)
   pub combine : IsFlag (one_of (codes "combine") rows) (list_any (bytes_eq (codes "--combine")) rest)
-  pub workers : first_of (codes "workers") rows ≡ value_of (codes "--workers") rest
-  pub compress : first_of (codes "compress") rows ≡ value_of (codes "--compress") rest
+  pub workers : first_of (codes "workers") rows ≡ option_value (codes "--workers") rest
+  pub compress : first_of (codes "compress") rows ≡ option_value (codes "--compress") rest
   pub first : first_of (codes "FIRST") rows ≡ Some (first_word rest)
   pub later : 1 < length (positionals rest) → all_of (codes "LATER") rows ≡ Some (later_words rest)

@@ -70,17 +70,17 @@ are_options taken words =
     && list_all (λ option. nat_le (length (filter (has_name option.0) words)) 1) all_options
 
 -- what stands behind an option, where the option is there, and its number
-abbrev pub value_of : Text → List Text → Option Text
-value_of name words = option_map value_part (find (has_name name) words)
+abbrev pub option_value : Text → List Text → Option Text
+option_value name words = option_map value_part (find (has_name name) words)
 
 abbrev pub number_of : Text → List Text → Option ℕ
-number_of name words = option_map (digits_value 10) (value_of name words)
+number_of name words = option_map (digits_value 10) (option_value name words)
 
 -- ---- table words
 
 -- a table word is a name and a path
-abbrev pub table_of : Text → Text × Text
-table_of word = (name_part word, value_part word)
+abbrev pub named_path : Text → Text × Text
+named_path word = (name_part word, value_part word)
 
 -- whether a table word has no `=`, an empty name or an empty path
 abbrev pub is_bad_table : Text → Bool
@@ -171,7 +171,7 @@ request_of command words = record {
   workers = unwrap_or (number_of (codes "--workers") words) 1;
   compress = number_of (codes "--compress") words;
   query = first_word words;
-  tables = map table_of (later_words words);
+  tables = map named_path (later_words words);
 }
 
 -- a demonstration, where both texts are numbers that it takes
@@ -185,8 +185,8 @@ abbrev pub asked_by : Verb → List Text → Result Asked UsageFault
 asked_by (verb.Query command) words = unless (table_fault (later_words words)) (query (request_of command words))
 asked_by verb.Demo words =
     demo_of (unwrap_or (number_of (codes "--workers") words) 1) (first_word words) (slice_index_or (later_words words) 0 [])
-asked_by verb.Encode words = unless (table_fault (positionals words)) (encode (table_of (first_word words)))
-asked_by verb.Plain words = unless (table_fault (later_words words)) (plain (first_word words) (map table_of (later_words words)))
+asked_by verb.Encode words = unless (table_fault (positionals words)) (encode (named_path (first_word words)))
+asked_by verb.Plain words = unless (table_fault (later_words words)) (plain (first_word words) (map named_path (later_words words)))
 
 -- ---- all words
 

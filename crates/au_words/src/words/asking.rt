@@ -2,7 +2,7 @@
 ghost use Rattle.std.specs.Prelude.{◌≡◌, ◌<◌, None, Some, Ok, Err, codes, drop, length, map, option_and_then, unwrap_or, if◌then◌else◌, IfOk, IfErr, MatchOption};
 ghost use Rattle.std.specs.Str.Parse.{digits_value};
 ghost use Rattle.clap.specs.Words.{first_of, found_of, rows_of};
-ghost use Rattle.au_words.specs.Words.{asked_by, asked_of, first_word, is_number, later_words, positionals, request_of, table_fault, table_of};
+ghost use Rattle.au_words.specs.Words.{asked_by, asked_of, first_word, is_number, later_words, positionals, request_of, table_fault, named_path};
 ghost use Rattle.au_words.specs.CommandLine.{HasForm, IsUsage, seen, seen_request, seen_table, texts};
 ghost use Rattle.au_words.specs.declared.fault.UsageFault.TheVariants.{Words};
 ghost use Rattle.au_words.specs.declared.words.form.Verb.TheVariants as verb;
@@ -113,7 +113,7 @@ fn read_plain<'a>(alloc: Global, words: &'a [&'a str]) -> Result<Planned<'a>, Wo
     requires { HasForm verb.Plain (texts words.now) }
     ensures fine { IfOk result (λ r. table_fault (later_words (drop 1 (texts words.entry.now))) ≡ None) }
     ensures plan { IfOk result (λ r. r.plan.now ≡ first_word (drop 1 (texts words.entry.now))) }
-    ensures tables { IfOk result (λ r. map seen_table r.tables.items ≡ map table_of (later_words (drop 1 (texts words.entry.now)))) }
+    ensures tables { IfOk result (λ r. map seen_table r.tables.items ≡ map named_path (later_words (drop 1 (texts words.entry.now)))) }
     ensures refused { IfErr result (λ e. IsUsage e (λ fault. table_fault (later_words (drop 1 (texts words.entry.now))) ≡ Some fault)) }
 {
     let Ok(matches) = matches_of(alloc, Verb::Plain, words) else {

@@ -2,7 +2,7 @@
 ghost use Rattle.std.specs.Prelude.{◌≡◌, ◌<◌, ◌∷◌, [], None, Some, false, true, not, length, map, position, slice_index_or, IfOk, IfErr, MatchOption};
 ghost use Rattle.std.specs.List.{list_any};
 ghost use Rattle.std.specs.Str.{str_eq_ignore_ascii_case};
-ghost use Rattle.au_words.specs.Words.{is_bad_table, is_equal_sign, same_names, table_fault, name_part, value_part, table_of};
+ghost use Rattle.au_words.specs.Words.{is_bad_table, is_equal_sign, same_names, table_fault, name_part, value_part, named_path};
 ghost use Rattle.au_words.specs.CommandLine.{IsUsage, name_of, seen_table, texts};
 
 use crate::fault::UsageFault;
@@ -27,7 +27,7 @@ fn is_bad_table(word: &str) -> bool
 
 // The table that a word tells. What has no `=` is a name without a path.
 fn cut(word: &str) -> TableWord<'_>
-    ensures { seen_table result ≡ table_of word.now }
+    ensures { seen_table result ≡ named_path word.now }
 {
     match parts(word) {
         Some((name, path)) => TableWord { name, path },
@@ -45,7 +45,7 @@ fn first_bad(words: &[&str]) -> Option<usize>
 }
 
 fn cut_all<'a>(alloc: Global, words: &[&'a str]) -> Result<Vec<TableWord<'a>>, AllocError>
-    ensures { IfOk result (λ tables. map seen_table tables.items ≡ map table_of (texts words.now)) }
+    ensures { IfOk result (λ tables. map seen_table tables.items ≡ map named_path (texts words.now)) }
 {
     let mut tables = Vec::new(alloc);
     for word in words {
@@ -91,7 +91,7 @@ fn same_names(tables: &[TableWord<'_>]) -> Option<(usize, usize)>
 /// Reads the only table word.
 #[tactic(auto, using(crate::proofs::TableFaults::one_bad, crate::proofs::TableFaults::one_fine))]
 pub fn read_table(word: &str) -> Result<TableWord<'_>, UsageFault>
-    ensures table { IfOk result (λ table. (table_fault (word.now ∷ []) ≡ None) × (seen_table table ≡ table_of word.now)) }
+    ensures table { IfOk result (λ table. (table_fault (word.now ∷ []) ≡ None) × (seen_table table ≡ named_path word.now)) }
     ensures refused { IfErr result (λ fault. table_fault (word.now ∷ []) ≡ Some fault) }
 {
     if is_bad_table(word) {
@@ -104,7 +104,7 @@ pub fn read_table(word: &str) -> Result<TableWord<'_>, UsageFault>
 /// Reads the table words.
 pub fn read_tables<'a>(alloc: Global, words: &[&'a str]) -> Result<Vec<TableWord<'a>>, WordsFault>
     ensures taken { IfOk result (λ tables. table_fault (texts words.now) ≡ None) }
-    ensures tables { IfOk result (λ tables. map seen_table tables.items ≡ map table_of (texts words.now)) }
+    ensures tables { IfOk result (λ tables. map seen_table tables.items ≡ map named_path (texts words.now)) }
     ensures refused { IfErr result (λ e. IsUsage e (λ fault. table_fault (texts words.now) ≡ Some fault)) }
 {
     if let Some(place) = first_bad(words) {

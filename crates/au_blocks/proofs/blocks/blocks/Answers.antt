@@ -7,7 +7,7 @@ use Rattle.au_blocks.specs.declared.format.Format.{Format}
 use Rattle.au_blocks.specs.declared.format.Format.TheVariants as format
 use Rattle.au_blocks.specs.Headers.{has_blocks}
 use Rattle.au_blocks.specs.Defects.{blocks_defects}
-use Rattle.au_blocks.specs.Entries.{blocks_of}
+use Rattle.au_blocks.specs.Entries.{entry_blocks}
 use Rattle.au_blocks.specs.Gathered.{all_finished}
 use Rattle.au_blocks.specs.Read.{block_of, first, unless}
 use Rattle.au_blocks.proofs.Finishing.{finished-blocks, plain-blocks, unless-err}
@@ -16,17 +16,17 @@ use Rattle.au_blocks.proofs.blocks.blocks.Goals as goal
 pub returns-in_ok-gather-clause-blocks : goal.returns-in_ok-gather-clause-blocks
 returns-in_ok-gather-clause-blocks c =
     let kinds = map (λ (x : Column). x.kind) c.args.columns.now in
-    let e = ap (all_finished 0) c.in_ok-gather.ensures ∙ finished-blocks kinds (blocks_of c.args.format c.args.rows.items) in
-    (IfOk-weaker c.finish_all.result (λ bs. all_finished 0 c.in_ok-gather.field-0.items ≡ Ok bs.items) (λ bs. unless (first (blocks_defects (blocks_of c.args.format c.args.rows.items))) (map (block_of kinds) (blocks_of c.args.format c.args.rows.items)) ≡ Ok bs.items) (λ bs is. sym e ∙ is) c.finish_all.ensures.blocks)
+    let e = ap (all_finished 0) c.in_ok-gather.ensures ∙ finished-blocks kinds (entry_blocks c.args.format c.args.rows.items) in
+    (IfOk-weaker c.finish_all.result (λ bs. all_finished 0 c.in_ok-gather.field-0.items ≡ Ok bs.items) (λ bs. unless (first (blocks_defects (entry_blocks c.args.format c.args.rows.items))) (map (block_of kinds) (entry_blocks c.args.format c.args.rows.items)) ≡ Ok bs.items) (λ bs is. sym e ∙ is) c.finish_all.ensures.blocks)
 
 pub returns-in_ok-gather-clause-fault : goal.returns-in_ok-gather-clause-fault
 returns-in_ok-gather-clause-fault c =
     let kinds = map (λ (x : Column). x.kind) c.args.columns.now in
-    let e = ap (all_finished 0) c.in_ok-gather.ensures ∙ finished-blocks kinds (blocks_of c.args.format c.args.rows.items) in
-    (IfErr-weaker c.finish_all.result (λ f. (f ≡ fault.NoMemory) ⊎ (all_finished 0 c.in_ok-gather.field-0.items ≡ Err f)) (λ f. (f ≡ fault.NoMemory) ⊎ (first (blocks_defects (blocks_of c.args.format c.args.rows.items)) ≡ Some f))
+    let e = ap (all_finished 0) c.in_ok-gather.ensures ∙ finished-blocks kinds (entry_blocks c.args.format c.args.rows.items) in
+    (IfErr-weaker c.finish_all.result (λ f. (f ≡ fault.NoMemory) ⊎ (all_finished 0 c.in_ok-gather.field-0.items ≡ Err f)) (λ f. (f ≡ fault.NoMemory) ⊎ (first (blocks_defects (entry_blocks c.args.format c.args.rows.items)) ≡ Some f))
     (λ f is. elim is [
       | inl memory ↦ inl memory
-      | inr defect ↦ inr (unless-err (first (blocks_defects (blocks_of c.args.format c.args.rows.items))) (map (block_of kinds) (blocks_of c.args.format c.args.rows.items)) f (sym e ∙ defect))
+      | inr defect ↦ inr (unless-err (first (blocks_defects (entry_blocks c.args.format c.args.rows.items))) (map (block_of kinds) (entry_blocks c.args.format c.args.rows.items)) f (sym e ∙ defect))
     ]) c.finish_all.ensures.fault)
 
 plain-format : (f : Format) → has_blocks f ≡ false → f ≡ format.Plain

@@ -9,7 +9,7 @@ use Rattle.au_csv.specs.Texts.{Record}
 use Rattle.au_blocks.specs.declared.column.Column.{Column}
 use Rattle.au_blocks.specs.declared.format.Format.{Format}
 use Rattle.au_blocks.specs.declared.role.Role.{Role}
-use Rattle.au_blocks.specs.Entries.{entry, entry_of, label_of, role_of, copies_in}
+use Rattle.au_blocks.specs.Entries.{block_entry, block_entry_of, label_of, role_of, copies_in}
 use Rattle.au_blocks.specs.Headers.{cells_of}
 use Rattle.au_blocks.specs.Gathered.{Gathered, nothing}
 use Rattle.au_blocks.specs.Labels.{label_bytes}
@@ -24,7 +24,7 @@ builders-are f kinds rows l ls gs hs same are later =
     later ∙ ap (λ (g : List Gathered). with_builder g (list_any (bytes_eq l) ls)) are ∙ ap (λ (x : List Text). with_builder (builders f kinds rows) (list_any (bytes_eq l) x)) same
 
 -- the entry of a record
-entry-is : (f : Format) (r : Record) (x : Role) → role_of f r ≡ Some x → entry_of f r ≡ Some (entry x (copies_in f r) (cells_of f r))
+entry-is : (f : Format) (r : Record) (x : Role) → role_of f r ≡ Some x → block_entry_of f r ≡ Some (block_entry x (copies_in f r) (cells_of f r))
 entry-is f r x has = rw has refl
 
 pub index_mut-requires : goal.index_mut-requires
@@ -52,7 +52,7 @@ loop-record-preserved c =
     let is = entry-is f c.in-Some.record c.role_in-role.result c.role_in-role.ensures in
     let gs = c.place_of.new.builders.items in
     let at : c.index_mut.result.now ≡ get_or gs c.in_ok-place.place nothing = get_or_read gs c.in_ok-place.place c.index_mut.result.now (rw place low) c.index_mut.ensures.value nothing in
-    let e = entry c.role_in-role.result (copies_in f c.in-Some.record) (cells_of f c.in-Some.record) in
+    let e = block_entry c.role_in-role.result (copies_in f c.in-Some.record) (cells_of f c.in-Some.record) in
     let pushed = builders-push f kinds rows c.in-Some.record e is gs (rw label at are) in
     record {
       all = append_assoc rows (c.in-Some.record ∷ []) (into_iter_items c.next.new.self) ∙ sym (ap (λ (rest : List Record). rows ++ rest) c.in-Some.ensures.steps.0) ∙ inv.all;

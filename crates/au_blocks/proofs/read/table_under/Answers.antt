@@ -3,7 +3,7 @@ use Rattle.std.proofs.Common.{◌≡◌, ◌∙◌, Option, Some, None, Ok, map,
 use Rattle.au_blocks.specs.declared.column.Column.{Column}
 use Rattle.au_blocks.specs.declared.faults.TableFault.{TableFault}
 use Rattle.au_blocks.specs.Defects.{schema_defects, blocks_defects}
-use Rattle.au_blocks.specs.Entries.{blocks_of}
+use Rattle.au_blocks.specs.Entries.{entry_blocks}
 use Rattle.au_blocks.specs.Headers.{format_of, has_blocks}
 use Rattle.au_blocks.specs.Read.{unless, header_columns}
 use Rattle.au_blocks.proofs.First.{first-behind}
@@ -38,4 +38,4 @@ returns-clause-table c =
     let columns : c.in_ok-columns.columns.items ≡ header_columns header rows = rw (c.as_slice.ensures.value) at c.in_ok-columns.ensures.columns in
     let kinds = ap (map (λ (x : Column). x.kind)) (c.as_slice-2.ensures.value ∙ columns) ∙ header-kinds header rows in
     let blocks = unless-ok _ _ _ (rw (c.of-format.ensures, kinds) at c.in_ok-blocks.ensures.blocks) in
-    rw (first-behind (schema_defects header rows) (blocks_defects (blocks_of (format_of header) rows)) sound, blocks.0, c.of.ensures, columns, ← blocks.1) refl
+    rw (first-behind (schema_defects header rows) (blocks_defects (entry_blocks (format_of header) rows)) sound, blocks.0, c.of.ensures, columns, ← blocks.1) refl

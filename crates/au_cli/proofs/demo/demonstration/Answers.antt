@@ -3,7 +3,7 @@ use Rattle.std.proofs.Common.{◌≡◌, ◌∙◌, sym, ap, true, false, Err}
 use Rattle.std.proofs.lemmas.Bool.{true≢false}
 use Rattle.au_annot.specs.Triples.{in_range}
 use Rattle.au_parse.specs.Views.{statement_tree}
-use Rattle.au_print.specs.DemoTexts.{sum_of}
+use Rattle.au_print.specs.DemoTexts.{triple_sum}
 use Rattle.au_cli.proofs.DemoLaws.{generated_is, statement_is, no_defects_of_demo, sum_fits}
 use Rattle.au_cli.proofs.demo.demonstration.Goals as goal
 
@@ -19,8 +19,8 @@ unreachable-requires g c =
     let table = c.in-Ok-generated.table in
     let tree = statement_tree c.in-Ok.statement in
     let known = generated_is c.args.start c.args.blocks table c.requires.few c.in-Ok-generated.ensures in
-    let fits : in_range (sum_of c.in-Ok-answered.answer.rows) ≡ true =
-    ap (λ rows. in_range (sum_of rows)) c.in-Ok-answered.ensures.rows
+    let fits : in_range (triple_sum c.in-Ok-answered.answer.rows) ≡ true =
+    ap (λ rows. in_range (triple_sum rows)) c.in-Ok-answered.ensures.rows
     ∙ sum_fits c.args.blocks table tree c.requires.few known.columns known.count known.copies (statement_is tree c.in-Ok.ensures.tree) in
-    let over : in_range (sum_of c.in-Ok-answered.answer.rows) ≡ false = c.demo_text.ensures.overflow (c.in-Err-Overflow.is ∙ ap Err c.in-Err-Overflow.field-0-is) in
+    let over : in_range (triple_sum c.in-Ok-answered.answer.rows) ≡ false = c.demo_text.ensures.overflow (c.in-Err-Overflow.is ∙ ap Err c.in-Err-Overflow.field-0-is) in
     true≢false (sym fits ∙ over)

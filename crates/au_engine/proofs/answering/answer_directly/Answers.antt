@@ -7,7 +7,7 @@ use Rattle.au_algebra.specs.Laws.{IsRelation}
 use Rattle.au_algebra.specs.Trees.{tree}
 use Rattle.au_translate.specs.Headline.{HoldsInEveryWorld}
 use Rattle.au_typing.specs.Queries.{typing}
-use Rattle.au_engine.specs.Answers.{AnswerCause, blocks_of, relations_of, statement_defects, tree_answer, tree_fits}
+use Rattle.au_engine.specs.Answers.{AnswerCause, blocks_of, relations_of, statement_defects, tree_answer, tree_answer_fits}
 use Rattle.au_engine.proofs.AskedAnswers.{asked_answered}
 use Rattle.au_engine.proofs.Shown.{as_wide}
 use Rattle.au_engine.proofs.Told.{rows_cause, told_rows}
@@ -48,13 +48,13 @@ returns-in-Ok-told-clause-widths c =
 pub returns-in-Ok-told-clause-fits : goal.returns-in-Ok-told-clause-fits
 returns-in-Ok-told-clause-fits c =
     let ts = c.args.tables.now in
-    subst (λ m. tree_fits c.args.combine ts m ≡ true) c.in-Ok.ensures.query
-    (subst (λ r. OnOk r (tree_fits c.args.combine ts (tree c.in-Ok.typed.query) ≡ true)) c.in-Ok-told.ensures.rows c.direct_rows-rows.ensures.fits)
+    subst (λ m. tree_answer_fits c.args.combine ts m ≡ true) c.in-Ok.ensures.query
+    (subst (λ r. OnOk r (tree_answer_fits c.args.combine ts (tree c.in-Ok.typed.query) ≡ true)) c.in-Ok-told.ensures.rows c.direct_rows-rows.ensures.fits)
 
 pub returns-in-Err-told-clause-refused : goal.returns-in-Err-told-clause-refused
 returns-in-Err-told-clause-refused c =
     let ts = c.args.tables.now in
     let s = statement_tree c.args.statement.now in
-    let fit = tree_fits c.args.combine ts (tree c.in-Ok.typed.query) in
-    subst (λ b. AnswerCause (statement_defects ts s) b c.in-Err-told.fault) (ap (tree_fits c.args.combine ts) c.in-Ok.ensures.query)
+    let fit = tree_answer_fits c.args.combine ts (tree c.in-Ok.typed.query) in
+    subst (λ b. AnswerCause (statement_defects ts s) b c.in-Err-told.fault) (ap (tree_answer_fits c.args.combine ts) c.in-Ok.ensures.query)
     (rows_cause (statement_defects ts s) fit c.in-Err-told.fault c.in-Ok.ensures.typed (c.in-Err-told.ensures.refused fit c.direct_rows-rows.ensures.overflow))

@@ -7,7 +7,7 @@ use Rattle.au_expr.specs.Numbers.{of_values}
 use Rattle.au_expr.specs.Ordinary.{ordinary}
 use Rattle.au_algebra.specs.Trees.{tree}
 use Rattle.au_keval.specs.Reading.{fits}
-use Rattle.au_ua.specs.UaAnswers.{HoldsInEveryWorld, over_pairs, ua_answer}
+use Rattle.au_ua.specs.UaAnswers.{CountsHoldInEveryWorld, over_pairs, ua_answer}
 use Rattle.au_ua.specs.UaTables.{ua_table}
 use Rattle.au_ua.proofs.GuessFits.{ua_fits}
 use Rattle.au_ua.proofs.PrintedFits.{ua_text_fits}
@@ -34,7 +34,7 @@ pub returns-in-Ok-ua-clause-holds : goal.returns-in-Ok-ua-clause-holds
 returns-in-Ok-ua-clause-holds c =
     let same = c.as_slice.ensures.value ∙ c.in-Ok.ensures.rows in
     let q = tree c.args.typed.now.query in
-    subst (HoldsInEveryWorld q (blocks_of c.args.tables.now)) (c.in-Ok-ua.ensures.rows ∙ ap (ua_answer q) same)
+    subst (CountsHoldInEveryWorld q (blocks_of c.args.tables.now)) (c.in-Ok-ua.ensures.rows ∙ ap (ua_answer q) same)
     (c.in-Ok-ua.ensures.holds (blocks_of c.args.tables.now) c.in-Ok.ensures.tables same)
 
 pub returns-in-Ok-ua-clause-printed : goal.returns-in-Ok-ua-clause-printed

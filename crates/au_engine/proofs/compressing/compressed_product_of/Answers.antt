@@ -2,7 +2,7 @@
 use Rattle.std.proofs.Common.{◌≡◌, ◌∙◌, Err, ap, map, subst, sym}
 use Rattle.au_plain.specs.Plans.{plan_tree}
 use Rattle.au_exec.specs.Outcomes.{rows_of}
-use Rattle.au_engine.specs.Stages.{AddsCompressed, CanRun, Decodes, HaveSides, LeavesCompressed, LeavesRange}
+use Rattle.au_engine.specs.Stages.{AddsCompressed, CanRunPlan, Decodes, HaveSides, LeavesCompressed, LeavesRange}
 use Rattle.au_engine.proofs.CompressedPairs.{have_sides, left_side_leaves, multiplied, product_leaves, right_side_leaves}
 use Rattle.au_engine.proofs.Together.{at_equal, at_ok}
 use Rattle.au_engine.proofs.WholePlans.{from_two}
@@ -16,7 +16,7 @@ returns-in_err-left-clause-overflow g c e =
 
 pub side_of-second-requires-clause-runs : goal.side_of-second-requires-clause-runs
 side_of-second-requires-clause-runs g c κs within =
-    at_equal c.args.right c.in_ok-left.own (sym c.in_ok-left.ensures.values.1) (λ o. CanRun (map rows_of o.1.items) (plan_tree o.0.plan) o.0.layout.columns) c.requires.right
+    at_equal c.args.right c.in_ok-left.own (sym c.in_ok-left.ensures.values.1) (λ o. CanRunPlan (map rows_of o.1.items) (plan_tree o.0.plan) o.0.layout.columns) c.requires.right
 
 pub returns-in_err-right-clause-overflow : goal.returns-in_err-right-clause-overflow
 returns-in_err-right-clause-overflow g c e =

@@ -2,8 +2,8 @@
 use Rattle.std.proofs.Common.{ap, map, sym, subst, ◌∙◌, rules}
 use Rattle.std.specs.List.{AllZip, list_all}
 use Rattle.au_value.specs.Order.{data_kind}
+use Rattle.au_value.specs.Numeral.{is_i128}
 use Rattle.au_algebra.specs.Counted.{StandsFor}
-use Rattle.au_algebra.specs.Fits.{in_range}
 use Rattle.au_algebra.specs.Trees.{tree}
 use Rattle.au_engine.specs.Answers.{blocks_of, guess_tables}
 use Rattle.au_engine.proofs.GuessTables.{all_stand, can_guess, guess_widths, present_numbers}
@@ -29,10 +29,10 @@ pub returns-in-Ok-ordinary-clause-fits : goal.returns-in-Ok-ordinary-clause-fits
 returns-in-Ok-ordinary-clause-fits c =
     let same = c.as_slice.ensures.value ∙ c.in-Ok.ensures.rows in
     let present = present_numbers (tree c.args.typed.now.query) (blocks_of c.args.tables.now) c.as_slice.result.now same c.ordinary.ensures.present in
-    ap (list_all in_range) (sym present) ∙ c.in-Ok-ordinary.ensures.fits
+    ap (list_all is_i128) (sym present) ∙ c.in-Ok-ordinary.ensures.fits
 
 pub returns-in-Err-Overflow-clause-overflow : goal.returns-in-Err-Overflow-clause-overflow
 returns-in-Err-Overflow-clause-overflow c over =
     let same = c.as_slice.ensures.value ∙ c.in-Ok.ensures.rows in
     let present = present_numbers (tree c.args.typed.now.query) (blocks_of c.args.tables.now) c.as_slice.result.now same c.ordinary.ensures.present in
-    ap (list_all in_range) (sym present) ∙ c.in-Err-Overflow.ensures.overflow (search (rules, over))
+    ap (list_all is_i128) (sym present) ∙ c.in-Err-Overflow.ensures.overflow (search (rules, over))

@@ -2,11 +2,11 @@
 use Rattle.std.proofs.Common.{◌≡◌}
 use Rattle.std.specs.Vec.Iter.{into_iter_items}
 use Rattle.au_exec.specs.Merging.{absorb_all, absorbed_fit}
-use Rattle.au_exec.specs.Tables.{folded_of, table_of}
+use Rattle.au_exec.specs.Tables.{folded_of, groups_table}
 use Rattle.au_exec.proofs.merge.merged_groups.Given as goal
 
 abbrev pub invariant-loop-key : goal.invariant-loop-key
 invariant-loop-key l = record {
-  table : absorb_all (table_of l.groups) (folded_of (into_iter_items l.key-iterator)) ≡ absorb_all (table_of l.fn.first) (folded_of l.fn.second.held.items);
-  fits : absorbed_fit (table_of l.groups) (folded_of (into_iter_items l.key-iterator)) ≡ absorbed_fit (table_of l.fn.first) (folded_of l.fn.second.held.items);
+  table : absorb_all (groups_table l.groups) (folded_of (into_iter_items l.key-iterator)) ≡ absorb_all (groups_table l.fn.first) (folded_of l.fn.second.held.items);
+  fits : absorbed_fit (groups_table l.groups) (folded_of (into_iter_items l.key-iterator)) ≡ absorbed_fit (groups_table l.fn.first) (folded_of l.fn.second.held.items);
 }

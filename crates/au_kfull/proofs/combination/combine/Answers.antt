@@ -6,7 +6,7 @@ use Rattle.au_algebra.specs.Fits.{triples_fit}
 use Rattle.au_algebra.specs.Laws.{Guesses, IsRelation}
 use Rattle.au_algebra.proofs.DifferenceRelation.{combine_relation}
 use Rattle.au_algebra.proofs.Forms.{combine_keeps_both}
-use Rattle.au_kfull.specs.Gives.{Gives}
+use Rattle.au_kfull.specs.Gives.{GivesOrOverflows}
 use Rattle.au_kfull.specs.Keys.{HasKinds}
 use Rattle.au_kfull.proofs.DifferenceRows.{relation_kinds}
 use Rattle.au_kfull.proofs.GivesMore.{gives_ok, gives_fits, gives_overflow}
@@ -17,8 +17,8 @@ combined-requires c =
     let ks = c.requires.0 in
     (ks, subst (HasKinds ks) (sym (c.deref.ensures.value ∙ c.in_ok-lent.ensures ∙ c.rows.ensures)) (relation_kinds ks c.args.rel.now c.requires.1))
 
-given : (c : goal.After-drop-lent) → Gives c.combined.result (λ r. r ≡ combine c.args.rel.now) (triples_fit (combine c.args.rel.now))
-given c = subst (λ rows. Gives c.combined.result (λ r. r ≡ combine rows) (triples_fit (combine rows))) (c.deref.ensures.value ∙ c.in_ok-lent.ensures ∙ c.rows.ensures) c.combined.ensures
+given : (c : goal.After-drop-lent) → GivesOrOverflows c.combined.result (λ r. r ≡ combine c.args.rel.now) (triples_fit (combine c.args.rel.now))
+given c = subst (λ rows. GivesOrOverflows c.combined.result (λ r. r ≡ combine rows) (triples_fit (combine rows))) (c.deref.ensures.value ∙ c.in_ok-lent.ensures ∙ c.rows.ensures) c.combined.ensures
 
 pub returns-clause-rows : goal.returns-clause-rows
 returns-clause-rows c = gives_ok c.combined.result (λ r. r ≡ combine c.args.rel.now) (triples_fit (combine c.args.rel.now)) (given c) _ (λ r e. e)

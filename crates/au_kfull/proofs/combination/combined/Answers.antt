@@ -3,7 +3,7 @@ use Rattle.std.proofs.Common.{◌≡◌, ◌∙◌, ap, map, subst, sym}
 use Rattle.std.specs.List.{AllByRecursion}
 use Rattle.au_algebra.specs.Bounded.{combine}
 use Rattle.au_algebra.specs.Fits.{triples_fit}
-use Rattle.au_kfull.specs.Gives.{Gives}
+use Rattle.au_kfull.specs.Gives.{GivesOrOverflows}
 use Rattle.au_kfull.specs.Keys.{HasKinds}
 use Rattle.au_kfull.proofs.CombineRows.{combine_groups, groups_kinds, merged_group}
 use Rattle.au_kfull.proofs.PutRows.{Held}
@@ -17,4 +17,4 @@ all_merged-requires c =
 pub returns : goal.returns
 returns c =
     let all = ap (map merged_group) c.deref.ensures.value ∙ combine_groups c.args.rows.now c.in_ok-groups.groups.items c.in_ok-groups.ensures in
-    subst (λ q. Gives c.all_merged.result (λ r. r ≡ q) (triples_fit q)) all c.all_merged.ensures
+    subst (λ q. GivesOrOverflows c.all_merged.result (λ r. r ≡ q) (triples_fit q)) all c.all_merged.ensures

@@ -6,10 +6,10 @@ use Rattle.std.specs.List.{list_all}
 use Rattle.std.proofs.lemmas.Bool.{and_from}
 use borrow.Author.Tests.{lt-ltb}
 use Rattle.au_value.specs.Ranges.{guesses}
-use Rattle.au_annot.specs.Counts.{fits}
+use Rattle.au_value.specs.Numeral.{is_i128}
+use Rattle.au_annot.specs.Counts.{count_fits}
 use Rattle.au_algebra.specs.Bounded.{aggregate, grouped, group_counts}
 use Rattle.au_algebra.specs.Entries.{entry}
-use Rattle.au_algebra.specs.Fits.{in_range}
 use Rattle.au_kfull.specs.Keys.{keys_of}
 use Rattle.au_kfull.specs.Outputs.{made_output, made_fits}
 use Rattle.au_kfull.proofs.DifferenceRows.{and_false}
@@ -36,9 +36,9 @@ returns-in-Ok c =
     let belonging = c.deref.ensures.value ∙ h.belonging_are in
     let triple : c.in_ok-triple.triple ≡ group_counts (keys_of k) g.belonging = c.in_ok-triple.ensures.1 ∙ ap (group_counts (keys_of k)) belonging in
     let most = subst (λ rs. (group_counts (keys_of k) rs).most < 2 ^ 127) belonging c.in_ok-triple.ensures.0 in
-    let numbers = (λ i. list_all in_range (flat_map (λ a. sym (seen_numbers k rows guess box group h a) i) aggs)) ∙ c.in-Ok.ensures.1 in (
+    let numbers = (λ i. list_all is_i128 (flat_map (λ a. sym (seen_numbers k rows guess box group h a) i) aggs)) ∙ c.in-Ok.ensures.1 in (
       (λ i. entry (cells i) (triple i)),
-      and_from (fits (group_counts (keys_of k) g.belonging).most) _ (lt-ltb (group_counts (keys_of k) g.belonging).most (2 ^ 127) most) numbers,
+      and_from (count_fits (group_counts (keys_of k) g.belonging).most) _ (lt-ltb (group_counts (keys_of k) g.belonging).most (2 ^ 127) most) numbers,
     )
 
 pub returns-in_err-triple : goal.returns-in_err-triple
@@ -54,5 +54,5 @@ returns c e =
     let rows = c.args.rows.now in
     let guess = guesses (keys_of k c.args.head.now) in
     let g = grouped (keys_of k) rows guess in
-    let numbers = (λ i. list_all in_range (flat_map (λ a. sym (seen_numbers k rows guess c.in_ok-hull.hull.items c.in_ok-hull.group c.in_ok-hull.ensures a) i) c.args.aggs.now)) ∙ c.in-Err.ensures e in
-    and_false (fits (group_counts (keys_of k) g.belonging).most) _ numbers
+    let numbers = (λ i. list_all is_i128 (flat_map (λ a. sym (seen_numbers k rows guess c.in_ok-hull.hull.items c.in_ok-hull.group c.in_ok-hull.ensures a) i) c.args.aggs.now)) ∙ c.in-Err.ensures e in
+    and_false (count_fits (group_counts (keys_of k) g.belonging).most) _ numbers

@@ -2,9 +2,10 @@
 use Rattle.std.proofs.Common.{◌≡◌, ◌++◌, ◌∙◌, sym, subst, true, map}
 use Rattle.std.specs.Prelude.{flat_map}
 use Rattle.std.specs.List.{AllByRecursion, list_all}
+use Rattle.au_value.specs.Numeral.{is_i128}
 use Rattle.au_algebra.specs.Entries.{entry}
 use Rattle.au_algebra.specs.Bounded.{aggregate, all_rows}
-use Rattle.au_algebra.specs.Fits.{agg_numbers, in_range}
+use Rattle.au_algebra.specs.Fits.{agg_numbers}
 use Rattle.au_kfull.specs.declared.keys.Keys.TheVariants.{Leading}
 use Rattle.au_kfull.specs.Groups.{gathered}
 use Rattle.au_kfull.specs.Outputs.{CanAggregate, total_fits}
@@ -29,10 +30,10 @@ returns c =
     let whole : seen ≡ everything of = (λ i. gathered (Leading 0) true true (belonging i) (members i)) in
     let cells : c.new.result.items ++ map (aggregate seen) aggs ≡ map (aggregate (all_rows of)) aggs =
     (λ i. c.new.ensures.items i ++ map (aggregate (whole i)) aggs) ∙ (λ i. map (λ a. all_aggregate of a i) aggs) in
-    let fits : list_all in_range (flat_map (agg_numbers seen) aggs) ≡ total_fits aggs of =
-    (λ i. list_all in_range (flat_map (agg_numbers (whole i)) aggs)) ∙ (λ i. list_all in_range (flat_map (λ a. all_numbers of a i) aggs)) in
+    let fits : list_all is_i128 (flat_map (agg_numbers seen) aggs) ≡ total_fits aggs of =
+    (λ i. list_all is_i128 (flat_map (agg_numbers (whole i)) aggs)) ∙ (λ i. list_all is_i128 (flat_map (λ a. all_numbers of a i) aggs)) in
     gives_more c.push_aggregates.result
     (λ v. v.items ≡ c.new.result.items ++ map (aggregate seen) aggs) (λ v. v.items ≡ map (aggregate (all_rows of)) aggs)
-    (list_all in_range (flat_map (agg_numbers seen) aggs)) (total_fits aggs of)
+    (list_all is_i128 (flat_map (agg_numbers seen) aggs)) (total_fits aggs of)
     (λ v e. e ∙ cells) (λ h. sym fits ∙ h) (λ h. sym fits ∙ h)
     c.push_aggregates.ensures

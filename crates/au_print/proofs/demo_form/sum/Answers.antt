@@ -3,7 +3,7 @@ use Rattle.std.proofs.Common.{rules, ◌≡◌, ◌++◌, ◌∷◌, [], suc, sy
 use Rattle.std.proofs.lemmas.List.{map-append}
 use Rattle.au_value.specs.declared.range.Range.{Range}
 use Rattle.au_annot.specs.declared.Triple.{Triple}
-use Rattle.au_annot.specs.Triples.{Counts, plus, total, in_range}
+use Rattle.au_annot.specs.Triples.{Counts, plus, total_counts, in_range}
 use Rattle.au_algebra.specs.Entries.{entry}
 use Rattle.au_algebra.specs.Bounded.{RangeRow}
 use Rattle.au_print.proofs.PlacedRows.{item_next, item_split}
@@ -31,8 +31,8 @@ loop-triple-preserved c =
           c.in_ok-sum.ensures.sum
           ∙ ap (λ s. plus s item.1) c.loop-triple.invariant.sum
           ∙ sym (total_push (triples (take i rows)) item.1)
-          ∙ ap total (sym (triples_append (take i rows) (item ∷ [])))
-          ∙ ap (λ xs. total (triples xs)) (sym (item_next rows i item c.loop-triple-test.true c.loop-triple-item.is));
+          ∙ ap total_counts (sym (triples_append (take i rows) (item ∷ [])))
+          ∙ ap (λ xs. total_counts (triples xs)) (sym (item_next rows i item c.loop-triple-test.true c.loop-triple-item.is));
       fit = c.in_ok-sum.ensures.fit;
     }
 
@@ -43,7 +43,7 @@ returns-in_err-sum-clause-overflow c =
     let item = c.loop-triple-item.result in
     let past = ap (λ s. in_range (plus s item.1)) (sym c.loop-triple.invariant.sum) ∙ c.in_err-sum.ensures.overflow in
     let all =
-    ap (λ xs. in_range (total (triples xs))) (sym (item_split rows i item c.loop-triple-test.true c.loop-triple-item.is))
-    ∙ ap (λ ts. in_range (total ts)) (triples_append (take i rows) (item ∷ drop (suc i) rows))
+    ap (λ xs. in_range (total_counts (triples xs))) (sym (item_split rows i item c.loop-triple-test.true c.loop-triple-item.is))
+    ∙ ap (λ ts. in_range (total_counts ts)) (triples_append (take i rows) (item ∷ drop (suc i) rows))
     ∙ past_rest (triples (take i rows)) item.1 (triples (drop (suc i) rows)) past in
     search (rules, all)

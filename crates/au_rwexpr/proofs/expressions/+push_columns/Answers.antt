@@ -3,7 +3,7 @@ use Rattle.std.proofs.Common.{◌≡◌, ◌+◌, ◌++◌, length, map, rules, 
 use Rattle.au_expr.specs.Terms.{term}
 use Rattle.au_plain.specs.PTerms.{pterm}
 use Rattle.au_rwexpr.specs.Flatten.{case_step}
-use Rattle.au_rwexpr.specs.Nodes.{Adds, operator_step, terms_of}
+use Rattle.au_rwexpr.specs.Nodes.{AddsColumns, operator_step, terms_of}
 use Rattle.au_rwexpr.proofs.Flattening.{TwoParts, sum, difference, product, comparison, conjunction, disjunction, OnePart, negation, opposite, two_adds, one_adds, case_adds}
 use Rattle.au_rwexpr.proofs.expressions.+push_columns.Goals as goal
 
@@ -34,8 +34,8 @@ returns-in_ok-own-in-Add t c =
         ]
       ]
     ] in
-    let x : Adds w a old one i = search (rules, c.in_ok-left-in-Add.ensures) in
-    let y : Adds w b one two j = search (rules, c.in_ok-right-in-Add.ensures) in
+    let x : AddsColumns w a old one i = search (rules, c.in_ok-left-in-Add.ensures) in
+    let y : AddsColumns w b one two j = search (rules, c.in_ok-right-in-Add.ensures) in
     let is : own ≡ operator_step e i j = search (rules, c.in_ok-operator_node-in-Add.ensures) in
     let columns : map pterm new ≡ map pterm two ++ own = search (rules, c.in_ok-own-in-Add.ensures.columns) in
     let place : at ≡ w + length two = search (rules, c.in_ok-own-in-Add.ensures.place) in
@@ -53,7 +53,7 @@ returns-in_ok-own-in-Negate t c =
     let own = terms_of c.in_ok-operator_node-in-Negate.field-0 in
     let at = c.in_ok-own-in-Negate.own.first in
     let parts : OnePart e a = elim c.in-Negate.is [ inl h ↦ rw h negation | inr h ↦ rw h opposite ] in
-    let x : Adds w a old one i = search (rules, c.in_ok-part-in-Negate.ensures) in
+    let x : AddsColumns w a old one i = search (rules, c.in_ok-part-in-Negate.ensures) in
     let is : own ≡ operator_step e i i = search (rules, c.in_ok-operator_node-in-Negate.ensures) in
     let columns : map pterm new ≡ map pterm one ++ own = search (rules, c.in_ok-own-in-Negate.ensures.columns) in
     let place : at ≡ w + length one = search (rules, c.in_ok-own-in-Negate.ensures.place) in
@@ -75,9 +75,9 @@ returns-in_ok-own-in-Case t c =
     let j = c.in_ok-right-in-Case.right.first in
     let own = terms_of c.in_ok-case_node-in-Case.field-0 in
     let at = c.in_ok-own-in-Case.own.first in
-    let z : Adds w d old one m = search (rules, c.in_ok-test-in-Case.ensures) in
-    let x : Adds w a one two i = search (rules, c.in_ok-left-in-Case.ensures) in
-    let y : Adds w b two three j = search (rules, c.in_ok-right-in-Case.ensures) in
+    let z : AddsColumns w d old one m = search (rules, c.in_ok-test-in-Case.ensures) in
+    let x : AddsColumns w a one two i = search (rules, c.in_ok-left-in-Case.ensures) in
+    let y : AddsColumns w b two three j = search (rules, c.in_ok-right-in-Case.ensures) in
     let is : own ≡ case_step m i j = search (rules, c.in_ok-case_node-in-Case.ensures) in
     let columns : map pterm new ≡ map pterm three ++ own = search (rules, c.in_ok-own-in-Case.ensures.columns) in
     let place : at ≡ w + length three = search (rules, c.in_ok-own-in-Case.ensures.place) in

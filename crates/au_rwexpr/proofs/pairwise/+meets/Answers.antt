@@ -13,5 +13,5 @@ returns depth c =
     let a = c.in_ok-behind.field-0.first in
     let b = c.in_ok-behind-2.field-0.first in
     let step = meets_step i j a b c.in_ok-behind.ensures c.in_ok-behind-2.ensures c.args.columns (omega (arith, c.if-columns-eq0.false)) in
-    IfOk-weaker c.and.result _ (λ e. pterm e ≡ tests.meets i j c.args.columns)
+    IfOk-weaker c.and.result _ (λ e. pterm e ≡ tests.meets_term i j c.args.columns)
     (λ e is. is ∙ (λ k. And (c.in_ok-overlap.ensures k) (c.in_ok-rest.ensures k)) ∙ step) c.and.ensures

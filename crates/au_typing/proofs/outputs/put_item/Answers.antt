@@ -3,9 +3,10 @@ use Rattle.std.proofs.Common.{sym, subst}
 use Rattle.std.specs.Prelude.{IfErr}
 use Rattle.au_parse.specs.Views.{item_view, term_tree}
 use Rattle.au_typing.specs.Items.{item_faults}
-use Rattle.au_typing.specs.Results.{Refuses, scope_view, setting_view}
+use Rattle.au_typing.specs.Results.{scope_view, setting_view}
 use Rattle.au_typing.proofs.Stars.{value_refuses}
 use Rattle.au_typing.proofs.outputs.put_item.Goals as goal
+use Rattle.au_typing.specs.Queries.{Refuses}
 
 pub returns-in-Value-clause-fault : goal.returns-in-Value-clause-fault
 returns-in-Value-clause-fault c =

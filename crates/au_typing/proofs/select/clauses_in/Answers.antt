@@ -1,9 +1,10 @@
 -- A fault of a key, or of another clause.
 use Rattle.std.proofs.Common.{subst}
-use Rattle.au_typing.specs.Results.{Refuses, clauses_of, scope_view}
+use Rattle.au_typing.specs.Results.{clauses_of, scope_view}
 use Rattle.au_typing.specs.Selects.{clauses_faults, setting_of}
 use Rattle.au_typing.proofs.Clauses.{key_refuses}
 use Rattle.au_typing.proofs.select.clauses_in.Goals as goal
+use Rattle.au_typing.specs.Queries.{Refuses}
 
 pub returns-in-Err-terms_of : goal.returns-in-Err-terms_of
 returns-in-Err-terms_of c =

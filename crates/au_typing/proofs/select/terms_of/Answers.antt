@@ -3,9 +3,10 @@ use Rattle.std.proofs.Common.{map, subst, sym}
 use Rattle.std.specs.Prelude.{OnOk, IfErr}
 use Rattle.au_parse.specs.Views.{item_view}
 use Rattle.au_typing.specs.Items.{items_faults}
-use Rattle.au_typing.specs.Results.{ItemsFound, Refuses, TermsAnswer, clauses_of, scope_view, setting_view}
+use Rattle.au_typing.specs.Results.{ItemsFound, TermsAnswer, clauses_of, scope_view, setting_view}
 use Rattle.au_typing.proofs.Clauses.{terms_step}
 use Rattle.au_typing.proofs.select.terms_of.Goals as goal
+use Rattle.au_typing.specs.Queries.{Refuses}
 
 pub returns : goal.returns
 returns c =

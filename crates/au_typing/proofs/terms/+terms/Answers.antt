@@ -4,7 +4,7 @@ use Rattle.std.specs.Prelude.{Contains}
 use Rattle.au_parse.specs.Levels.{arms_tree, operator_of}
 use Rattle.au_parse.specs.Views.{term_tree}
 use Rattle.au_typing.specs.Results.{Answers, CaseAnswers, scope_view, setting_view}
-use Rattle.au_typing.specs.Terms.{aggregate_faults, counts, is_extreme}
+use Rattle.au_typing.specs.Terms.{aggregate_faults, is_counting, is_extreme}
 use Rattle.au_typing.proofs.Steps.{join_step, sign_step, choose_step, case_step, ends_case, aggregate_step, aggregate_misplaced}
 use Rattle.au_typing.proofs.terms.+terms.Goals as goal
 
@@ -56,13 +56,13 @@ typed_case-returns t c =
 
 pub typed_aggregate-returns-in-Some : goal.typed_aggregate-returns-in-Some
 typed_aggregate-returns-in-Some t c = λ around.
-    let here : Contains (aggregate_faults (setting_view c.args.setting.now) c.args.at (is_extreme c.args.word) (counts c.args.word (term_tree c.args.e.now))) c.in-Some.fault =
+    let here : Contains (aggregate_faults (setting_view c.args.setting.now) c.args.at (is_extreme c.args.word) (is_counting c.args.word (term_tree c.args.e.now))) c.in-Some.fault =
     rw (← c.is_extreme.ensures, ← c.counts.ensures) c.in-Some.ensures.some in
     aggregate_misplaced (scope_view c.args.scope.now) (setting_view c.args.setting.now) around c.args.at c.args.word (term_tree c.args.e.now) c.in-Some.fault here
 
 pub typed_aggregate-returns : goal.typed_aggregate-returns
 typed_aggregate-returns t c = λ around.
-    let sound : aggregate_faults (setting_view c.args.setting.now) c.args.at (is_extreme c.args.word) (counts c.args.word (term_tree c.args.e.now)) ≡ [] =
+    let sound : aggregate_faults (setting_view c.args.setting.now) c.args.at (is_extreme c.args.word) (is_counting c.args.word (term_tree c.args.e.now)) ≡ [] =
     rw (← c.is_extreme.ensures, ← c.counts.ensures) c.in_default.ensures.none in
     aggregate_step (scope_view c.args.scope.now) (setting_view c.args.setting.now) around c.args.at c.args.word (term_tree c.args.e.now)
     c.new-inside.result c.typed_term-argument.new.gathered c.args.gathered.now c.aggregated.new.gathered c.typed_term-argument.result c.aggregated.result

@@ -3,9 +3,9 @@ use Rattle.std.proofs.Common.{◌≡◌, ◌+◌, ◌≤◌, ◌<◌, ◌∙◌,
 use Rattle.std.specs.Prelude.{IfErr, IfOk, unwrap_or, flat_map}
 use Rattle.au_parse.specs.Statements.{sources_of}
 use Rattle.au_parse.specs.Views.{statement_tree}
-use Rattle.au_typing.specs.Queries.{relations, table_of, table_typing, typing}
+use Rattle.au_typing.specs.Queries.{relations, table_place, table_typing, typing, Refuses}
 use Rattle.au_typing.specs.Judged.{source_faults, source_item}
-use Rattle.au_typing.specs.Results.{Refuses, clauses_of, from_view}
+use Rattle.au_typing.specs.Results.{clauses_of, from_view}
 use Rattle.au_typing.proofs.Sizes.{query_size, sources_size}
 use Rattle.au_typing.proofs.Sources.{faults_within, name_or, select_is, select_judged, select_refuses, select_size, shown, shown_fault, size_within, source_size, table_item}
 use Rattle.au_typing.proofs.typed.+statements.Goals as goal
@@ -16,13 +16,13 @@ from_part-returns-in-Table-clause-item t c =
     let named : c.unwrap_or.result.now ≡ unwrap_or c.in-Table.alias c.in-Table.word =
     ap (λ b. b.now) c.unwrap_or.ensures ∙ name_or c.as_ref.result _ ∙ ap (λ o. unwrap_or o c.in-Table.word) c.as_ref.ensures.value in
     subst (λ item. IfOk c.visible.result (λ p. from_view p ≡ item)) (table_item tables c.in-Table.at c.in-Table.word c.unwrap_or.result.now c.in-Table.alias c.args.source.now c.in-Table.is named)
-    (shown (table_typing tables c.in-Table.at (table_of tables c.in-Table.word)) c.in-Table.at c.unwrap_or.result.now c.table-part.result c.visible.result c.table-part.ensures c.visible.ensures)
+    (shown (table_typing tables c.in-Table.at (table_place tables c.in-Table.word)) c.in-Table.at c.unwrap_or.result.now c.table-part.result c.visible.result c.table-part.ensures c.visible.ensures)
 
 pub from_part-returns-in-Table-clause-fault : goal.from_part-returns-in-Table-clause-fault
 from_part-returns-in-Table-clause-fault t c =
     let tables = relations c.args.schemas.now in
     subst (λ s. IfErr c.visible.result (Refuses (source_faults tables s))) (sym c.in-Table.is)
-    (shown_fault (table_typing tables c.in-Table.at (table_of tables c.in-Table.word)) c.in-Table.at c.unwrap_or.result.now c.table-part.result c.visible.result c.table-part.ensures c.visible.ensures)
+    (shown_fault (table_typing tables c.in-Table.at (table_place tables c.in-Table.word)) c.in-Table.at c.unwrap_or.result.now c.table-part.result c.visible.result c.table-part.ensures c.visible.ensures)
 
 pub query-sources-requires : goal.query-sources-requires
 query-sources-requires t c =

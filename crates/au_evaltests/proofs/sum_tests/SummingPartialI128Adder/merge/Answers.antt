@@ -1,13 +1,13 @@
 use Rattle.std.proofs.Common.{◌+◌, ◌^◌, ◌<◌, ◌++◌, refl, ap, sym, ◌∙◌, arith, le-leb, lt_of_not-le, true≢false}
 use borrow.Author.Tests.{lt-leb}
-use Rattle.au_value.specs.Joining.{joined}
+use Rattle.au_value.specs.Joining.{joined_sum}
 use Rattle.au_evaltests.specs.Summed.{summed}
 use Rattle.au_evaltests.specs.SumLaws.{summed-append}
 use Rattle.au_evaltests.proofs.sum_tests.SummingPartialI128Adder.merge.Goals as goal
 
 pub returns-in-Ok : goal.returns-in-Ok
 returns-in-Ok c = λ xs ys _ _ a b.
-    let whole = c.in-Ok.ensures.sum ∙ ((λ i. joined (a.0 i) (b.0 i)) ∙ sym (summed-append xs ys)) in
+    let whole = c.in-Ok.ensures.sum ∙ ((λ i. joined_sum (a.0 i) (b.0 i)) ∙ sym (summed-append xs ys)) in
     let parts = ap (λ s. s.magnitude) c.in-Ok.ensures.sum in
     let all = ap (λ s. s.magnitude) whole in
     let small : c.args.first.magnitude + c.args.second.magnitude < 2 ^ 127 = lt_of_not-le (λ h. true≢false (sym (c.in-Ok.ensures.overflow.1 h))) in

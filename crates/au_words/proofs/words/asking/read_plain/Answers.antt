@@ -1,7 +1,7 @@
 -- The path and the tables are what the matches hold.
 use Rattle.std.proofs.Common.{◌≡◌, ◌∙◌, ap, drop, Some, map, subst}
 use Rattle.std.specs.Prelude.{is_some}
-use Rattle.au_words.specs.Words.{first_word, later_words, table_of, table_fault}
+use Rattle.au_words.specs.Words.{first_word, later_words, named_path, table_fault}
 use Rattle.au_words.specs.CommandLine.{IsUsage, texts}
 use Rattle.au_words.proofs.AskedWords.{several_plain, text_is, texts_are}
 use Rattle.au_words.proofs.words.asking.read_plain.Goals as goal
@@ -17,7 +17,7 @@ pub returns-in-Ok-read_tables-clause-tables : goal.returns-in-Ok-read_tables-cla
 returns-in-Ok-read_tables-clause-tables c =
     let line = texts c.args.words.now in
     let later = texts_are _ (later_words (drop 1 line)) (texts c.texts_at.result.now) (c.in-Ok.ensures.later (several_plain line c.requires)) c.texts_at.ensures in
-    c.in-Ok-read_tables.ensures.tables ∙ ap (map table_of) later
+    c.in-Ok-read_tables.ensures.tables ∙ ap (map named_path) later
 
 pub returns-clause-refused : goal.returns-clause-refused
 returns-clause-refused c =
