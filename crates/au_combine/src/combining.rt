@@ -8,9 +8,9 @@ ghost use Rattle.au_combine.specs.Boxes.{combine_plan as combined};
 ghost use Rattle.au_combine.specs.Gives.{Combines};
 
 use crate::groups::boxes;
-use au_plain::{Layout, PAgg, Plan, beside};
+use au_plain::{Layout, PAgg, Plan};
 use au_rwexpr::RangeColumns;
-use au_value::NoMemory;
+use au_value::{NoMemory, beside};
 use std::alloc::Global;
 
 /// One row for all rows of a plan with the same guesses: the hulls of their ranges, and the sum of their triples.

@@ -6,8 +6,8 @@ ghost use Rattle.au_rwexpr.specs.Cells.{run};
 ghost use Rattle.au_combine.specs.Boxes.{box_aggs, boxes as boxed, sg_places, weave};
 
 use crate::places::{push_ends, push_guesses, push_run, push_woven};
-use au_plain::{PAgg, Plan, beside, both, keep};
-use au_value::NoMemory;
+use au_plain::{PAgg, Plan, keep};
+use au_value::{NoMemory, beside, both};
 use std::alloc::Global;
 
 /// One row for each list of values in these places: the values, then the aggregates over the rows that have them.

@@ -17,8 +17,8 @@ use au_compress::{compressed, guess_part};
 use au_encode::{decode, encode};
 use au_expr::EvalFault;
 use au_par::Gate;
-use au_plain::{PRow, beside};
-use au_value::{NoMemory, Range};
+use au_plain::PRow;
+use au_value::{NoMemory, Range, beside};
 use std::alloc::Global;
 use std::thread::Threads;
 

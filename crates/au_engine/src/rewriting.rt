@@ -12,10 +12,10 @@ use crate::steps::{
     select_of, total_of, union_of,
 };
 use au_algebra::Query;
-use au_plain::{Plan, beside};
+use au_plain::Plan;
 use au_sqltext::read_numbers;
 use au_typing::{Schema, Typed};
-use au_value::NoMemory;
+use au_value::{NoMemory, beside};
 use std::alloc::Global;
 
 /// The plan of a typed tree over the encoded rows of tables, of which the i-th has the columns of the i-th schema. The

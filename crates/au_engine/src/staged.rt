@@ -26,8 +26,8 @@ use au_algebra::Query;
 use au_blocks::Table;
 use au_expr::EvalFault;
 use au_par::Gate;
-use au_plain::{PRow, beside};
-use au_value::Word;
+use au_plain::PRow;
+use au_value::{Word, beside};
 use std::alloc::Global;
 use std::thread::Threads;
 

@@ -10,8 +10,8 @@ ghost use Rattle.au_passes.specs.Reading.{agg_column, at_least_one, chosen, mark
 
 use crate::reads::{chosen_aggs, count, mark_aggs, mark_one, marked, places_read, push_ranks};
 use crate::renumber::{all_found, renumber, renumber_aggs};
-use au_plain::{PAgg, PExpr, Plan, beside, both, width_of};
-use au_value::NoMemory;
+use au_plain::{PAgg, PExpr, Plan, width_of};
+use au_value::{NoMemory, beside, both};
 use std::alloc::Global;
 
 /// A plan with columns of another one.

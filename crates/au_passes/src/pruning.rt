@@ -11,8 +11,8 @@ use crate::narrow::{
     keep_columns, kept_columns, leave_out, union, union_sides, whole, width,
 };
 use crate::reads::{all_read, marked, places_read, reads_last, with_reads, without_last};
-use au_plain::{Plan, beside, both};
-use au_value::NoMemory;
+use au_plain::Plan;
+use au_value::{NoMemory, beside, both};
 use std::alloc::Global;
 
 /// The plan without the columns that nobody reads.

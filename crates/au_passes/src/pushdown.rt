@@ -27,8 +27,8 @@ use crate::columns::{
     is_without_arithmetic,
 };
 use crate::conjuncts::{condition_of, push_conjuncts};
-use au_plain::{PExpr, Plan, beside, both, copy_expr, extend, group, join, keep, union, width_of};
-use au_value::NoMemory;
+use au_plain::{PExpr, Plan, copy_expr, extend, group, join, keep, union, width_of};
+use au_value::{NoMemory, beside, both};
 use std::alloc::Global;
 
 /// The plan with the conjuncts of its filters tested as near to the tables as they can be, with the same rows in the

@@ -7,10 +7,9 @@ ghost use Rattle.au_plain.specs.Copies.{with_part, with_parts};
 use crate::expr::PExpr;
 use crate::plan::{PAgg, Plan};
 use crate::plans::{extend, filter, group, join, keep, union};
-use crate::results::both;
 use crate::rows::copy_rows;
 use crate::terms::{add, and, case, compare, multiply, negate, not, or, subtract};
-use au_value::{NoMemory, copy};
+use au_value::{NoMemory, both, copy};
 use std::alloc::Global;
 
 /// A copy of a plan, with copies of the rows and the values in it.

@@ -3,7 +3,7 @@
 //! A [`Plan`] is a tree of operators over tables of [`PRow`]s, with columns by place and expressions [`PExpr`]. What a
 //! plan means on lists of rows, which plans are typed, and the numbers that a plan makes, are the definitions in specs/
 //! (see docs/SEMANTICS.md). Calls such as [`add`] and [`extend`] make terms and plans, one node at a time;
-//! [`copy_expr`] and [`copy_plan`] copy them, and [`both`] and [`beside`] join what was made side by side.
+//! [`copy_expr`] and [`copy_plan`] copy them.
 //!
 //! ```text
 //! let twice = add(alloc, PExpr::Column(0), PExpr::Column(0))?;
@@ -19,7 +19,6 @@ mod expr;
 mod layout;
 mod plan;
 mod plans;
-mod results;
 mod rows;
 mod terms;
 mod width;
@@ -29,7 +28,6 @@ pub use expr::{Comparison2, PExpr};
 pub use layout::{Layout, Steps};
 pub use plan::{PAgg, PRow, Plan};
 pub use plans::{extend, extend_all, filter, group, join, keep, union};
-pub use results::{beside, both};
 pub use rows::copy_rows;
 pub use terms::{
     add, and, case, compare, greatest_of_two, least_of_two, multiply, negate, not, or, subtract,

@@ -7,8 +7,7 @@ ghost use Rattle.au_plain.specs.Plans as tree;
 
 use crate::expr::PExpr;
 use crate::plan::{PAgg, Plan};
-use crate::results::{beside, both};
-use au_value::NoMemory;
+use au_value::{NoMemory, beside, both};
 use std::alloc::Global;
 
 /// The plan with a column added.

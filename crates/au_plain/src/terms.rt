@@ -5,8 +5,7 @@ ghost use Rattle.au_plain.specs.PTerms as term;
 ghost use Rattle.au_plain.specs.PTerms.{greatest_of_two as greatest, least_of_two as least};
 
 use crate::expr::{Comparison2, PExpr};
-use crate::results::{beside, both};
-use au_value::NoMemory;
+use au_value::{NoMemory, beside, both};
 use std::alloc::Global;
 
 /// `a + b`

@@ -5,8 +5,8 @@ ghost use Rattle.au_plan.specs.Made.{MadeOf, MadeOfTwo};
 ghost use Rattle.au_physical.specs.Physicals as tree;
 
 use au_physical::Physical;
-use au_plain::{PAgg, PExpr, beside, both};
-use au_value::NoMemory;
+use au_plain::{PAgg, PExpr};
+use au_value::{NoMemory, beside, both};
 use std::alloc::Global;
 
 /// What was made, in a box, or the fault that hindered it.

@@ -11,9 +11,9 @@ ghost use Rattle.au_rwcore.specs.Core.{project_plan as projected};
 ghost use Rattle.au_rwcore.specs.Gives.{Projects};
 
 use au_expr::Expr;
-use au_plain::{Layout, PExpr, Plan, beside, extend_all, keep};
+use au_plain::{Layout, PExpr, Plan, extend_all, keep};
 use au_rwexpr::{RangeColumns, push_columns, push_three, width_of};
-use au_value::NoMemory;
+use au_value::{NoMemory, beside};
 use std::alloc::Global;
 
 /// The ranges of the items on each row of a plan, in their order, with the row's triple.

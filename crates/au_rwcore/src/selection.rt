@@ -12,9 +12,9 @@ ghost use Rattle.au_rwcore.specs.Core.{select_plan as selected, weighed};
 ghost use Rattle.au_rwcore.specs.Gives.{Selects};
 
 use au_expr::Expr;
-use au_plain::{Layout, PExpr, Plan, beside, both, case, extend, extend_all, filter, keep};
+use au_plain::{Layout, PExpr, Plan, case, extend, extend_all, filter, keep};
 use au_rwexpr::{RangeColumns, behind, push_cells, push_columns, width_of};
-use au_value::{NoMemory, Value};
+use au_value::{NoMemory, Value, beside, both};
 use std::alloc::Global;
 
 /// The rows of a plan for which the condition is possible, with the triple multiplied by the condition's.

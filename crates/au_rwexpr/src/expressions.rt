@@ -9,8 +9,8 @@ ghost use Rattle.au_rwexpr.specs.Nodes.{AddsColumns, nodes, terms_of};
 use crate::nodes::{Node, case_node, column_node, literal_node, operator_node};
 use crate::range_columns::{RangeColumns, width_of};
 use au_expr::Expr;
-use au_plain::{Layout, PExpr, Steps, beside};
-use au_value::NoMemory;
+use au_plain::{Layout, PExpr, Steps};
+use au_value::{NoMemory, beside};
 use std::alloc::Global;
 
 /// The columns of an expression over encoded rows: three for each node, after those of its parts. The last three hold

@@ -9,10 +9,10 @@ ghost use Rattle.au_rwexpr.specs.Nodes.{operator_step, terms_of};
 use crate::range_columns::RangeColumns;
 use au_expr::Expr;
 use au_plain::{
-    Comparison2, PExpr, add, and, beside, both, case, compare, greatest_of_two, least_of_two,
-    multiply, negate, not, or, subtract,
+    Comparison2, PExpr, add, and, case, compare, greatest_of_two, least_of_two, multiply, negate,
+    not, or, subtract,
 };
-use au_value::{Comparison, NoMemory, Value, copy};
+use au_value::{Comparison, NoMemory, Value, beside, both, copy};
 use std::alloc::Global;
 
 /// The terms of a lower end, a guess and an upper end.

@@ -6,9 +6,9 @@ ghost use Rattle.au_rwexpr.specs.Counts.{one_term, positive as is_positive, zero
 ghost use Rattle.au_rwgroup.specs.Groups.{all_sure as are_sure};
 ghost use Rattle.au_rwgroup.specs.Totals.{signed as signed_term};
 
-use au_plain::{Comparison2, PExpr, and, both, case, compare, multiply};
+use au_plain::{Comparison2, PExpr, and, case, compare, multiply};
 use au_rwexpr::{RangeColumns, behind};
-use au_value::{NoMemory, Value};
+use au_value::{NoMemory, Value, both};
 use std::alloc::Global;
 
 pub(crate) fn zero() -> PExpr

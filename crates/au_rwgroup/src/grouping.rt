@@ -21,9 +21,9 @@ use crate::member_columns::all_member_columns;
 use crate::result_columns::{all_result_columns, result_places};
 use au_algebra::Agg;
 use au_combine::{group as grouped, push_run};
-use au_plain::{Layout, PAgg, PExpr, Plan, beside, both, copy_plan, extend_all, join, keep};
+use au_plain::{Layout, PAgg, PExpr, Plan, copy_plan, extend_all, join, keep};
 use au_rwexpr::{RangeColumns, meets};
-use au_value::NoMemory;
+use au_value::{NoMemory, beside, both};
 use std::alloc::Global;
 
 /// One row for each list of guesses of the first so many columns of a plan's rows: the hulls of these keys, and the

@@ -12,9 +12,9 @@ ghost use Rattle.au_rwgroup.specs.Groups.{all_sure as are_sure, first_aggs, firs
 
 use crate::count_terms::{all_sure, one, positive, zero};
 use au_combine::{boxes, push_run};
-use au_plain::{PAgg, PExpr, Plan, add, and, beside, both, case, extend, extend_all, keep};
+use au_plain::{PAgg, PExpr, Plan, add, and, case, extend, extend_all, keep};
 use au_rwexpr::{RangeColumns, behind, push_cells};
-use au_value::NoMemory;
+use au_value::{NoMemory, beside, both};
 use std::alloc::Global;
 
 /// One row for each list of guesses of the first so many columns of a plan's rows: the hulls of these keys, the triple

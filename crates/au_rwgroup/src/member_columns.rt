@@ -13,9 +13,9 @@ use crate::guessed_keys::four;
 use crate::joined_row::JoinedRow;
 use crate::pair_tests::push_tests;
 use au_algebra::Agg;
-use au_plain::{PExpr, both, case, multiply};
+use au_plain::{PExpr, case, multiply};
 use au_rwexpr::RangeColumns;
-use au_value::NoMemory;
+use au_value::{NoMemory, both};
 use std::alloc::Global;
 
 /// The columns that are added to each pair of a box and a row: the tests, four for each aggregate, and whether the row

@@ -11,9 +11,9 @@ ghost use Rattle.au_rwgroup.specs.JoinedPlaces.{places_of};
 
 use crate::count_terms::{all_sure, positive, zero};
 use crate::joined_row::JoinedRow;
-use au_plain::{PExpr, and, both, case};
+use au_plain::{PExpr, and, case};
 use au_rwexpr::{RangeColumns, same_guesses};
-use au_value::NoMemory;
+use au_value::{NoMemory, both};
 use std::alloc::Global;
 
 /// Adds the tests, and then how many copies are sure, whether one is, and whether one is in the guess world.

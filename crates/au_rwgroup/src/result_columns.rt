@@ -8,9 +8,9 @@ ghost use Rattle.au_rwgroup.specs.GroupPlan as plan;
 
 use crate::count_terms::positive;
 use au_algebra::Agg;
-use au_plain::{PExpr, beside, case};
+use au_plain::{PExpr, case};
 use au_rwexpr::{RangeColumns, push_cells, push_three};
-use au_value::NoMemory;
+use au_value::{NoMemory, beside};
 use std::alloc::Global;
 
 /// Where a group's row tells that some row is surely there, and how many copies the group has in the guess world.

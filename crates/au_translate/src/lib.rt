@@ -1,9 +1,10 @@
 //! Block tables as relations: with bounds over all worlds, and as they are in the guess world.
 //!
-//! [`bounded`] makes a row of ranges with a triple of each block, and [`encoded`] the same rows as plain rows;
-//! [`bounded_rows`] and [`encoded_blocks`] make those of some of a table's blocks. [`guessed`] gives the rows of the guess
-//! world, each with its number of copies. [`bounded_answer_holds`] is the law on whole queries over such tables: the bounded answer bounds the ordinary
-//! answer in every world, and its guesses are the ordinary answer in the guess world.
+//! [`bounded`] makes a row of ranges with a triple of each block, and [`encoded`] the same rows as plain rows, which
+//! [`encoded_by`] makes by several workers; [`bounded_rows`] and [`encoded_blocks`] make those of some of a table's blocks.
+//! [`guessed`] gives the rows of the guess world, each with its number of copies. [`bounded_answer_holds`] is the law on
+//! whole queries over such tables: the bounded answer bounds the ordinary answer in every world, and its guesses are the
+//! ordinary answer in the guess world.
 //!
 //! ```text
 //! let rows = bounded(alloc, &table)?;

@@ -2,7 +2,7 @@
 use Rattle.std.specs.Prelude.{◌≡◌, Option, Result, Ok, Err}
 use Rattle.std.proofs.Common.{refl, sym, ap, ◌∙◌}
 use Rattle.au_expr.specs.declared.expr.Expr.{Expr}
-use Rattle.au_typing.specs.Joined.{both_results}
+use Rattle.au_value.specs.Results.{both_results}
 use Rattle.au_typing.specs.Results.{all_terms}
 use Rattle.au_typing.specs.declared.fault.TypingFault.{TypingFault}
 use Rattle.au_typing.specs.declared.outputs.Outputs.{Outputs}

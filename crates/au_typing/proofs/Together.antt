@@ -1,7 +1,8 @@
 -- What is made of results that were joined is made of the results themselves.
 use Rattle.std.specs.Prelude.{◌≡◌, Result, Ok, Err}
 use Rattle.std.proofs.Common.{subst}
-use Rattle.au_typing.specs.Joined.{OfPair, OfTriple, both_results}
+use Rattle.au_value.specs.Results.{both_results}
+use Rattle.au_typing.specs.Joined.{OfPair, OfTriple}
 use Rattle.au_typing.specs.Results.{OfTwo, OfThree}
 use Rattle.au_typing.specs.declared.fault.TypingFault.{TypingFault}
 

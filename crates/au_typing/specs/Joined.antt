@@ -9,12 +9,6 @@ use Rattle.au_typing.specs.Scales.{rescaled}
 use Rattle.au_typing.specs.Terms.{operated, operator_kind, when_kind}
 use Rattle.au_typing.specs.declared.fault.TypingFault.{TypingFault}
 
--- both values, or else the first fault
-abbrev pub both_results : {A B E : Type 0} → Result A E → Result B E → Result (A × B) E
-both_results (Ok a) (Ok b) = Ok (a, b)
-both_results (Ok a) (Err f) = Err f
-both_results (Err f) b = Err f
-
 -- An answer is made of a pair, or of a pair beside a third, and a fault is handed on.
 abbrev pub OfPair : {A B R : Type 0} → (A → B → Result R TypingFault → Type 0) → Result (A × B) TypingFault → Result R TypingFault → Type 0
 OfPair Made parts r = OfOne (λ p. Made p.0 p.1) parts r

@@ -13,7 +13,6 @@
 
 mod fault;
 mod outputs;
-mod results;
 mod scales;
 mod schema;
 mod scope;

@@ -15,7 +15,6 @@ ghost use Rattle.au_typing.specs.Queries.{Refuses};
 
 use crate::fault::TypingFault;
 use crate::outputs::{Outputs, put_item};
-use crate::results::{both, together};
 use crate::scope::{Field, Scope, column, same_word};
 use crate::setting::{Gathered, Groups, Setting};
 use crate::shape::{Shape, shape_of};
@@ -24,7 +23,7 @@ use au_algebra::Query;
 use au_blocks::Column;
 use au_expr::Expr;
 use au_parse::{Item, Name, SelectPart, Term};
-use au_value::{Kind, NoMemory, Word};
+use au_value::{Kind, NoMemory, Word, beside, both};
 use std::alloc::Global;
 
 /// A well-typed query: its tree, the names and kinds of its columns, and whether one of its SELECTs joins.
@@ -281,8 +280,8 @@ fn projected(
 ) -> Result<Box<Query>, NoMemory>
     ensures { IfOk result (λ q. tree q.value ≡ Project (map column keys.now ++ map term others.items) (tree query)) }
 {
-    let (columns, query) = together(arguments(alloc, keys, others), query)?;
-    let (query, columns) = together(Box::new(alloc, query), columns)?;
+    let (columns, query) = beside(arguments(alloc, keys, others), query)?;
+    let (query, columns) = beside(Box::new(alloc, query), columns)?;
     Ok(Box::new(alloc, Query::Project(columns, query))?)
 }
 
@@ -298,7 +297,7 @@ fn grouped(
     let by = groups.by;
     let keys = groups.keys.len();
     let rows = projected(alloc, groups.keys.as_slice(), gathered.arguments, query);
-    let (rows, aggs) = together(rows, gathered.aggs)?;
+    let (rows, aggs) = beside(rows, gathered.aggs)?;
     if by {
         Ok(Query::Group(keys, aggs, rows))
     } else {
@@ -385,7 +384,7 @@ fn all_terms(
 {
     let first = both(filter, items);
     let terms = both(first, having);
-    match together(terms, (gathered, outputs)) {
+    match beside(terms, (gathered, outputs)) {
         Ok(held) => Ok(ClauseTerms {
             filter: held.0.0.0,
             having: held.0.1,
@@ -461,7 +460,7 @@ fn body(
     ensures { IfOk result (λ q. tree q ≡ held_body setting (option_map term filter) (option_map term having) gathered (tree query)) }
 {
     let others = (setting, (having, gathered));
-    let (rows, others) = together(selected(alloc, filter, query), others)?;
+    let (rows, others) = beside(selected(alloc, filter, query), others)?;
     let (setting, (having, gathered)) = others;
     match setting {
         Setting::Rows => Ok(rows),
@@ -512,7 +511,7 @@ pub(crate) fn select(
     let joins = is_join(from.as_slice());
     match clauses_over(alloc, part, from.as_slice()) {
         Ok((setting, terms)) => {
-            let (rows, (setting, terms)) = together(product(alloc, from), (setting, terms))?;
+            let (rows, (setting, terms)) = beside(product(alloc, from), (setting, terms))?;
             Ok(part_of(alloc, part.distinct, joins, setting, terms, rows)?)
         }
         Err(fault) => Err(fault),

@@ -16,14 +16,13 @@ ghost use Rattle.au_value.specs.declared.value.Value.TheVariants as value;
 ghost use Rattle.au_typing.specs.Terms.{aggregate_faults, aggregate_kind, column_term, key_of, is_counting, is_extreme, names_column, scaled_operand, operated, operation as operation_of, operator_kind, place_faults, term_kind, when_kind};
 
 use crate::fault::TypingFault;
-use crate::results::{both, together};
 use crate::scales::{common_kind, number_if, product_kind, rescaled, sum_kind};
 use crate::scope::{Scope, column};
 use crate::setting::{Gathered, Setting};
 use crate::shape::{Shape, Sign, shape_of};
 use au_expr::Expr;
 use au_parse::{AggWord, Name, Operation, Term};
-use au_value::{Kind, NoMemory, Value, Word};
+use au_value::{Kind, NoMemory, Value, Word, beside, both};
 use std::alloc::Global;
 
 /// The expression of the column at this place, over what a term stands over. The number is the place of what names it.
@@ -208,7 +207,7 @@ fn brought(
     ensures { IfOk result (λ e. term e ≡ Case (term condition) (rescaled (Some own) to (term value)) (term rest)) }
 {
     let others = (condition, rest);
-    let (value, (condition, rest)) = together(rescaled(alloc, own, to, value), others)?;
+    let (value, (condition, rest)) = beside(rescaled(alloc, own, to, value), others)?;
     chosen(alloc, condition, value, rest)
 }
 

@@ -13,7 +13,6 @@ ghost use Rattle.au_typing.specs.Judged.{Brings, FewDigits, Judges, JudgesSides,
 ghost use Rattle.au_typing.specs.Results.{from_view, part_typing};
 
 use crate::fault::TypingFault;
-use crate::results::{both, together};
 use crate::scales::{common_kind, rescaled, scale};
 use crate::schema::Schema;
 use crate::scope::same_word;
@@ -22,7 +21,7 @@ use au_algebra::Query;
 use au_blocks::{Column, copy_columns};
 use au_expr::Expr;
 use au_parse::{Source, Statement};
-use au_value::{Kind, NoMemory, Word};
+use au_value::{Kind, NoMemory, Word, beside, both};
 use std::alloc::Global;
 
 /// A well-typed statement: its tree, and the name and the kind of each column.
@@ -174,7 +173,7 @@ fn side(alloc: Global, columns: &[Column], own: &[Column], query: Query) -> Resu
     ensures { IfOk result (λ q. tree q ≡ side_tree columns.now own.now (tree query)) }
 {
     if is_narrower(own, columns) {
-        let (exprs, query) = together(brought(alloc, own, columns), query)?;
+        let (exprs, query) = beside(brought(alloc, own, columns), query)?;
         Ok(Query::Project(exprs, Box::new(alloc, query)?))
     } else {
         Ok(query)
@@ -224,7 +223,7 @@ fn bring_to(
 {
     let left = side_of(alloc, columns.as_slice(), left);
     let right = side_of(alloc, columns.as_slice(), right);
-    let ((left, right), columns) = together(both(left, right), columns)?;
+    let ((left, right), columns) = beside(both(left, right), columns)?;
     Ok(Fitted {
         left,
         right,
@@ -239,7 +238,7 @@ fn bring(alloc: Global, at: usize, left: Part, right: Part) -> Result<Fitted, Ty
 {
     let joins = left.joins || right.joins;
     let columns = fitted_columns(alloc, at, left.columns.as_slice(), right.columns.as_slice());
-    match together(columns, (left, right)) {
+    match beside(columns, (left, right)) {
         Ok((columns, (left, right))) => Ok(bring_to(alloc, columns, joins, left, right)?),
         Err(fault) => Err(fault),
     }
@@ -257,7 +256,7 @@ fn united(alloc: Global, all: bool, left: Query, right: Query) -> Result<Query, 
 fn lessened(alloc: Global, all: bool, left: Query, right: Query) -> Result<Query, NoMemory>
     ensures { IfOk result (λ q. tree q ≡ set_tree SetWord.except all (tree left) (tree right)) }
 {
-    let (left, right) = together(distinct_if(alloc, !all, left), right)?;
+    let (left, right) = beside(distinct_if(alloc, !all, left), right)?;
     let (left, right) = both(Box::new(alloc, left), Box::new(alloc, right))?;
     Ok(Query::Difference(left, right))
 }
@@ -270,7 +269,7 @@ fn union(alloc: Global, all: bool, at: usize, left: Part, right: Part) -> Result
         Ok(sides) => {
             let joins = sides.joins;
             let query = united(alloc, all, sides.left, sides.right);
-            let (query, columns) = together(query, sides.columns)?;
+            let (query, columns) = beside(query, sides.columns)?;
             Ok(Part {
                 query,
                 columns,
@@ -289,7 +288,7 @@ fn except(alloc: Global, all: bool, at: usize, left: Part, right: Part) -> Resul
         Ok(sides) => {
             let joins = sides.joins;
             let query = lessened(alloc, all, sides.left, sides.right);
-            let (query, columns) = together(query, sides.columns)?;
+            let (query, columns) = beside(query, sides.columns)?;
             Ok(Part {
                 query,
                 columns,
@@ -407,7 +406,7 @@ fn with_columns(alloc: Global, query: Query, columns: Vec<Column>) -> Result<Typ
     ensures names { IfOk result (λ t. t.names.items ≡ map (λ c. c.name) columns.items) }
     ensures kinds { IfOk result (λ t. t.kinds.items ≡ kinds_of_columns columns.items) }
 {
-    let ((names, kinds), query) = together(names_and_kinds(alloc, columns), query)?;
+    let ((names, kinds), query) = beside(names_and_kinds(alloc, columns), query)?;
     Ok(Typed {
         query,
         names,

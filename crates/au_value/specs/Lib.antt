@@ -6,6 +6,7 @@ pub mod Numeral
 pub mod Decimal
 pub mod Adding
 pub mod Joining
+pub mod Results
 pub mod Laws
 -- What the contracts of inner calls and the proofs speak of.
 pub mod KindLaws

@@ -197,7 +197,7 @@ narrow-returns-in_ok-made-in-Join-clause-narrowed t c =
     let wide = c.in_ok-width-in-Join.ensures ∙ ap (λ b. plan_width (plan_tree b)) (c.deref-in-Join.ensures ∙ sym c.into_inner-in-Join.ensures) in
     let sides = c.in_ok-sides-in-Join.sides in
     let made = c.in_ok-made-in-Join in
-    let ways = IfOk-at_ok _ made.ensures.values.0 c.both.ensures in
+    let ways = IfOk-at_ok _ made.ensures.values.0 c.both.ensures.values in
     let left = c.narrow_to-left.ensures in
     let right = c.narrow_to-right.ensures in
     IfOk-weaker c.join.result _ _ (λ n f.
@@ -213,7 +213,7 @@ pub narrow-returns-in_ok-made-in-Join-clause-count : goal.narrow-returns-in_ok-m
 narrow-returns-in_ok-made-in-Join-clause-count t c =
     let sides = c.in_ok-sides-in-Join.sides in
     let made = c.in_ok-made-in-Join in
-    let ways = IfOk-at_ok _ made.ensures.values.0 c.both.ensures in
+    let ways = IfOk-at_ok _ made.ensures.values.0 c.both.ensures.values in
     IfOk-weaker c.join.result _ _ (λ n f.
     join_counts sides.left.items sides.right.items (renumbered sides.found.items (pterm made.made.1)) (plan_tree made.made.0.0)
     (plan_tree made.made.0.1) (plan_tree n.plan) sides.count n.count c.in_ok-sides-in-Join.ensures.found.1

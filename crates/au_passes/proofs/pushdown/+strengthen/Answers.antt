@@ -43,7 +43,7 @@ returns-in_ok-made-in-Join t c =
     let right = plan_tree c.into_inner-right.result in
     let sides = c.in_ok-sides-in-Join in
     let made = c.in_ok-made-in-Join in
-    let ways = IfOk-at_ok _ made.ensures.1 c.both.ensures in
+    let ways = IfOk-at_ok _ made.ensures.1 c.both.ensures.values in
     let whole : plan_tree c.args.plan ≡ tree.Join condition left right =
     ap plan_tree c.in-Join.is ∙ (λ i. tree.Join condition (plan_tree (sym c.into_inner-left.ensures i)) (plan_tree (sym c.into_inner-right.ensures i))) in
     let made = join_step condition (pterm made.made.0) (map pterm c.args.tests.items) (map pterm sides.sides.left.items)

@@ -1,6 +1,6 @@
 -- Where none has a fault, and where one has.
 use Rattle.std.proofs.Common.{◌∙◌, ap}
-use Rattle.au_typing.specs.Joined.{both_results}
+use Rattle.au_value.specs.Results.{both_results}
 use Rattle.au_typing.proofs.AllTerms.{terms_given, terms_refused}
 use Rattle.au_typing.proofs.select.all_terms.Goals as goal
 

@@ -1,5 +1,6 @@
 use Rattle.std.proofs.Common.{◌∙◌, ap}
-use Rattle.au_typing.specs.Joined.{ChoosesParts, both_results}
+use Rattle.au_value.specs.Results.{both_results}
+use Rattle.au_typing.specs.Joined.{ChoosesParts}
 use Rattle.au_typing.proofs.Together.{of_three}
 use Rattle.au_typing.proofs.terms.choose.Goals as goal
 

@@ -3,13 +3,15 @@
 //! A function that holds an owned value past a `?` drops it there, and the proof of each such drop is long. These calls
 //! hold the values in its place.
 ghost use Rattle.std.specs.Prelude.{◌≡◌, IfErr, IfOk, Err, Ok};
+ghost use Rattle.au_value.specs.Results.{both_results};
 
 /// Both values, if both could be made; else the first fault.
 pub fn both<A: Drop, B: Drop, E: Drop>(
     first: Result<A, E>,
     second: Result<B, E>,
 ) -> Result<(A, B), E>
-    ensures { IfOk result (λ r. (first ≡ Ok r.0) × (second ≡ Ok r.1)) }
+    ensures values { IfOk result (λ r. (first ≡ Ok r.0) × (second ≡ Ok r.1)) }
+    ensures all { result ≡ both_results first second }
 {
     match first {
         Ok(a) => match second {
