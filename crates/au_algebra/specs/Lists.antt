@@ -1,4 +1,4 @@
--- Lists by a test of equality: distinct items, items taken out, and how often an item occurs.
+-- Lists by a test of equality: distinct items, items taken out, and how often an item occurs; and lists in order.
 -- Besides, rows of values, with the sum, the least and the greatest of some values.
 use Rattle.std.specs.Prelude.{◌≡◌, ℕ, Bool, not, List, [], ◌∷◌, ℤ, pos, ◌+ℤ◌, unwrap_or, slice_get, count_by, filter, if◌then◌else◌}
 use Rattle.std.specs.Cmp.Lexicographic.{pointwise}
@@ -25,6 +25,16 @@ take_out eq (y ∷ ys) xs = take_out eq ys (without eq y xs)
 -- the two lists have the same items, each equally often
 abbrev pub SameUpToOrder : {A : Type 0} → (A → A → Bool) → List A → List A → Type 0
 SameUpToOrder {A} eq xs ys = (x : A) → count_by (eq x) xs ≡ count_by (eq x) ys
+
+-- the item before the first that is not below it, by a test of which item may stand before which
+abbrev pub insert_by : {A : Type 0} → (A → A → Bool) → A → List A → List A
+insert_by le x [] = x ∷ []
+insert_by le x (y ∷ ys) = if le x y then x ∷ y ∷ ys else y ∷ insert_by le x ys
+
+-- the items in order
+abbrev pub sorted_by : {A : Type 0} → (A → A → Bool) → List A → List A
+sorted_by le [] = []
+sorted_by le (x ∷ xs) = insert_by le x (sorted_by le xs)
 
 -- whether two rows of values are equal
 abbrev pub same_row : List Value → List Value → Bool
