@@ -45,8 +45,8 @@ abbrev pub copies : List Value → List (List Value) → ℕ
 copies row rows = count_by (same_row row) rows
 
 -- the value in a column, and 0 past the last
-abbrev pub column : ℕ → List Value → Value
-column c row = unwrap_or (slice_get row c) (Int (pos 0))
+abbrev pub value_at : List Value → ℕ → Value
+value_at row i = unwrap_or (slice_get row i) (Int (pos 0))
 
 -- the sum of whole numbers
 abbrev pub int_sum : List ℤ → ℤ

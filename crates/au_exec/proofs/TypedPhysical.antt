@@ -10,7 +10,7 @@ use Rattle.au_value.specs.declared.value.Value.{Value}
 use Rattle.au_value.specs.Order.{at_most, kind_of}
 use Rattle.au_expr.specs.Kinds.{is_kind}
 use Rattle.au_expr.proofs.Along.{is_kind_is, some_agreed}
-use Rattle.au_algebra.specs.Lists.{distinct, greatest, least, same_row}
+use Rattle.au_algebra.specs.Lists.{distinct, greatest, least, same_row, value_at}
 use Rattle.au_algebra.specs.Ordinary.{Rows}
 use Rattle.au_algebra.specs.Typing.{all_kinds, same_kinds}
 use Rattle.au_algebra.proofs.AggregateKinds.{kinds_parts, sum_kind}
@@ -22,7 +22,7 @@ use Rattle.au_algebra.proofs.TreeRelation.{its_kinds}
 use Rattle.au_plain.specs.declared.plan.PAgg.{PAgg}
 use Rattle.au_plain.specs.declared.plan.PAgg.TheVariants.{Sum, Min, Max}
 use Rattle.au_plain.specs.Meaning.{extended, kept, passes, plain_aggregate}
-use Rattle.au_plain.specs.PTerms.{PTerm, plain_value, value_at}
+use Rattle.au_plain.specs.PTerms.{PTerm, plain_value}
 use Rattle.au_plain.specs.PlanKinds.{HaveKinds, kept_kinds, list_kinds, plain_agg_kind, plain_kind, row_fits}
 use Rattle.au_physical.specs.PhysicalKinds.{IsPhysicalFor, bounds_kinds, equal_kinds, one_kind, physical_kinds}
 use Rattle.au_physical.specs.PhysicalMeaning.{by_range, equal_at, overlaps, pairs_where, physical_rows, range_at_most}

@@ -4,9 +4,8 @@ use Rattle.std.specs.Prelude.{ℕ, Bool, ◌&&◌, ◌||◌, List, [], ◌++◌,
 use Rattle.std.specs.List.{list_all}
 use Rattle.au_value.specs.declared.value.Value.{Value}
 use Rattle.au_value.specs.Order.{at_most, below, equal}
-use Rattle.au_algebra.specs.Lists.{sorted_by}
+use Rattle.au_algebra.specs.Lists.{sorted_by, value_at}
 use Rattle.au_algebra.specs.Ordinary.{Rows}
-use Rattle.au_plain.specs.PTerms.{value_at}
 use Rattle.au_plain.specs.Meaning.{extended, kept, passes, plain_group}
 use Rattle.au_physical.specs.declared.physical.Bounds.{Bounds}
 use Rattle.au_physical.specs.Physicals.{PhysicalTree}
