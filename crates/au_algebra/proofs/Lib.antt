@@ -40,6 +40,7 @@ pub mod Filters
 pub mod PositiveMaps
 pub mod PositiveGuesses
 pub mod Occurring
+pub mod Sorting
 pub mod Extremes
 pub mod AggregateRanges
 pub mod SumRanges

@@ -9,14 +9,15 @@ use Rattle.std.proofs.lemmas.Bool.{cases_Bool, true≢false, false_from_ne_true}
 use Rattle.au_value.specs.Ranges.{Span}
 use Rattle.au_annot.specs.Triples.{Counts, total_counts}
 use Rattle.au_algebra.specs.Entries.{entry}
-use Rattle.au_algebra.specs.Lists.{distinct}
-use Rattle.au_algebra.specs.Bounded.{RangeRow, Bounded, same_ranges, ranges_order, merge_equal, insert_row, sorted, normal}
+use Rattle.au_algebra.specs.Lists.{distinct, insert_by}
+use Rattle.au_algebra.specs.Bounded.{RangeRow, Bounded, same_ranges, ranges_order, merge_equal, row_at_most, sorted, normal}
 use Rattle.au_algebra.proofs.Each.{all_from, all_filter, all_of, passing}
 use Rattle.au_algebra.proofs.Filters.{filter_both, filter_none}
 use Rattle.au_algebra.proofs.KeptByMerging.{same_ranges_is, same_ranges_refl}
 use Rattle.au_algebra.proofs.RangesOrder.{below_other, turned_over, less_from}
 use Rattle.au_algebra.proofs.Tallies.{tally, summed, tally_same, tally_other, tally_more}
 use Rattle.au_algebra.proofs.Rising.{Rising, all_above}
+use Rattle.au_algebra.proofs.Sorting.{all_inserted, all_sorted}
 
 -- ---- rows in order
 
@@ -39,27 +40,15 @@ abbrev pub Apart : Bounded → Type 0
 Apart [] = Unit {0}
 Apart (r ∷ rows) = NoneSame r.cells rows × Apart rows
 
-inserted_if : (P : RangeRow → Type 0) (b : Bool) (r s : RangeRow) (rows : Bounded) → P r → P s → AllByRecursion P rows → AllByRecursion P (insert_row r rows) → AllByRecursion P (cond b (r ∷ s ∷ rows) (s ∷ insert_row r rows))
-inserted_if P true r s rows p q h k = (p, (q, h))
-inserted_if P false r s rows p q h k = (q, k)
-
-all_inserted : (P : RangeRow → Type 0) (r : RangeRow) (rows : Bounded) → P r → AllByRecursion P rows → AllByRecursion P (insert_row r rows)
-all_inserted P r [] p h = (p, tt)
-all_inserted P r (s ∷ rows) p h = inserted_if P (is_le (ranges_order r.cells s.cells)) r s rows p h.0 h.1 (all_inserted P r rows p h.1)
-
-all_sorted : (P : RangeRow → Type 0) (rows : Bounded) → AllByRecursion P rows → AllByRecursion P (sorted rows)
-all_sorted P [] h = tt
-all_sorted P (r ∷ rows) h = all_inserted P r (sorted rows) h.0 (all_sorted P rows h.1)
-
-placed_if : (b : Bool) (r s : RangeRow) (rows : Bounded) → is_le (ranges_order r.cells s.cells) ≡ b → same_ranges r.cells s.cells ≡ false → Rising (s ∷ rows) → Rising (insert_row r rows) → Rising (cond b (r ∷ s ∷ rows) (s ∷ insert_row r rows))
+placed_if : (b : Bool) (r s : RangeRow) (rows : Bounded) → is_le (ranges_order r.cells s.cells) ≡ b → same_ranges r.cells s.cells ≡ false → Rising (s ∷ rows) → Rising (insert_by row_at_most r rows) → Rising (cond b (r ∷ s ∷ rows) (s ∷ insert_by row_at_most r rows))
 placed_if true r s rows e n a h =
     let l = less_from r.cells s.cells (le_gt (ranges_order r.cells s.cells) e) n in
     ((l, all_above r.cells s.cells rows l a.0), a)
 placed_if false r s rows e n a h =
     let l = turned_over r.cells s.cells (not_le (ranges_order r.cells s.cells) e) in
-    (all_inserted (λ t. ranges_order s.cells t.cells ≡ Less) r rows l a.0, h)
+    (all_inserted row_at_most (λ t. ranges_order s.cells t.cells ≡ Less) r rows l a.0, h)
 
-placed : (r : RangeRow) (rows : Bounded) → NoneSame r.cells rows → Rising rows → Rising (insert_row r rows)
+placed : (r : RangeRow) (rows : Bounded) → NoneSame r.cells rows → Rising rows → Rising (insert_by row_at_most r rows)
 placed r [] n a = (tt, tt)
 placed r (s ∷ rows) n a = placed_if (is_le (ranges_order r.cells s.cells)) r s rows refl n.0 a (placed r rows n.1 a.1)
 
@@ -67,9 +56,9 @@ placed r (s ∷ rows) n a = placed_if (is_le (ranges_order r.cells s.cells)) r s
 rising_sorted : (rows : Bounded) → Apart rows → Rising (sorted rows)
 rising_sorted [] h = tt
 rising_sorted (r ∷ rows) h =
-    placed r (sorted rows) (all_sorted (λ s. same_ranges r.cells s.cells ≡ false) rows h.0) (rising_sorted rows h.1)
+    placed r (sorted rows) (all_sorted row_at_most (λ s. same_ranges r.cells s.cells ≡ false) rows h.0) (rising_sorted rows h.1)
 
-tally_if : (b : Bool) (k : List Span) (r s : RangeRow) (rows : Bounded) → is_le (ranges_order r.cells s.cells) ≡ b → tally k (insert_row r rows) ≡ tally k (r ∷ rows) → tally k (cond b (r ∷ s ∷ rows) (s ∷ insert_row r rows)) ≡ tally k (r ∷ s ∷ rows)
+tally_if : (b : Bool) (k : List Span) (r s : RangeRow) (rows : Bounded) → is_le (ranges_order r.cells s.cells) ≡ b → tally k (insert_by row_at_most r rows) ≡ tally k (r ∷ rows) → tally k (cond b (r ∷ s ∷ rows) (s ∷ insert_by row_at_most r rows)) ≡ tally k (r ∷ s ∷ rows)
 tally_if true k r s rows e h = refl
 tally_if false k r s rows e h =
     let gt = not_le (ranges_order r.cells s.cells) e in
@@ -77,12 +66,12 @@ tally_if false k r s rows e h =
       | inl t ↦ (
           let is : r.cells ≡ k = sym (same_ranges_is k r.cells t) in
           let other : same_ranges k s.cells ≡ false = ap (λ c. same_ranges c s.cells) (sym is) ∙ different gt in
-          tally_other k s (insert_row r rows) other
+          tally_other k s (insert_by row_at_most r rows) other
           ∙ h
           ∙ tally_same k r rows t
           ∙ ap (λ ts. r.annot ∷ ts) (sym (tally_other k s rows other))
           ∙ sym (tally_same k r (s ∷ rows) t))
-      | inr f ↦ tally_more k s (insert_row r rows) rows (h ∙ tally_other k r rows f) ∙ sym (tally_other k r (s ∷ rows) f)
+      | inr f ↦ tally_more k s (insert_by row_at_most r rows) rows (h ∙ tally_other k r rows f) ∙ sym (tally_other k r (s ∷ rows) f)
     ]
   where
     different : ranges_order r.cells s.cells ≡ Greater → same_ranges r.cells s.cells ≡ false
@@ -94,7 +83,7 @@ tally_if false k r s rows e h =
         ∙ ap (λ c. same_ranges s.cells c) (sym (same_ranges_is r.cells s.cells t))
         ∙ below_other s.cells r.cells (turned_over r.cells s.cells g)))
 
-tally_inserted : (k : List Span) (r : RangeRow) (rows : Bounded) → tally k (insert_row r rows) ≡ tally k (r ∷ rows)
+tally_inserted : (k : List Span) (r : RangeRow) (rows : Bounded) → tally k (insert_by row_at_most r rows) ≡ tally k (r ∷ rows)
 tally_inserted k r [] = refl
 tally_inserted k r (s ∷ rows) = tally_if (is_le (ranges_order r.cells s.cells)) k r s rows refl (tally_inserted k r rows)
 

@@ -18,7 +18,7 @@ use Rattle.au_algebra.specs.declared.query.Agg.TheVariants.{Sum, Min, Max}
 use Rattle.au_algebra.specs.Trees.{Tree}
 use Rattle.au_algebra.specs.Trees.{Table, Select, Project, Product, Union, Difference, Distinct, Group, Total}
 use Rattle.au_algebra.specs.Entries.{Entry, entry}
-use Rattle.au_algebra.specs.Lists.{distinct, same_row, int_sum, least, greatest}
+use Rattle.au_algebra.specs.Lists.{distinct, same_row, sorted_by, int_sum, least, greatest}
 
 -- a list of ranges with a triple
 abbrev pub RangeRow : Type 0
@@ -258,14 +258,13 @@ merge_equal rows =
     map (λ cells. entry cells (total_counts (map (λ r. r.annot) (filter (λ r. same_ranges cells r.cells) rows))))
     (distinct same_ranges (map (λ r. r.cells) rows))
 
--- the row before the first that is not below it
-abbrev pub insert_row : RangeRow → Bounded → Bounded
-insert_row r [] = r ∷ []
-insert_row r (s ∷ rows) = if is_le (ranges_order r.cells s.cells) then r ∷ s ∷ rows else s ∷ insert_row r rows
+-- one row may stand before another
+abbrev pub row_at_most : RangeRow → RangeRow → Bool
+row_at_most r s = is_le (ranges_order r.cells s.cells)
 
+-- the rows in order
 abbrev pub sorted : Bounded → Bounded
-sorted [] = []
-sorted (r ∷ rows) = insert_row r (sorted rows)
+sorted rows = sorted_by row_at_most rows
 
 -- equal rows merged, in order
 abbrev pub normal : Bounded → Bounded

@@ -1,4 +1,4 @@
--- Lists by a test of equality: distinct items, items taken out, and how often an item occurs.
+-- Lists by a test of equality: distinct items, items taken out, and how often an item occurs; and lists in order.
 -- Besides, rows of values, with the sum, the least and the greatest of some values.
 use Rattle.std.specs.Prelude.{◌≡◌, ℕ, Bool, not, List, [], ◌∷◌, ℤ, pos, ◌+ℤ◌, unwrap_or, slice_get, count_by, filter, if◌then◌else◌}
 use Rattle.std.specs.Cmp.Lexicographic.{pointwise}
@@ -26,6 +26,16 @@ take_out eq (y ∷ ys) xs = take_out eq ys (without eq y xs)
 abbrev pub SameUpToOrder : {A : Type 0} → (A → A → Bool) → List A → List A → Type 0
 SameUpToOrder {A} eq xs ys = (x : A) → count_by (eq x) xs ≡ count_by (eq x) ys
 
+-- the item before the first that is not below it, by a test of which item may stand before which
+abbrev pub insert_by : {A : Type 0} → (A → A → Bool) → A → List A → List A
+insert_by le x [] = x ∷ []
+insert_by le x (y ∷ ys) = if le x y then x ∷ y ∷ ys else y ∷ insert_by le x ys
+
+-- the items in order
+abbrev pub sorted_by : {A : Type 0} → (A → A → Bool) → List A → List A
+sorted_by le [] = []
+sorted_by le (x ∷ xs) = insert_by le x (sorted_by le xs)
+
 -- whether two rows of values are equal
 abbrev pub same_row : List Value → List Value → Bool
 same_row xs ys = pointwise equal xs ys
@@ -35,8 +45,8 @@ abbrev pub copies : List Value → List (List Value) → ℕ
 copies row rows = count_by (same_row row) rows
 
 -- the value in a column, and 0 past the last
-abbrev pub column : ℕ → List Value → Value
-column c row = unwrap_or (slice_get row c) (Int (pos 0))
+abbrev pub value_at : List Value → ℕ → Value
+value_at row i = unwrap_or (slice_get row i) (Int (pos 0))
 
 -- the sum of whole numbers
 abbrev pub int_sum : List ℤ → ℤ

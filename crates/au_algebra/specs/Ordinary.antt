@@ -9,7 +9,7 @@ use Rattle.au_algebra.specs.declared.query.Agg.{Agg}
 use Rattle.au_algebra.specs.declared.query.Agg.TheVariants.{Sum, Min, Max}
 use Rattle.au_algebra.specs.Trees.{Tree}
 use Rattle.au_algebra.specs.Trees.{Table, Select, Project, Product, Union, Difference, Distinct, Group, Total}
-use Rattle.au_algebra.specs.Lists.{distinct, take_out, same_row, column, int_sum, least, greatest}
+use Rattle.au_algebra.specs.Lists.{distinct, take_out, same_row, value_at, int_sum, least, greatest}
 
 -- a list of rows, taken up to order
 abbrev pub Rows : Type 0
@@ -33,9 +33,9 @@ difference xs ys = take_out same_row ys xs
 
 -- an aggregate over the rows
 abbrev pub aggregate : Rows → Agg → Value
-aggregate rows (Sum c) = Int (int_sum (map (λ row. number (column c row)) rows))
-aggregate rows (Min c) = least (map (column c) rows)
-aggregate rows (Max c) = greatest (map (column c) rows)
+aggregate rows (Sum c) = Int (int_sum (map (λ row. number (value_at row c)) rows))
+aggregate rows (Min c) = least (map (λ row. value_at row c) rows)
+aggregate rows (Max c) = greatest (map (λ row. value_at row c) rows)
 
 -- per distinct list of leading key values: the keys, then the aggregates over the rows with these keys
 abbrev pub group : ℕ → List Agg → Rows → Rows

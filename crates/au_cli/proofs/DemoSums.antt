@@ -1,7 +1,6 @@
 -- What the triples of a grouping add up to: over rows of one copy at most, no more than there are rows.
 use Rattle.std.specs.Prelude.{◌≡◌, ℕ, ◌+◌, ◌≤◌, ◌^◌, ◌&&◌, ◌||◌, not, Bool, true, false, cond, List, [], ◌∷◌, length, map, filter, sum_by, take, nat_le, nat_lt}
 use Rattle.std.specs.List.{AllByRecursion, list_any}
-use Rattle.std.specs.Ordering.{is_le}
 use Rattle.std.proofs.Common.{arith, refl, ◌∙◌, lt-ltb}
 use Rattle.std.proofs.lemmas.List.{length-map}
 use Rattle.std.proofs.lemmas.List.Sums.{sum_by-cons, sum_by-le-sum_by}
@@ -13,11 +12,12 @@ use Rattle.au_expr.specs.OnRanges.{range_of}
 use Rattle.au_algebra.specs.declared.query.Agg.{Agg}
 use Rattle.au_algebra.specs.Entries.{entry}
 use Rattle.au_algebra.specs.Lists.{distinct, same_row}
-use Rattle.au_algebra.specs.Bounded.{RangeRow, Bounded, project, some_of, most_of, group_counts, output, guessed_keys, group_by, group, same_ranges, merge_equal, insert_row, sorted, normal, ranges_order}
+use Rattle.au_algebra.specs.Bounded.{RangeRow, Bounded, project, some_of, most_of, group_counts, output, guessed_keys, group_by, group, same_ranges, merge_equal, row_at_most, normal}
 use Rattle.au_algebra.proofs.Copies.{same_row_is, same_row_refl}
 use Rattle.au_algebra.proofs.DistinctSums.{sum_distinct}
 use Rattle.au_algebra.proofs.Each.{all_filter}
 use Rattle.au_algebra.proofs.KeptByMerging.{same_ranges_is, same_ranges_refl}
+use Rattle.au_algebra.proofs.Sorting.{sum_sorted}
 
 -- a component of triples: none of no copies, and it adds up
 pub record IsComponent (f : Counts → ℕ) : Type 0 where
@@ -59,21 +59,6 @@ module _ (f : Counts → ℕ) (is : IsComponent f) where
 
   -- ---- the normal form
 
-  insert_added : (r : RangeRow) (rows : Bounded) → added (insert_row r rows) ≡ added (r ∷ rows)
-  insert_added r [] = refl
-  insert_added r (s ∷ rows) = one (is_le (ranges_order r.cells s.cells)) (insert_added r rows)
-    where
-      one : (b : Bool) → added (insert_row r rows) ≡ added (r ∷ rows) → added (cond b (r ∷ s ∷ rows) (s ∷ insert_row r rows)) ≡ added (r ∷ s ∷ rows)
-      one true h = refl
-      one false h =
-          omega (arith, h, sum_by-cons (λ t. f t.annot) s (insert_row r rows), sum_by-cons (λ t. f t.annot) r rows, sum_by-cons (λ t. f t.annot) r (s ∷ rows), sum_by-cons (λ t. f t.annot) s rows)
-
-  sorted_added : (rows : Bounded) → added (sorted rows) ≡ added rows
-  sorted_added [] = refl
-  sorted_added (r ∷ rows) =
-      insert_added r (sorted rows)
-      ∙ omega (arith, sum_by-cons (λ t. f t.annot) r (sorted rows), sum_by-cons (λ t. f t.annot) r rows, sorted_added rows)
-
   merged_added : (rows : Bounded) → added (merge_equal rows) ≡ added rows
   merged_added rows =
       sum_mapped (λ r. f r.annot) (λ cells. entry cells (total_counts (map (λ r. r.annot) (filter (λ r. same_ranges cells r.cells) rows)))) (distinct same_ranges (map (λ r. r.cells) rows))
@@ -82,7 +67,7 @@ module _ (f : Counts → ℕ) (is : IsComponent f) where
 
   -- the normal form keeps the sum
   pub normal_added : (rows : Bounded) → added (normal rows) ≡ added rows
-  normal_added rows = sorted_added (merge_equal rows) ∙ merged_added rows
+  normal_added rows = sum_sorted row_at_most (λ r. f r.annot) (merge_equal rows) ∙ merged_added rows
 
   -- ---- a projection
 

@@ -6,7 +6,7 @@ use Rattle.std.proofs.lemmas.List.{length-append, length-map, map-append}
 use Rattle.au_value.specs.declared.value.Value.{Value}
 use Rattle.au_value.specs.declared.value.Value.TheVariants as value
 use Rattle.au_value.specs.Ranges.{Span, range, certain, hull, hulls, guesses}
-use Rattle.au_algebra.specs.Lists.{distinct, same_row, least, greatest}
+use Rattle.au_algebra.specs.Lists.{distinct, same_row, least, greatest, value_at}
 use Rattle.au_algebra.specs.Ordinary.{Rows}
 use Rattle.au_algebra.specs.Bounded.{hull_of}
 use Rattle.au_algebra.proofs.Copies.{same_row_is}
@@ -14,7 +14,6 @@ use Rattle.au_algebra.proofs.Items.{some_is}
 use Rattle.au_algebra.proofs.Each.{all_filter, all_from}
 use Rattle.au_plain.specs.declared.plan.PAgg.{PAgg}
 use Rattle.au_plain.specs.declared.plan.PAgg.TheVariants.{Min, Max}
-use Rattle.au_plain.specs.PTerms.{value_at}
 use Rattle.au_plain.specs.Plans.{PlanTree}
 use Rattle.au_plain.specs.Meaning.{plain_rows, kept, plain_aggregate, plain_group}
 use Rattle.au_encode.specs.Encode.{encode_cells}

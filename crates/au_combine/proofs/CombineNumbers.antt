@@ -12,7 +12,7 @@ use Rattle.au_annot.specs.Triples.{total_counts}
 use Rattle.au_expr.specs.Figures.{Fit}
 use Rattle.au_expr.specs.Ordinary.{number}
 use Rattle.au_expr.proofs.Fits.{fit_both}
-use Rattle.au_algebra.specs.Lists.{distinct, same_row}
+use Rattle.au_algebra.specs.Lists.{distinct, same_row, value_at}
 use Rattle.au_algebra.specs.Ordinary.{Rows}
 use Rattle.au_algebra.specs.Bounded as bounded
 use Rattle.au_algebra.specs.Bounded.{RangeRow, Bounded, guessing, merged}
@@ -21,7 +21,6 @@ use Rattle.au_algebra.specs.Laws.{IsRangeRow, IsRelation}
 use Rattle.au_algebra.proofs.Each.{all_filter}
 use Rattle.au_plain.specs.declared.plan.PAgg.{PAgg}
 use Rattle.au_plain.specs.declared.plan.PAgg.TheVariants.{Sum}
-use Rattle.au_plain.specs.PTerms.{value_at}
 use Rattle.au_plain.specs.Plans.{PlanTree}
 use Rattle.au_plain.specs.Meaning.{plain_rows}
 use Rattle.au_plain.specs.PlanNumbers.{plan_numbers, magnitudes, group_numbers}

@@ -8,7 +8,7 @@ use Rattle.au_value.specs.declared.value.Value.TheVariants as value
 use Rattle.au_value.specs.Ranges.{IsRangeOf, guesses}
 use Rattle.au_annot.specs.Triples.{Counts, total_counts}
 use Rattle.au_expr.specs.Ordinary.{number}
-use Rattle.au_algebra.specs.Lists.{distinct, same_row, int_sum}
+use Rattle.au_algebra.specs.Lists.{distinct, same_row, int_sum, value_at}
 use Rattle.au_algebra.specs.Ordinary.{Rows}
 use Rattle.au_algebra.specs.Bounded as bounded
 use Rattle.au_algebra.specs.Bounded.{RangeRow, Bounded, hull_of, guessing, merged}
@@ -16,7 +16,6 @@ use Rattle.au_algebra.specs.Laws.{IsRangeRow, IsRelation}
 use Rattle.au_algebra.proofs.Each.{all_filter}
 use Rattle.au_plain.specs.declared.plan.PAgg.{PAgg}
 use Rattle.au_plain.specs.declared.plan.PAgg.TheVariants.{Sum}
-use Rattle.au_plain.specs.PTerms.{value_at}
 use Rattle.au_plain.specs.Plans.{PlanTree}
 use Rattle.au_plain.specs.Meaning.{plain_aggregate}
 use Rattle.au_encode.specs.Encode.{encode, encode_row, encode_cells, encode_counts}

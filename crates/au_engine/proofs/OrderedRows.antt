@@ -14,12 +14,13 @@ use Rattle.std.proofs.lemmas.List.Sorted.{IsPermutation-map, ranks_by, sum_by-Is
 use Rattle.au_value.specs.declared.value.Value.{Value}
 use Rattle.au_value.specs.Order.{order}
 use Rattle.au_value.proofs.OrderLaws.{order_total}
-use Rattle.au_algebra.specs.Lists.{copies, same_row}
+use Rattle.au_algebra.specs.Lists.{same_row, sorted_by}
 use Rattle.au_algebra.specs.Ordinary.{Rows}
 use Rattle.au_algebra.proofs.Choices.{counted}
 use Rattle.au_algebra.proofs.Copies.{copies-cons, same_row_is}
 use Rattle.au_algebra.proofs.Occurring.{SameCopies, first_occurs, occurring}
-use Rattle.au_print.specs.GuessTexts.{in_order, insert_values}
+use Rattle.au_algebra.proofs.Sorting.{same_sorted}
+use Rattle.au_print.specs.GuessTexts.{in_order, values_at_most}
 use Rattle.au_exec.proofs.RangeOrder as range_order
 
 -- which of two rows is before the other
@@ -36,35 +37,19 @@ turned Less = refl
 turned Equal = refl
 turned Greater = refl
 
-test_is : (a b : List Value) → is_le (slice_cmp order a b) ≡ not (before b a)
+test_is : (a b : List Value) → values_at_most a b ≡ not (before b a)
 test_is a b = turned (slice_cmp order a b) ∙ ap (λ o. not (is_lt o)) (sym ((lists_total order_total).antisymm b a))
 
-insert_is : (row : List Value) (rows : Rows) → range_order.insert before row rows ≡ insert_values row rows
-insert_is row [] = refl
-insert_is row (r ∷ rows) = λ i. cond (sym (test_is row r) i) (row ∷ r ∷ rows) (r ∷ insert_is row rows i)
-
-order_is : (rows : Rows) → range_order.in_order before rows ≡ in_order rows
-order_is [] = refl
-order_is (row ∷ rows) = ap (range_order.insert before row) (order_is rows) ∙ insert_is row (in_order rows)
+order_is : (rows : Rows) → sorted_by (range_order.not_after before) rows ≡ in_order rows
+order_is rows = λ i. sorted_by (λ a b. sym (test_is a b) i) rows
 
 -- it rises
 rising : (rows : Rows) → range_order.Up before (in_order rows)
-rising rows = subst (range_order.Up before) (order_is rows) (range_order.up_in_order before ranks rows)
+rising rows = subst (range_order.Up before) (order_is rows) (range_order.up_sorted before ranks rows)
 
 -- and has the same rows
-inserted_if : (b : Bool) (v row r : List Value) (rows more : Rows) → copies v more ≡ copies v (row ∷ rows) → copies v (cond b (row ∷ r ∷ rows) (r ∷ more)) ≡ copies v (row ∷ r ∷ rows)
-inserted_if true v row r rows more h = refl
-inserted_if false v row r rows more h =
-    omega (arith, h, copies-cons v r more, copies-cons v row rows, copies-cons v row (r ∷ rows), copies-cons v r rows)
-
-inserted : (v row : List Value) (rows : Rows) → copies v (insert_values row rows) ≡ copies v (row ∷ rows)
-inserted v row [] = refl
-inserted v row (r ∷ rows) = inserted_if (is_le (slice_cmp order row r)) v row r rows (insert_values row rows) (inserted v row rows)
-
 pub same_in_order : (rows : Rows) → SameCopies (in_order rows) rows
-same_in_order [] v = refl
-same_in_order (row ∷ rows) v =
-    omega (arith, inserted v row (in_order rows), same_in_order rows v, copies-cons v row (in_order rows), copies-cons v row rows)
+same_in_order rows = same_sorted values_at_most rows
 
 -- ---- rows that rise are given by their copies
 
@@ -127,7 +112,7 @@ pub sorted_rows :
     → IsPermutation rows sorted → map (λ row. row.items) sorted ≡ in_order (map (λ row. row.items) rows)
 sorted_rows rows sorted s stable permuted =
     let lt = λ (a b : Row). before a.items b.items in
-    let up = subst (range_order.Up lt) (sym (range_order.sorted_is lt row_ranks rows sorted s stable)) (range_order.up_in_order lt row_ranks rows) in
+    let up = subst (range_order.Up lt) (sym (range_order.sorted_is lt row_ranks rows sorted s stable)) (range_order.up_sorted lt row_ranks rows) in
     let given = map (λ (row : Row). row.items) rows in
     let made = map (λ (row : Row). row.items) sorted in
     let same : SameCopies made given = λ v. sum_by-IsPermutation (λ row. cond (same_row v row) 1 0) given made (IsPermutation-map (λ (row : Row). row.items) rows sorted permuted) in

@@ -13,12 +13,11 @@ use Rattle.au_value.proofs.RangeLaws.{greater_assoc, lesser_assoc}
 use Rattle.au_expr.specs.Figures.{Fit}
 use Rattle.au_expr.specs.Ordinary.{number}
 use Rattle.au_expr.proofs.Fits.{fit_both, fit_parts}
-use Rattle.au_algebra.specs.Lists.{greatest, int_sum, least}
+use Rattle.au_algebra.specs.Lists.{greatest, int_sum, least, value_at}
 use Rattle.au_algebra.specs.Ordinary.{Rows}
 use Rattle.au_plain.specs.declared.plan.PAgg.{PAgg}
 use Rattle.au_plain.specs.declared.plan.PAgg.TheVariants.{Sum, Min, Max}
 use Rattle.au_plain.specs.Meaning.{plain_aggregate}
-use Rattle.au_plain.specs.PTerms.{value_at}
 use Rattle.au_plain.specs.PlanNumbers.{magnitudes}
 use Rattle.au_exec.specs.Fitting.{CanAggregate, CanAggregateAll, HasColumn}
 use Rattle.au_exec.specs.Folds.{CanStep, CanStepAll, fold_of, fold_value, step, stepped_numbers}

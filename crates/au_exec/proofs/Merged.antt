@@ -11,12 +11,11 @@ use Rattle.au_value.specs.Joining.{joined_sum}
 use Rattle.au_value.proofs.RangeLaws.{greater_assoc, lesser_assoc}
 use Rattle.au_value.specs.Ranges.{greater, lesser}
 use Rattle.au_expr.specs.Ordinary.{number}
-use Rattle.au_algebra.specs.Lists.{distinct, same_row}
+use Rattle.au_algebra.specs.Lists.{distinct, same_row, value_at}
 use Rattle.au_algebra.specs.Ordinary.{Rows}
 use Rattle.au_plain.specs.declared.plan.PAgg.{PAgg}
 use Rattle.au_plain.specs.declared.plan.PAgg.TheVariants as agg
 use Rattle.au_plain.specs.Meaning.{kept}
-use Rattle.au_plain.specs.PTerms.{value_at}
 use Rattle.au_exec.specs.Folds.{fold_of, step}
 use Rattle.au_exec.specs.Groups.{Group, group_with, groups_of, members_of}
 use Rattle.au_exec.specs.Merging.{absorb, absorb_all, join_at, joined_folds}

@@ -8,8 +8,8 @@ use Rattle.std.proofs.lemmas.List.{append-nil, drop_all, drop_more, get_or-set_o
 use Rattle.std.proofs.lemmas.List.Edits.{length-swap, swap_is}
 use Rattle.au_value.specs.declared.value.Value.{Value}
 use Rattle.au_value.specs.declared.value.Value.TheVariants.{Int}
+use Rattle.au_algebra.specs.Lists.{value_at}
 use Rattle.au_plain.specs.Meaning.{kept}
-use Rattle.au_plain.specs.PTerms.{value_at}
 use Rattle.au_exec.specs.Ascents.{ascends}
 use Rattle.au_exec.specs.Fitting.{HasPlace, HavePlaces}
 

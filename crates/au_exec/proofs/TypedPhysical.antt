@@ -1,5 +1,5 @@
 -- A typed physical plan can be run, and its rows have the plan's kinds.
-use Rattle.std.specs.Prelude.{◌≡◌, ◌<◌, ◌&&◌, ◌==◌, ℕ, zero, suc, Bool, true, false, if◌then◌else◌, List, [], ◌∷◌, ◌++◌, filter, flat_map, length, map, slice_get, unwrap_or, Some}
+use Rattle.std.specs.Prelude.{◌≡◌, ◌<◌, ◌&&◌, ◌==◌, ℕ, zero, suc, Bool, true, List, [], ◌∷◌, ◌++◌, filter, flat_map, length, map, slice_get, unwrap_or, Some}
 use Rattle.std.specs.List.{AllByRecursion, AllZip, list_all}
 use Rattle.std.proofs.Common.{sym, ◌∙◌, ap, subst, arith}
 use Rattle.std.proofs.lemmas.Bool.{and_parts}
@@ -10,24 +10,24 @@ use Rattle.au_value.specs.declared.value.Value.{Value}
 use Rattle.au_value.specs.Order.{at_most, kind_of}
 use Rattle.au_expr.specs.Kinds.{is_kind}
 use Rattle.au_expr.proofs.Along.{is_kind_is, some_agreed}
-use Rattle.au_algebra.specs.Lists.{distinct, greatest, least, same_row}
+use Rattle.au_algebra.specs.Lists.{distinct, greatest, least, same_row, value_at}
 use Rattle.au_algebra.specs.Ordinary.{Rows}
 use Rattle.au_algebra.specs.Typing.{all_kinds, same_kinds}
 use Rattle.au_algebra.proofs.AggregateKinds.{kinds_parts, sum_kind}
 use Rattle.au_algebra.proofs.Each.{all_append, all_distinct, all_filter}
 use Rattle.au_algebra.proofs.Items.{and_then_is, chosen_is, some_is}
 use Rattle.au_algebra.proofs.PositiveRelation.{same_kinds_is}
+use Rattle.au_algebra.proofs.Sorting.{all_sorted}
 use Rattle.au_algebra.proofs.TreeRelation.{its_kinds}
 use Rattle.au_plain.specs.declared.plan.PAgg.{PAgg}
 use Rattle.au_plain.specs.declared.plan.PAgg.TheVariants.{Sum, Min, Max}
 use Rattle.au_plain.specs.Meaning.{extended, kept, passes, plain_aggregate}
-use Rattle.au_plain.specs.PTerms.{PTerm, plain_value, value_at}
+use Rattle.au_plain.specs.PTerms.{PTerm, plain_value}
 use Rattle.au_plain.specs.PlanKinds.{HaveKinds, kept_kinds, list_kinds, plain_agg_kind, plain_kind, row_fits}
 use Rattle.au_physical.specs.PhysicalKinds.{IsPhysicalFor, bounds_kinds, equal_kinds, one_kind, physical_kinds}
-use Rattle.au_physical.specs.PhysicalMeaning.{by_range, equal_at, insert_range, overlaps, pairs_where, physical_rows, range_at_most}
+use Rattle.au_physical.specs.PhysicalMeaning.{by_range, equal_at, overlaps, pairs_where, physical_rows, range_at_most}
 use Rattle.au_physical.specs.Physicals.{PhysicalTree}
 use Rattle.au_physical.specs.Physicals as physical
-use Rattle.au_physical.specs.declared.physical.Bounds.{Bounds}
 use Rattle.au_exec.specs.CanOpen.{CanJoin, CanOpen}
 use Rattle.au_exec.specs.Fitting.{HasArgument, HasColumn, HasKind, HavePlaces}
 use Rattle.au_exec.specs.Groups.{members_of}
@@ -165,19 +165,6 @@ chosen_kinds chosen ks js (a ∷ xs) bs h g =
     all_append (λ row. map kind_of row ≡ ks ++ js) (map (λ b. a ++ b) (filter (chosen a) bs)) (pairs_where chosen xs bs)
     (pairs_kinds ks js a h.0 (filter (chosen a) bs) (all_filter (λ row. map kind_of row ≡ js) (chosen a) bs g)) (chosen_kinds chosen ks js xs bs h.1 g)
 
--- rows in the order of their ranges
-inserted_kinds : (at : Bounds) (ks : List Kind) (row : List Value) (rows : Rows) → map kind_of row ≡ ks → HaveKinds ks rows → HaveKinds ks (insert_range at row rows)
-inserted_kinds at ks row [] h g = (h, tt)
-inserted_kinds at ks row (r ∷ rows) h g =
-    elim (range_at_most at row r) as (λ b. HaveKinds ks (if b then row ∷ r ∷ rows else r ∷ insert_range at row rows)) [
-      | true ↦ (h, g)
-      | false ↦ (g.0, inserted_kinds at ks row rows h g.1)
-    ]
-
-ranged_kinds : (at : Bounds) (ks : List Kind) (rows : Rows) → HaveKinds ks rows → HaveKinds ks (by_range at rows)
-ranged_kinds at ks [] h = tt
-ranged_kinds at ks (row ∷ rows) h = inserted_kinds at ks row (by_range at rows) h.0 (ranged_kinds at ks rows h.1)
-
 -- two columns of one kind
 record TwoColumns (ks js : List Kind) (i j : ℕ) : Type 0 where
   both : Kind
@@ -280,7 +267,7 @@ module _ (tk : List (List Kind)) (ts : List Rows) (ok : AllZip HaveKinds tk ts) 
       let ys = physical_rows r ts in
       let flag = is_kind_is kind.Flag (plain_kind (p.0 ++ s.0) e) b.1 in (
         subst (λ js. HaveKinds js (physical_rows (physical.Overlap at e q r) ts)) (some_is (p.0 ++ s.0) ks u.1)
-            (all_filter (λ row. map kind_of row ≡ p.0 ++ s.0) (passes e) (pairs_where (overlaps at) xs (by_range at ys)) (chosen_kinds (overlaps at) p.0 s.0 xs (by_range at ys) left.0 (ranged_kinds at s.0 ys right.0))),
+            (all_filter (λ row. map kind_of row ≡ p.0 ++ s.0) (passes e) (pairs_where (overlaps at) xs (by_range at ys)) (chosen_kinds (overlaps at) p.0 s.0 xs (by_range at ys) left.0 (all_sorted (range_at_most at) (λ row. map kind_of row ≡ s.0) ys right.0))),
         (
           left.1,
           right.1,

@@ -2,8 +2,8 @@
 ghost use Rattle.std.specs.Prelude.{◌≡◌, IfOk};
 ghost use Rattle.au_value.specs.declared.kinds.Kind.{Kind};
 ghost use Rattle.au_value.specs.Order.{kind_of};
+ghost use Rattle.au_algebra.specs.Lists.{value_at};
 ghost use Rattle.au_plain.specs.Meaning.{kept};
-ghost use Rattle.au_plain.specs.PTerms.{value_at};
 ghost use Rattle.au_exec.specs.Fitting.{HasColumn, HasPlace, HavePlaces};
 
 use crate::lent_row::LentRow;

@@ -9,7 +9,8 @@ use Rattle.au_value.specs.declared.value.Value.TheVariants.{Flag}
 use Rattle.au_expr.specs.Ordinary as on_values
 use Rattle.au_expr.specs.Ordinary.{is_true}
 use Rattle.au_expr.specs.Kinds.{is_kind, kind_if, agreed}
-use Rattle.au_plain.specs.PTerms.{PTerm, Column, Literal, Add, Subtract, Multiply, Negate, Compare, And, Or, Not, Case, Least, Greatest, plain_value, value_at, plainly}
+use Rattle.au_algebra.specs.Lists.{value_at}
+use Rattle.au_plain.specs.PTerms.{PTerm, Column, Literal, Add, Subtract, Multiply, Negate, Compare, And, Or, Not, Case, Least, Greatest, plain_value, plainly}
 use Rattle.au_plain.specs.Meaning.{passes}
 use Rattle.au_plain.specs.PlanKinds.{plain_kind}
 use Rattle.au_passes.specs.Tests.{without_arithmetic, reads_only, with_columns}

@@ -8,10 +8,10 @@ use Rattle.au_value.specs.declared.kinds.Kind.{Kind}
 use Rattle.au_value.specs.declared.kinds.Kind.TheVariants as kind
 use Rattle.au_value.specs.declared.value.Value.{Value}
 use Rattle.au_value.specs.declared.value.Value.TheVariants.{Int}
+use Rattle.au_algebra.specs.Lists.{value_at}
 use Rattle.au_algebra.specs.Typing.{all_kinds}
 use Rattle.au_algebra.proofs.AggregateKinds.{kinds_parts}
 use Rattle.au_plain.specs.Meaning.{kept}
-use Rattle.au_plain.specs.PTerms.{value_at}
 use Rattle.au_plain.specs.PlanKinds.{kept_kinds}
 use Rattle.au_plain.proofs.Widths.{kept_long}
 use Rattle.au_passes.proofs.Renumbering.{Reaches, kept_at, kind_at}

@@ -12,7 +12,7 @@ use Rattle.au_expr.specs.Figures.{Fit}
 use Rattle.au_expr.specs.Kinds.{is_kind}
 use Rattle.au_expr.specs.Ordinary.{number}
 use Rattle.au_expr.proofs.Fits.{fit_both, fit_parts}
-use Rattle.au_algebra.specs.Lists.{distinct, greatest, int_sum, least, same_row}
+use Rattle.au_algebra.specs.Lists.{distinct, greatest, int_sum, least, same_row, value_at}
 use Rattle.au_algebra.specs.Ordinary.{Rows}
 use Rattle.au_algebra.specs.Typing.{all_kinds}
 use Rattle.au_algebra.proofs.AggregateKinds.{kinds_parts}
@@ -21,7 +21,6 @@ use Rattle.au_algebra.proofs.Items.{and_then_is, some_is}
 use Rattle.au_plain.specs.declared.plan.PAgg.{PAgg}
 use Rattle.au_plain.specs.declared.plan.PAgg.TheVariants.{Sum, Min, Max}
 use Rattle.au_plain.specs.Meaning.{kept, plain_aggregate, plain_group, plain_rows}
-use Rattle.au_plain.specs.PTerms.{value_at}
 use Rattle.au_plain.specs.PlanKinds.{kept_kinds, plain_agg_kind, plan_kinds}
 use Rattle.au_plain.specs.PlanNumbers.{group_numbers, magnitudes, plan_numbers}
 use Rattle.au_plain.specs.Plans.{PlanTree, Group}

@@ -13,13 +13,14 @@ use Rattle.au_expr.specs.Kinds.{is_kind}
 use Rattle.au_expr.specs.Ordinary.{is_true}
 use Rattle.au_expr.proofs.Along.{is_kind_is}
 use Rattle.au_expr.proofs.Fits.{fit_both, fit_parts}
+use Rattle.au_algebra.specs.Lists.{value_at}
 use Rattle.au_algebra.specs.Ordinary.{Rows}
 use Rattle.au_algebra.specs.Typing.{kinds_if, same_kinds}
 use Rattle.au_algebra.proofs.Each.{all_from}
 use Rattle.au_algebra.proofs.Items.{and_then_is, chosen_is, some_is}
 use Rattle.au_algebra.proofs.PositiveRelation.{same_kinds_is}
 use Rattle.au_plain.specs.Meaning.{extended, kept, passes, plain_rows}
-use Rattle.au_plain.specs.PTerms.{PTerm, plain_value, value_at}
+use Rattle.au_plain.specs.PTerms.{PTerm, plain_value}
 use Rattle.au_plain.specs.PlanKinds.{HaveKinds, kept_kinds, plain_kind, plan_kinds}
 use Rattle.au_plain.specs.PlanNumbers.{plan_numbers, term_numbers}
 use Rattle.au_plain.specs.Plans.{PlanTree, Extend, Filter, Join, Keep, Union}

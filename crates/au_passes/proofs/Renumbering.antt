@@ -14,13 +14,14 @@ use Rattle.au_expr.specs.Numbers.{number_if_any}
 use Rattle.au_expr.specs.Ordinary.{is_true}
 use Rattle.au_expr.specs.Ordinary as on_values
 use Rattle.au_expr.proofs.Along.{agreed_is, both_of, is_kind_is, kind_if_is, one_of, only_if_is, some_agreed}
+use Rattle.au_algebra.specs.Lists.{value_at}
 use Rattle.au_algebra.proofs.AggregateKinds.{kinds_parts}
 use Rattle.au_algebra.proofs.Each.{all_append}
 use Rattle.au_algebra.proofs.Items.{some_is}
 use Rattle.au_plain.specs.Meaning.{kept}
 use Rattle.au_plain.specs.PlanKinds.{common_kind, kept_kinds, plain_kind}
 use Rattle.au_plain.specs.PlanNumbers.{parts_numbers, term_numbers}
-use Rattle.au_plain.specs.PTerms.{PTerm, PTerms, nil, cons, greatest_value, least_value, plain_value, plainly, value_at}
+use Rattle.au_plain.specs.PTerms.{PTerm, PTerms, nil, cons, greatest_value, least_value, plain_value, plainly}
 use Rattle.au_plain.specs.PTerms.{Column, Literal, Add, Subtract, Multiply, Negate, Compare, And, Or, Not, Case, Least, Greatest}
 use Rattle.au_passes.specs.Pruning.{all_renumbered, renumbered}
 use Rattle.au_passes.specs.Reading.{all_columns, columns}

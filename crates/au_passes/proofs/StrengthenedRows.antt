@@ -8,10 +8,11 @@ use Rattle.std.proofs.lemmas.List.Elements.{filter-append}
 use Rattle.au_value.specs.declared.kinds.Kind.{Kind}
 use Rattle.au_value.specs.declared.value.Value.{Value}
 use Rattle.au_value.specs.declared.value.Value.TheVariants.{Int}
+use Rattle.au_algebra.specs.Lists.{value_at}
 use Rattle.au_algebra.specs.Ordinary.{Rows}
 use Rattle.au_algebra.proofs.Each.{all_append, passing}
 use Rattle.au_algebra.proofs.Filters.{filter_all, filter_both}
-use Rattle.au_plain.specs.PTerms.{PTerm, Column, plain_value, value_at}
+use Rattle.au_plain.specs.PTerms.{PTerm, Column, plain_value}
 use Rattle.au_plain.specs.Meaning.{extended, kept, passes, plain_group, plain_rows}
 use Rattle.au_plain.specs.PlanKinds.{HaveKinds, plan_kinds}
 use Rattle.au_plain.specs.Plans.{PlanTree}

@@ -1,11 +1,11 @@
 -- The rows of a physical plan over the tables' lists of rows, read in order: each line from the first row on.
 -- A join takes the left rows in order, and for each of them its right rows in order.
-use Rattle.std.specs.Prelude.{ℕ, Bool, ◌&&◌, ◌||◌, List, [], ◌∷◌, ◌++◌, map, filter, flat_map, unwrap_or, slice_get, if◌then◌else◌}
+use Rattle.std.specs.Prelude.{ℕ, Bool, ◌&&◌, ◌||◌, List, [], ◌++◌, map, filter, flat_map, unwrap_or, slice_get}
 use Rattle.std.specs.List.{list_all}
 use Rattle.au_value.specs.declared.value.Value.{Value}
 use Rattle.au_value.specs.Order.{at_most, below, equal}
+use Rattle.au_algebra.specs.Lists.{sorted_by, value_at}
 use Rattle.au_algebra.specs.Ordinary.{Rows}
-use Rattle.au_plain.specs.PTerms.{value_at}
 use Rattle.au_plain.specs.Meaning.{extended, kept, passes, plain_group}
 use Rattle.au_physical.specs.declared.physical.Bounds.{Bounds}
 use Rattle.au_physical.specs.Physicals.{PhysicalTree}
@@ -24,20 +24,15 @@ abbrev pub overlaps : Bounds → List Value → List Value → Bool
 overlaps at a b =
     at_most (value_at a at.left_lo) (value_at b at.right_hi) && at_most (value_at b at.right_lo) (value_at a at.left_hi)
 
--- one right row stands before another: by the lower ends of their ranges, then by the upper ends
+-- one right row may stand before another: by the lower ends of their ranges, then by the upper ends
 abbrev pub range_at_most : Bounds → List Value → List Value → Bool
 range_at_most at a b =
     below (value_at a at.right_lo) (value_at b at.right_lo)
     || (equal (value_at a at.right_lo) (value_at b at.right_lo) && at_most (value_at a at.right_hi) (value_at b at.right_hi))
 
 -- right rows ordered by lower end, upper end and place
-abbrev pub insert_range : Bounds → List Value → Rows → Rows
-insert_range at row [] = row ∷ []
-insert_range at row (r ∷ rows) = if range_at_most at row r then row ∷ r ∷ rows else r ∷ insert_range at row rows
-
 abbrev pub by_range : Bounds → Rows → Rows
-by_range at [] = []
-by_range at (row ∷ rows) = insert_range at row (by_range at rows)
+by_range at rows = sorted_by (range_at_most at) rows
 
 -- the pairs of a Hash, and of an Overlap, before their expression is tested
 abbrev pub equal_pairs : List (ℕ × ℕ) → Rows → Rows → Rows

@@ -15,14 +15,14 @@ use Rattle.au_expr.specs.Numbers.{number_if_any}
 use Rattle.au_expr.specs.Ordinary.{is_true, number}
 use Rattle.au_expr.specs.Kinds.{is_kind}
 use Rattle.au_expr.proofs.Fits.{fit_parts, fit_lesser, fit_greater}
-use Rattle.au_algebra.specs.Lists.{distinct, same_row, int_sum, least, greatest}
+use Rattle.au_algebra.specs.Lists.{distinct, same_row, int_sum, least, greatest, value_at}
 use Rattle.au_algebra.specs.Ordinary.{Rows}
 use Rattle.au_algebra.specs.Typing.{same_kinds, kinds_if, all_kinds}
 use Rattle.au_algebra.proofs.Each.{all_filter, all_append, all_distinct}
 use Rattle.au_algebra.proofs.Items.{and_then_is, chosen_is}
 use Rattle.au_plain.specs.declared.plan.PAgg.{PAgg}
 use Rattle.au_plain.specs.declared.plan.PAgg.TheVariants.{Sum, Min, Max}
-use Rattle.au_plain.specs.PTerms.{PTerm, plain_value, value_at}
+use Rattle.au_plain.specs.PTerms.{PTerm, plain_value}
 use Rattle.au_plain.specs.PTerms as term
 use Rattle.au_plain.specs.Plans.{PlanTree}
 use Rattle.au_plain.specs.Plans as plan

@@ -8,7 +8,7 @@ use Rattle.std.proofs.lemmas.List.{length-map}
 use Rattle.au_value.specs.declared.kinds.Kind.{Kind}
 use Rattle.au_value.specs.declared.value.Value.{Value}
 use Rattle.au_value.specs.Order.{kind_of}
-use Rattle.au_algebra.specs.Lists.{distinct, same_row}
+use Rattle.au_algebra.specs.Lists.{distinct, same_row, value_at}
 use Rattle.au_algebra.specs.Ordinary.{Rows}
 use Rattle.au_algebra.specs.Typing.{all_kinds, same_kinds}
 use Rattle.au_algebra.proofs.AggregateKinds.{kinds_parts}
@@ -17,7 +17,7 @@ use Rattle.au_algebra.proofs.Items.{and_then_is, chosen_is, some_is}
 use Rattle.au_algebra.proofs.PositiveRelation.{same_kinds_is}
 use Rattle.au_plain.specs.declared.plan.PAgg.{PAgg}
 use Rattle.au_plain.specs.Meaning.{extended, kept, passes, plain_aggregate, plain_rows}
-use Rattle.au_plain.specs.PTerms.{PTerm, plain_value, value_at}
+use Rattle.au_plain.specs.PTerms.{PTerm, plain_value}
 use Rattle.au_plain.specs.PlanKinds.{HaveKinds, kept_kinds, list_kinds, plain_agg_kind, plain_kind, plan_kinds, row_fits}
 use Rattle.au_plain.specs.Plans.{PlanTree}
 use Rattle.au_plain.specs.Plans as plan

@@ -1,11 +1,12 @@
 -- Plain expressions without where they lie in memory, and their value on a row:
 -- that of an ordinary engine, in unbounded arithmetic.
-use Rattle.std.specs.Prelude.{ℕ, Bool, List, pos, slice_get, unwrap_or}
+use Rattle.std.specs.Prelude.{ℕ, Bool, List, pos}
 use Rattle.au_value.specs.declared.value.Value.{Value}
 use Rattle.au_value.specs.declared.value.Value.TheVariants.{Int, Flag}
 use Rattle.au_value.specs.Order.{equal, below, at_most}
 use Rattle.au_value.specs.Ranges.{lesser, greater}
 use Rattle.au_expr.specs.Ordinary as on_values
+use Rattle.au_algebra.specs.Lists.{value_at}
 use Rattle.au_plain.specs.declared.expr.Comparison2.{Comparison2}
 use Rattle.au_plain.specs.declared.expr.Comparison2.TheVariants.{Equal, Less, AtMost}
 use Rattle.au_plain.specs.declared.expr.PExpr.{PExpr, Row_of-PExpr, end_of-PExpr, more_of-PExpr}
@@ -65,10 +66,6 @@ abbrev pub plainly : Comparison2 → Value → Value → Bool
 plainly Equal a b = equal a b
 plainly Less a b = below a b
 plainly AtMost a b = at_most a b
-
--- the value in a column, and 0 past the last
-abbrev pub value_at : List Value → ℕ → Value
-value_at row i = unwrap_or (slice_get row i) (Int (pos 0))
 
 -- the value on a row
 abbrev mutual

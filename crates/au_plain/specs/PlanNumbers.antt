@@ -4,11 +4,11 @@ use Rattle.std.specs.Prelude.{ℕ, ◌+◌, List, [], ◌∷◌, ◌++◌, map, 
 use Rattle.au_value.specs.declared.value.Value.{Value}
 use Rattle.au_expr.specs.Ordinary.{is_true, number}
 use Rattle.au_expr.specs.Numbers.{number_if_any}
-use Rattle.au_algebra.specs.Lists.{distinct, same_row}
+use Rattle.au_algebra.specs.Lists.{distinct, same_row, value_at}
 use Rattle.au_algebra.specs.Ordinary.{Rows}
 use Rattle.au_plain.specs.declared.plan.PAgg.{PAgg}
 use Rattle.au_plain.specs.declared.plan.PAgg.TheVariants.{Sum, Min, Max}
-use Rattle.au_plain.specs.PTerms.{PTerm, PTerms, nil, cons, plain_value, least_value, greatest_value, value_at}
+use Rattle.au_plain.specs.PTerms.{PTerm, PTerms, nil, cons, plain_value, least_value, greatest_value}
 use Rattle.au_plain.specs.PTerms as term
 use Rattle.au_plain.specs.Plans.{PlanTree}
 use Rattle.au_plain.specs.Plans as plan

@@ -1,5 +1,5 @@
 -- Lists of rows with the same copies: what operators of plans make of them, and which numbers they form.
-use Rattle.std.specs.Prelude.{◌≡◌, ℕ, ◌<◌, Bool, true, false, cond, List, [], ◌∷◌, ◌++◌, map, filter, flat_map, sum_by, ℤ}
+use Rattle.std.specs.Prelude.{◌≡◌, ℕ, ◌<◌, Bool, cond, List, [], ◌∷◌, ◌++◌, map, filter, flat_map, sum_by, ℤ}
 use Rattle.std.specs.List.{AllByRecursion}
 use Rattle.std.proofs.Common.{arith, refl, sym, ◌∙◌, ap, subst}
 use Rattle.std.proofs.lemmas.List.Sums.{sum_by-cons}
@@ -8,11 +8,12 @@ use Rattle.au_expr.specs.Figures.{Fit}
 use Rattle.au_expr.proofs.Fits.{fit_both, fit_parts}
 use Rattle.au_algebra.specs.Lists.{copies}
 use Rattle.au_algebra.specs.Ordinary.{Rows}
-use Rattle.au_algebra.proofs.Copies.{copies-append, copies-cons}
+use Rattle.au_algebra.proofs.Copies.{copies-append}
 use Rattle.au_algebra.proofs.Each.{all_filter, all_append}
 use Rattle.au_algebra.proofs.Occurring.{SameCopies, copies-filter, from_occurring, occurring, same_map, sum_same_copies}
+use Rattle.au_algebra.proofs.Sorting.{same_sorted}
 use Rattle.au_physical.specs.declared.physical.Bounds.{Bounds}
-use Rattle.au_physical.specs.PhysicalMeaning.{by_range, insert_range, pairs_where, range_at_most}
+use Rattle.au_physical.specs.PhysicalMeaning.{by_range, pairs_where, range_at_most}
 
 -- one after another
 pub same_append : (xs ys us vs : Rows) → SameCopies xs us → SameCopies ys vs → SameCopies (xs ++ ys) (us ++ vs)
@@ -53,21 +54,9 @@ same_pairs chosen xs ys us vs h k =
 
 -- ---- rows ordered by a range
 
-module _ (at : Bounds) where
-  inserted_if : (b : Bool) (v row r : List Value) (rows more : Rows) → copies v more ≡ copies v (row ∷ rows) → copies v (cond b (row ∷ r ∷ rows) (r ∷ more)) ≡ copies v (row ∷ r ∷ rows)
-  inserted_if true v row r rows more h = refl
-  inserted_if false v row r rows more h =
-      omega (arith, h, copies-cons v r more, copies-cons v row rows, copies-cons v row (r ∷ rows), copies-cons v r rows)
-
-  inserted : (v row : List Value) (rows : Rows) → copies v (insert_range at row rows) ≡ copies v (row ∷ rows)
-  inserted v row [] = refl
-  inserted v row (r ∷ rows) = inserted_if (range_at_most at row r) v row r rows (insert_range at row rows) (inserted v row rows)
-
-  -- they are the rows in another order
-  pub same_by_range : (rows : Rows) → SameCopies (by_range at rows) rows
-  same_by_range [] v = refl
-  same_by_range (row ∷ rows) v =
-      omega (arith, inserted v row (by_range at rows), same_by_range rows v, copies-cons v row (by_range at rows), copies-cons v row rows)
+-- they are the rows in another order
+pub same_by_range : (at : Bounds) (rows : Rows) → SameCopies (by_range at rows) rows
+same_by_range at rows = same_sorted (range_at_most at) rows
 
 -- ---- what holds of each row, and numbers that fit
 

@@ -17,13 +17,14 @@ use Rattle.au_annot.specs.Counts.{count_fits}
 use Rattle.au_annot.specs.Triples.{counts, total_counts}
 use Rattle.au_algebra.specs.Counted.{CountedRow, count_of}
 use Rattle.au_algebra.specs.Entries.{entry}
-use Rattle.au_algebra.specs.Lists.{distinct, same_row}
+use Rattle.au_algebra.specs.Lists.{distinct, same_row, sorted_by}
 use Rattle.au_algebra.specs.Ordinary.{Rows}
-use Rattle.au_algebra.specs.Bounded.{RangeRow, Bounded, same_ranges, ranges_order, merge_equal, insert_row, sorted, normal}
+use Rattle.au_algebra.specs.Bounded.{RangeRow, same_ranges, ranges_order, merge_equal, row_at_most, sorted, normal}
 use Rattle.au_algebra.specs.Fits.{triples_fit}
 use Rattle.au_algebra.proofs.Runs.{normal_shuffled}
+use Rattle.au_algebra.proofs.Sorting.{map_sorted}
 use Rattle.au_algebra.proofs.TripleFits.{IsInRange, all_fit}
-use Rattle.au_print.specs.GuessTexts.{insert_values, in_order, counted, counts_fit}
+use Rattle.au_print.specs.GuessTexts.{in_order, counted, counts_fit}
 
 -- each value as the range of it alone
 abbrev pub ranges : List Value → List Span
@@ -127,19 +128,10 @@ module _ (rows : List CountedRow) where
       (ap (distinct same_ranges) keys ∙ distinct_ranges (map (λ r. r.cells) rows))
       ∙ merged_rows (distinct same_row (map (λ r. r.cells) rows))
 
-  insert_if : (b : Bool) (v w : List Value) (vs : Rows) (rest : Bounded) → rest ≡ map (λ u. as_bounded (with_count u)) (insert_values v vs) → cond b (as_bounded (with_count v) ∷ as_bounded (with_count w) ∷ map (λ u. as_bounded (with_count u)) vs) (as_bounded (with_count w) ∷ rest) ≡ map (λ u. as_bounded (with_count u)) (cond b (v ∷ w ∷ vs) (w ∷ insert_values v vs))
-  insert_if true v w vs rest e = refl
-  insert_if false v w vs rest e = ap (λ rs. as_bounded (with_count w) ∷ rs) e
-
-  insert_of : (v : List Value) (vs : Rows) → insert_row (as_bounded (with_count v)) (map (λ u. as_bounded (with_count u)) vs) ≡ map (λ u. as_bounded (with_count u)) (insert_values v vs)
-  insert_of v [] = refl
-  insert_of v (w ∷ vs) =
-      ap (λ o. cond (is_le o) (as_bounded (with_count v) ∷ as_bounded (with_count w) ∷ map (λ u. as_bounded (with_count u)) vs) (as_bounded (with_count w) ∷ insert_row (as_bounded (with_count v)) (map (λ u. as_bounded (with_count u)) vs))) (ranges_order_of v w)
-      ∙ insert_if (is_le (slice_cmp order v w)) v w vs (insert_row (as_bounded (with_count v)) (map (λ u. as_bounded (with_count u)) vs)) (insert_of v vs)
-
   sorted_of : (vs : Rows) → sorted (map (λ u. as_bounded (with_count u)) vs) ≡ map (λ u. as_bounded (with_count u)) (in_order vs)
-  sorted_of [] = refl
-  sorted_of (v ∷ vs) = ap (insert_row (as_bounded (with_count v))) (sorted_of vs) ∙ insert_of v (in_order vs)
+  sorted_of vs =
+      sym (map_sorted (λ u. as_bounded (with_count u)) row_at_most vs)
+      ∙ (λ i. map (λ u. as_bounded (with_count u)) (sorted_by (λ v w. is_le (ranges_order_of v w i)) vs))
 
   -- the normal form is each row once, with its counts added
   pub normal_of : normal (map as_bounded rows) ≡ map as_bounded (counted rows)

@@ -1,6 +1,6 @@
 -- The text of an answer over the guess world: each row of values once, in order, behind the number of its copies.
 -- It is given by rows with counts, of which equal rows stand for one row, or by the rows of a world themselves.
-use Rattle.std.specs.Prelude.{ℕ, Bool, List, [], ◌∷◌, ◌++◌, map, flat_map, codes, decimal, if◌then◌else◌}
+use Rattle.std.specs.Prelude.{ℕ, Bool, List, ◌∷◌, ◌++◌, map, flat_map, codes, decimal}
 use Rattle.std.specs.List.{list_all}
 use Rattle.std.specs.Ordering.{is_le}
 use Rattle.std.specs.Cmp.Lexicographic.{slice_cmp}
@@ -10,18 +10,17 @@ use Rattle.au_value.specs.Order.{order}
 use Rattle.au_annot.specs.Counts.{count_fits}
 use Rattle.au_algebra.specs.Counted.{CountedRow, occurring, count_of}
 use Rattle.au_algebra.specs.Entries.{entry}
-use Rattle.au_algebra.specs.Lists.{distinct, same_row, copies}
+use Rattle.au_algebra.specs.Lists.{distinct, same_row, copies, sorted_by}
 use Rattle.au_algebra.specs.Ordinary.{Rows}
 use Rattle.au_print.specs.Texts.{value_texts, record_text}
 
--- the row before the first that is not below it, by values from the first column on
-abbrev pub insert_values : List Value → Rows → Rows
-insert_values v [] = v ∷ []
-insert_values v (w ∷ rows) = if is_le (slice_cmp order v w) then v ∷ w ∷ rows else w ∷ insert_values v rows
+-- one row may stand before another, by values from the first column on
+abbrev pub values_at_most : List Value → List Value → Bool
+values_at_most v w = is_le (slice_cmp order v w)
 
+-- the rows in order
 abbrev pub in_order : Rows → Rows
-in_order [] = []
-in_order (v ∷ rows) = insert_values v (in_order rows)
+in_order rows = sorted_by values_at_most rows
 
 -- each row of values once and in order, with the sum of its counts
 abbrev pub counted : List CountedRow → List CountedRow

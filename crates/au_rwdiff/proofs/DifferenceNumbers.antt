@@ -14,10 +14,11 @@ use Rattle.au_expr.proofs.Fits.{fit_both, fit_parts}
 use Rattle.au_algebra.specs.Bounded.{RangeRow, Bounded, less}
 use Rattle.au_algebra.specs.Fits.{difference_sums}
 use Rattle.au_algebra.specs.Laws.{IsRangeRow, IsRelation}
+use Rattle.au_algebra.specs.Lists.{value_at}
 use Rattle.au_algebra.specs.Ordinary.{Rows}
 use Rattle.au_algebra.proofs.Each.{all_append, all_filter}
 use Rattle.au_plain.specs.declared.expr.Comparison2.TheVariants.{Less}
-use Rattle.au_plain.specs.PTerms.{PTerm, Column, Subtract, value_at, greatest_of_two}
+use Rattle.au_plain.specs.PTerms.{PTerm, Column, Subtract, greatest_of_two}
 use Rattle.au_plain.specs.Plans.{PlanTree, Join, Union, extend_all}
 use Rattle.au_plain.specs.Meaning.{plain_rows}
 use Rattle.au_plain.specs.PlanNumbers.{plan_numbers, term_numbers, magnitudes, group_numbers}

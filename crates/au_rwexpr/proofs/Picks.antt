@@ -6,7 +6,7 @@ use Rattle.std.proofs.lemmas.List.{length-append}
 use Rattle.au_value.specs.declared.kinds.Kind.{Kind}
 use Rattle.au_value.specs.declared.value.Value.{Value}
 use Rattle.au_value.specs.declared.value.Value.TheVariants.{Int}
-use Rattle.au_plain.specs.PTerms.{value_at}
+use Rattle.au_algebra.specs.Lists.{value_at}
 use Rattle.au_plain.specs.Meaning.{kept}
 use Rattle.au_plain.specs.PlanKinds.{kept_kinds}
 use Rattle.au_rwexpr.specs.Cells.{three_places, cell_places}

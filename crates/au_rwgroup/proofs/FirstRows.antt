@@ -9,7 +9,7 @@ use Rattle.au_value.specs.declared.value.Value.TheVariants as value
 use Rattle.au_value.specs.Ranges.{Span, IsRangeOf, guesses, all_certain}
 use Rattle.au_expr.specs.Ordinary as on_values
 use Rattle.au_algebra.specs.declared.query.Agg.{Agg}
-use Rattle.au_algebra.specs.Lists.{same_row, copies, greatest}
+use Rattle.au_algebra.specs.Lists.{same_row, copies, greatest, value_at}
 use Rattle.au_algebra.specs.Ordinary.{Rows}
 use Rattle.au_algebra.specs.Bounded as bounded
 use Rattle.au_algebra.specs.Bounded.{RangeRow, Bounded, hull_of, group_counts, some_of, most_of, output, guessed_keys}
@@ -18,7 +18,7 @@ use Rattle.au_algebra.proofs.Choices.{sum_if}
 use Rattle.au_algebra.proofs.Each.{all_filter, all_from}
 use Rattle.au_plain.specs.declared.plan.PAgg.{PAgg}
 use Rattle.au_plain.specs.declared.plan.PAgg.TheVariants.{Max}
-use Rattle.au_plain.specs.PTerms.{value_at, Add, Column}
+use Rattle.au_plain.specs.PTerms.{Add, Column}
 use Rattle.au_plain.specs.Plans.{PlanTree, extend_all}
 use Rattle.au_plain.specs.Meaning.{plain_rows, kept, plain_aggregate, extended}
 use Rattle.au_encode.specs.Encode.{encode, encode_row, encode_cells, encode_counts}

@@ -13,7 +13,7 @@ use Rattle.au_expr.specs.Ordinary as on_values
 use Rattle.au_expr.specs.Ordinary.{number}
 use Rattle.au_algebra.specs.declared.query.Agg.{Agg}
 use Rattle.au_algebra.specs.declared.query.Agg.TheVariants as agg
-use Rattle.au_algebra.specs.Lists.{same_row, int_sum, least, greatest}
+use Rattle.au_algebra.specs.Lists.{same_row, int_sum, least, greatest, value_at}
 use Rattle.au_algebra.specs.Ordinary.{Rows}
 use Rattle.au_algebra.specs.Bounded as bounded
 use Rattle.au_algebra.specs.Bounded.{RangeRow, Bounded, Grouped, lower_term, upper_term, guess_term, guess_if, group_counts, output, aggregate, hull_of, range_at, or_else, surely_there, guessed_there}
@@ -23,7 +23,7 @@ use Rattle.au_algebra.proofs.Each.{all_filter, all_from, passing}
 use Rattle.au_algebra.proofs.Extremes.{least_below, greatest_above}
 use Rattle.au_plain.specs.declared.plan.PAgg.{PAgg}
 use Rattle.au_plain.specs.declared.plan.PAgg.TheVariants.{Sum, Min, Max}
-use Rattle.au_plain.specs.PTerms.{PTerm, Column, value_at}
+use Rattle.au_plain.specs.PTerms.{PTerm, Column}
 use Rattle.au_plain.specs.Plans.{PlanTree}
 use Rattle.au_plain.specs.Meaning.{plain_rows, kept, plain_aggregate}
 use Rattle.au_encode.specs.Encode.{encode, encode_row, encode_cells, encode_counts}

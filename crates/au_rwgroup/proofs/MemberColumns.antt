@@ -13,13 +13,13 @@ use Rattle.au_expr.specs.Ordinary as on_values
 use Rattle.au_expr.specs.Ordinary.{is_true}
 use Rattle.au_algebra.specs.declared.query.Agg.{Agg}
 use Rattle.au_algebra.specs.declared.query.Agg.TheVariants as agg
-use Rattle.au_algebra.specs.Lists.{same_row, int_sum, least, greatest}
+use Rattle.au_algebra.specs.Lists.{same_row, int_sum, least, greatest, value_at}
 use Rattle.au_algebra.specs.Bounded.{RangeRow, Bounded, Grouped, lower_term, upper_term, guess_term, grouped, range_at}
 use Rattle.au_algebra.specs.Laws.{IsRangeRow, IsRelation}
 use Rattle.au_algebra.proofs.Each.{all_filter}
 use Rattle.au_plain.specs.declared.plan.PAgg.{PAgg}
 use Rattle.au_plain.specs.declared.plan.PAgg.TheVariants.{Min, Max}
-use Rattle.au_plain.specs.PTerms.{value_at, And}
+use Rattle.au_plain.specs.PTerms.{And}
 use Rattle.au_plain.specs.Meaning.{plain_aggregate}
 use Rattle.au_encode.specs.Encode.{encode_row, encode_cells, encode_counts}
 use Rattle.au_encode.proofs.Decoded.{cells_length}

@@ -14,9 +14,10 @@ use Rattle.au_algebra.specs.declared.query.Agg.TheVariants as agg
 use Rattle.au_algebra.specs.Bounded.{RangeRow, Bounded, Grouped, lower_term, upper_term, guess_term}
 use Rattle.au_algebra.specs.Fits.{agg_numbers, term_numbers}
 use Rattle.au_algebra.specs.Laws.{IsRangeRow, IsRelation}
+use Rattle.au_algebra.specs.Lists.{value_at}
 use Rattle.au_algebra.proofs.Each.{all_filter}
 use Rattle.au_plain.specs.declared.plan.PAgg.{PAgg}
-use Rattle.au_plain.specs.PTerms.{value_at, Column, Multiply, And, Case}
+use Rattle.au_plain.specs.PTerms.{Column, Multiply, And, Case}
 use Rattle.au_plain.specs.PlanNumbers.{magnitudes}
 use Rattle.au_plain.proofs.Held.{ValueFits, RowFits}
 use Rattle.au_rwexpr.specs.Adding.{grow_numbers}

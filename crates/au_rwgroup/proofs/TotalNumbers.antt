@@ -17,7 +17,7 @@ use Rattle.au_expr.proofs.Fits.{fit_both, fit_parts}
 use Rattle.au_algebra.specs.declared.query.Agg.{Agg}
 use Rattle.au_algebra.specs.declared.query.Agg.TheVariants as agg
 use Rattle.au_algebra.specs.Fits.{agg_numbers}
-use Rattle.au_algebra.specs.Lists.{same_row}
+use Rattle.au_algebra.specs.Lists.{same_row, value_at}
 use Rattle.au_algebra.specs.Ordinary.{Rows}
 use Rattle.au_algebra.specs.Typing.{is_sum}
 use Rattle.au_algebra.specs.Bounded.{RangeRow, Bounded, all_rows, lower_term, upper_term, guess_term}
@@ -25,7 +25,7 @@ use Rattle.au_algebra.specs.Laws.{IsRangeRow, IsRelation}
 use Rattle.au_algebra.proofs.Each.{all_from}
 use Rattle.au_algebra.proofs.Filters.{filter_all}
 use Rattle.au_plain.specs.declared.expr.Comparison2.TheVariants.{Less}
-use Rattle.au_plain.specs.PTerms.{PTerm, Compare, Multiply, value_at}
+use Rattle.au_plain.specs.PTerms.{PTerm, Compare, Multiply}
 use Rattle.au_plain.specs.Plans as plan
 use Rattle.au_plain.specs.Plans.{PlanTree, Keep, Union, Group, extend_all}
 use Rattle.au_plain.specs.Meaning.{plain_rows}

@@ -14,7 +14,7 @@ use Rattle.au_expr.specs.Ordinary.{number}
 use Rattle.au_algebra.specs.declared.query.Agg.{Agg}
 use Rattle.au_algebra.specs.declared.query.Agg.TheVariants as agg
 use Rattle.au_algebra.specs.Entries.{entry}
-use Rattle.au_algebra.specs.Lists.{distinct, same_row, int_sum}
+use Rattle.au_algebra.specs.Lists.{distinct, same_row, int_sum, value_at}
 use Rattle.au_algebra.specs.Ordinary.{Rows}
 use Rattle.au_algebra.specs.Typing.{is_sum}
 use Rattle.au_algebra.specs.Bounded as bounded
@@ -22,7 +22,6 @@ use Rattle.au_algebra.specs.Bounded.{RangeRow, Bounded, all_rows, lower_term, up
 use Rattle.au_algebra.specs.Laws.{IsRangeRow, IsRelation}
 use Rattle.au_algebra.proofs.Filters.{filter_all}
 use Rattle.au_plain.specs.declared.plan.PAgg.TheVariants.{Sum}
-use Rattle.au_plain.specs.PTerms.{value_at}
 use Rattle.au_plain.specs.Plans as plan
 use Rattle.au_plain.specs.Plans.{PlanTree, Keep, Union, Group, extend_all}
 use Rattle.au_plain.specs.Meaning.{plain_rows, kept, plain_aggregate, plain_group}
