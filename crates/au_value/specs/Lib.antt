@@ -1,5 +1,6 @@
 -- The definitions, in the order in which they are to be read.
 pub mod Texts
+pub mod Lists
 pub mod Order
 pub mod Ranges
 pub mod Numeral
