@@ -3,6 +3,7 @@ pub mod Texts
 pub mod Lists
 pub mod Order
 pub mod Ranges
+pub mod Extremes
 pub mod Numeral
 pub mod Decimal
 pub mod Adding
