@@ -7,9 +7,10 @@ use Rattle.std.specs.Ordering.{is_le, is_gt}
 use Rattle.std.proofs.Common.{refl, sym, ◌∙◌, ap, inl, inr}
 use Rattle.std.proofs.lemmas.Bool.{cases_Bool, true≢false, false_from_ne_true}
 use Rattle.au_value.specs.Ranges.{Span}
+use Rattle.au_value.specs.Lists.{distinct}
 use Rattle.au_annot.specs.Triples.{Counts, total_counts}
 use Rattle.au_algebra.specs.Entries.{entry}
-use Rattle.au_algebra.specs.Lists.{distinct, insert_by}
+use Rattle.au_algebra.specs.Lists.{insert_by}
 use Rattle.au_algebra.specs.Bounded.{RangeRow, Bounded, same_ranges, ranges_order, merge_equal, row_at_most, sorted, normal}
 use Rattle.au_algebra.proofs.Each.{all_from, all_filter, all_of, passing}
 use Rattle.au_algebra.proofs.Filters.{filter_both, filter_none}

@@ -5,9 +5,11 @@ use Rattle.std.proofs.lemmas.Bool.{cases_Bool}
 use Rattle.std.proofs.lemmas.List.{append-nil, map-append}
 use Rattle.std.proofs.lemmas.List.Elements.{filter-append}
 use Rattle.indexmap.specs.IndexSet.{insert_key}
+use Rattle.au_value.specs.Lists.{distinct}
+use Rattle.au_value.proofs.FirstSeen.{Apart, one, any-distinct, apart-distinct}
 use Rattle.au_algebra.specs.Keys.{with_key, groups_by, with_item_at}
-use Rattle.au_algebra.specs.Lists.{distinct, same_row}
-use Rattle.au_algebra.proofs.FirstSeen.{Cells, Apart, one, itself, turned, same, any-distinct, distinct-push, apart-distinct}
+use Rattle.au_algebra.specs.Lists.{same_row}
+use Rattle.au_algebra.proofs.FirstSeen.{Cells, same_row-Decides, itself, turned, same, distinct-push}
 
 module _ {A : Type 0} (key : A → Cells) (items : List A) (x : A) where
   abbrev k : Cells
@@ -39,7 +41,7 @@ module _ {A : Type 0} (key : A → Cells) (items : List A) (x : A) where
             rw (keeps m here, others-kept ls later) refl
       ]
 
-  known-step : (ls : List Cells) → Apart ls → list_any (same_row k) ls ≡ true → with_item_at (map G ls) (position_or_len (same_row k) ls) x ≡ map H ls
+  known-step : (ls : List Cells) → Apart same_row ls → list_any (same_row k) ls ≡ true → with_item_at (map G ls) (position_or_len (same_row k) ls) x ≡ map H ls
   known-step [] apart present = cc
   known-step (m ∷ ls) (one absent apart) present =
       elim (cases_Bool (same_row k m)) [
@@ -85,8 +87,8 @@ module _ {A : Type 0} (key : A → Cells) (items : List A) (x : A) where
   groups-push =
       let ls = distinct same_row (map key items) in
       elim (cases_Bool (list_any (same_row k) ls)) [
-        | inl here ↦ known-step ls (apart-distinct (map key items)) here ∙ ap (map H) (sym (rw here at keys-push))
-        | inr here ↦ new-step ls (no-members items (sym (any-distinct k (map key items)) ∙ here)) here ∙ ap (map H) (sym (rw here at keys-push))
+        | inl here ↦ known-step ls (apart-distinct same_row (map key items)) here ∙ ap (map H) (sym (rw here at keys-push))
+        | inr here ↦ new-step ls (no-members items (sym (any-distinct same_row same_row-Decides k (map key items)) ∙ here)) here ∙ ap (map H) (sym (rw here at keys-push))
       ]
 
 -- a place among some rows, or behind them

@@ -9,6 +9,7 @@ use Rattle.au_value.specs.declared.value.Value.{Value}
 use Rattle.au_value.specs.declared.value.Value.TheVariants.{Int}
 use Rattle.au_value.specs.Order.{order}
 use Rattle.au_value.specs.Ranges.{Span, range, certain, all_overlap, all_certain, all_certainly_equal, hulls, guesses, lower_ends, upper_ends}
+use Rattle.au_value.specs.Lists.{distinct}
 use Rattle.au_annot.specs.Triples.{Counts, counts, times, one, total_counts, is_none}
 use Rattle.au_expr.specs.Terms.{Term}
 use Rattle.au_expr.specs.Ordinary.{is_true, number}
@@ -18,7 +19,7 @@ use Rattle.au_algebra.specs.declared.query.Agg.TheVariants.{Sum, Min, Max}
 use Rattle.au_algebra.specs.Trees.{Tree}
 use Rattle.au_algebra.specs.Trees.{Table, Select, Project, Product, Union, Difference, Distinct, Group, Total}
 use Rattle.au_algebra.specs.Entries.{Entry, entry}
-use Rattle.au_algebra.specs.Lists.{distinct, same_row, sorted_by, int_sum, least, greatest}
+use Rattle.au_algebra.specs.Lists.{same_row, sorted_by, int_sum, least, greatest}
 
 -- a list of ranges with a triple
 abbrev pub RangeRow : Type 0

@@ -2,7 +2,8 @@
 use Rattle.std.specs.Prelude.{ℕ, zero, suc, List, [], ◌∷◌, ◌++◌, filter, map, Vec}
 use Rattle.std.specs.declared.alloc.Global.{Global}
 use Rattle.au_value.specs.declared.value.Value.{Value}
-use Rattle.au_algebra.specs.Lists.{distinct, same_row}
+use Rattle.au_value.specs.Lists.{distinct}
+use Rattle.au_algebra.specs.Lists.{same_row}
 use Rattle.au_algebra.specs.Ordinary.{Rows}
 
 abbrev pub key_values : List (Vec Value Global) → Rows

@@ -1,16 +1,11 @@
--- Lists by a test of equality: distinct items, items taken out, and how often an item occurs; and lists in order.
+-- Lists by a test of equality: items taken out, and how often an item occurs; and lists in order.
 -- Besides, rows of values, with the sum, the least and the greatest of some values.
-use Rattle.std.specs.Prelude.{◌≡◌, ℕ, Bool, not, List, [], ◌∷◌, ℤ, pos, ◌+ℤ◌, unwrap_or, slice_get, count_by, filter, if◌then◌else◌}
+use Rattle.std.specs.Prelude.{◌≡◌, ℕ, Bool, List, [], ◌∷◌, ℤ, pos, ◌+ℤ◌, unwrap_or, slice_get, count_by, if◌then◌else◌}
 use Rattle.std.specs.Cmp.Lexicographic.{pointwise}
 use Rattle.au_value.specs.declared.value.Value.{Value}
 use Rattle.au_value.specs.declared.value.Value.TheVariants.{Int}
 use Rattle.au_value.specs.Order.{equal}
 use Rattle.au_value.specs.Ranges.{lesser, greater}
-
--- each item once, where it is first seen
-abbrev pub distinct : {A : Type 0} → (A → A → Bool) → List A → List A
-distinct eq [] = []
-distinct eq (x ∷ xs) = x ∷ filter (λ y. not (eq x y)) (distinct eq xs)
 
 -- the list without the first item that is equal to this one
 abbrev pub without : {A : Type 0} → (A → A → Bool) → A → List A → List A

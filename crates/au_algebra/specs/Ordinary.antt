@@ -3,13 +3,14 @@
 use Rattle.std.specs.Prelude.{ℕ, List, [], ◌∷◌, ◌++◌, map, take, filter, unwrap_or, slice_get, flat_map}
 use Rattle.au_value.specs.declared.value.Value.{Value}
 use Rattle.au_value.specs.declared.value.Value.TheVariants.{Int}
+use Rattle.au_value.specs.Lists.{distinct}
 use Rattle.au_expr.specs.Terms.{Term}
 use Rattle.au_expr.specs.Ordinary.{value_of, is_true, number}
 use Rattle.au_algebra.specs.declared.query.Agg.{Agg}
 use Rattle.au_algebra.specs.declared.query.Agg.TheVariants.{Sum, Min, Max}
 use Rattle.au_algebra.specs.Trees.{Tree}
 use Rattle.au_algebra.specs.Trees.{Table, Select, Project, Product, Union, Difference, Distinct, Group, Total}
-use Rattle.au_algebra.specs.Lists.{distinct, take_out, same_row, value_at, int_sum, least, greatest}
+use Rattle.au_algebra.specs.Lists.{take_out, same_row, value_at, int_sum, least, greatest}
 
 -- a list of rows, taken up to order
 abbrev pub Rows : Type 0

@@ -5,17 +5,20 @@ use Rattle.std.specs.List.{list_any, position_or_len, cons_option}
 use Rattle.std.proofs.lemmas.Bool.{cases_Bool}
 use Rattle.std.proofs.lemmas.List.{append-nil, map-append, length-map, get_or_at, set_at, length_push}
 use Rattle.std.proofs.lemmas.List.Elements.{filter-append, filter_map-append}
+use Rattle.std.proofs.lemmas.Slice.Eq.{bytes_eq-Decides}
 use Rattle.indexmap.specs.IndexSet.{insert_key}
 use Rattle.au_value.specs.declared.kinds.Kind.{Kind}
+use Rattle.au_value.specs.Lists.{distinct}
+use Rattle.au_value.specs.Texts.{Text}
+use Rattle.au_value.proofs.FirstSeen.{Apart, one, any-distinct, apart-distinct}
 use Rattle.au_csv.specs.Texts.{Record}
 use Rattle.au_blocks.specs.declared.format.Format.{Format}
 use Rattle.au_blocks.specs.Headers.{has_blocks}
-use Rattle.au_blocks.specs.Entries.{BlockEntry, block_entry_of, entries_of, label_of, labelled, distinct_labels, entry_blocks}
+use Rattle.au_blocks.specs.Entries.{BlockEntry, block_entry_of, entries_of, label_of, labelled, entry_blocks}
 use Rattle.au_blocks.specs.Gathered.{Gathered, gathered, nothing, with_entry}
 use Rattle.au_blocks.proofs.Gathering.{gathered-push}
 use Rattle.au_blocks.proofs.Places.{absent-place, known-place}
-use Rattle.au_value.specs.Texts.{Text}
-use Rattle.au_blocks.proofs.Distinct.{Apart, one, itself, turned, same, any-distinct, distinct-push, apart-distinct}
+use Rattle.au_blocks.proofs.Distinct.{itself, turned, same, distinct-push}
 
 -- a list by labels, where the value of one label changes
 module _ (G H : Text → Gathered) (l : Text) (keeps : (m : Text) → bytes_eq l m ≡ false → H m ≡ G m) where
@@ -40,7 +43,7 @@ module _ (G H : Text → Gathered) (l : Text) (keeps : (m : Text) → bytes_eq l
             rw (here, next) (get-label ls d later)
       ]
 
-  set-label : (ls : List Text) → Apart ls → list_any (bytes_eq l) ls ≡ true → set (map G ls) (position_or_len (bytes_eq l) ls) (H l) ≡ map H ls
+  set-label : (ls : List Text) → Apart bytes_eq ls → list_any (bytes_eq l) ls ≡ true → set (map G ls) (position_or_len (bytes_eq l) ls) (H l) ≡ map H ls
   set-label [] apart present = cc
   set-label (m ∷ ls) (one absent apart) present =
       elim (cases_Bool (bytes_eq l m)) [
@@ -88,7 +91,7 @@ under-other f kinds rows r m apart =
 
 -- the labels of the records so far, and what is gathered under each
 abbrev pub labels : List Record → List Text
-labels rows = distinct_labels (map label_of rows)
+labels rows = distinct bytes_eq (map label_of rows)
 
 abbrev pub builders : Format → List Kind → List Record → List Gathered
 builders f kinds rows = map (under f kinds rows) (labels rows)
@@ -98,7 +101,7 @@ abbrev pub with_builder : List Gathered → Bool → List Gathered
 with_builder gs known = gs ++ cond known [] (nothing ∷ [])
 
 pub labels-push : (rows : List Record) (r : Record) → labels (rows ++ r ∷ []) ≡ insert_key bytes_eq (labels rows) (label_of r)
-labels-push rows r = ap distinct_labels (map-append label_of rows (r ∷ [])) ∙ distinct-push (map label_of rows) (label_of r)
+labels-push rows r = ap (distinct bytes_eq) (map-append label_of rows (r ∷ [])) ∙ distinct-push (map label_of rows) (label_of r)
 
 step-known : (f : Format) (kinds : List Kind) (rows : List Record) (r : Record) (e : BlockEntry) → block_entry_of f r ≡ Some e → list_any (bytes_eq (label_of r)) (labels rows) ≡ true
     → set (builders f kinds rows) (position_or_len (bytes_eq (label_of r)) (labels rows)) (with_entry kinds (get_or (builders f kinds rows) (position_or_len (bytes_eq (label_of r)) (labels rows)) nothing) e)
@@ -108,7 +111,7 @@ step-known f kinds rows r e is known =
     let H = under f kinds (rows ++ r ∷ []) in
     let l = label_of r in
     rw (get-label G H l (under-other f kinds rows r) (labels rows) nothing known, ← under-same f kinds rows r e is)
-    (set-label G H l (under-other f kinds rows r) (labels rows) (apart-distinct (map label_of rows)) known)
+    (set-label G H l (under-other f kinds rows r) (labels rows) (apart-distinct bytes_eq (map label_of rows)) known)
 
 step-new : (f : Format) (kinds : List Kind) (rows : List Record) (r : Record) (e : BlockEntry) → block_entry_of f r ≡ Some e → list_any (bytes_eq (label_of r)) (labels rows) ≡ false
     → set (builders f kinds rows ++ nothing ∷ []) (position_or_len (bytes_eq (label_of r)) (labels rows)) (with_entry kinds (get_or (builders f kinds rows ++ nothing ∷ []) (position_or_len (bytes_eq (label_of r)) (labels rows)) nothing) e)
@@ -119,7 +122,7 @@ step-new f kinds rows r e is new =
     let l = label_of r in
     let at : position_or_len (bytes_eq l) (labels rows) ≡ length (labels rows) = absent-place (bytes_eq l) (labels rows) new in
     let long : length (builders f kinds rows) ≡ length (labels rows) = length-map (labels rows) G in
-    let none : list_any (bytes_eq l) (map label_of rows) ≡ false = sym (any-distinct l (map label_of rows)) ∙ new in
+    let none : list_any (bytes_eq l) (map label_of rows) ≡ false = sym (any-distinct bytes_eq bytes_eq-Decides l (map label_of rows)) ∙ new in
     let start : under f kinds rows l ≡ nothing = ap (λ rs. gathered kinds (entries_of f rs)) (labelled-absent l rows none) in
     let value : with_entry kinds nothing e ≡ H l = ap (λ g. with_entry kinds g e) (sym start) ∙ sym (under-same f kinds rows r e is) in
     rw (at, get_or_at (builders f kinds rows) nothing [] nothing (length (labels rows)) long, value)

@@ -13,6 +13,7 @@ use Rattle.au_value.specs.declared.kinds.Kind.{Kind}
 use Rattle.au_value.specs.declared.kinds.Kind.TheVariants as kind
 use Rattle.au_value.specs.declared.value.Value.{Value}
 use Rattle.au_value.specs.declared.value.Value.TheVariants as value
+use Rattle.au_value.specs.Lists.{distinct}
 use Rattle.au_value.specs.Numeral.{numeral_value}
 use Rattle.au_value.specs.Order.{kind_of, kind_eq, data_kind, is_column_kind, at_most}
 use Rattle.au_value.specs.Ranges.{Span, range, certain}
@@ -28,7 +29,7 @@ use Rattle.au_blocks.specs.Blocks.{Copies, IsCopies, once, copies_of, Choices, I
 use Rattle.au_blocks.specs.Tables.{IsBlockTable, table, fits_kinds, is_range_of}
 use Rattle.au_blocks.specs.Headers.{format_of, has_blocks, has_copies, lead, cells_of, cut, kind_named, column_name, column_names, written_kind, written_kinds}
 use Rattle.au_blocks.specs.Spellings.{Parts, parts, three, number_range, number_written, value_written, range_written, field_written, is_count, count_written, ordered_copies, copies_written}
-use Rattle.au_blocks.specs.Entries.{BlockEntry, block_entry, field, role_of, is_marked, is_absent, has_role, written_copies, copies_in, block_entry_of, entries_of, alternatives, label_of, labelled, distinct_labels, entry_blocks}
+use Rattle.au_blocks.specs.Entries.{BlockEntry, block_entry, field, role_of, is_marked, is_absent, has_role, written_copies, copies_in, block_entry_of, entries_of, alternatives, label_of, labelled, entry_blocks}
 use Rattle.au_blocks.specs.Inferring.{is_numeral, inferred, inferred_kind, column_kind, inferred_kinds, is_alternative, holds_numeral}
 use Rattle.au_blocks.specs.Defects.{where_true, is_field, bad_fields, alternative_defects, role_defects, record_defects, rows_defects, block_defects, blocks_defects, schema_defects}
 use Rattle.au_blocks.specs.Read.{cell, row, candidate_of, block_of, columns_of, header_kinds, header_columns, first}
@@ -314,8 +315,8 @@ plain-fit kinds (r ∷ rows) fit =
     rw parts.0 (plain-fit kinds rows parts.1)
 
 rows-fit : (B : Format) (kinds : List Kind) (rows : List Record) → list_all (λ r. record_fits kinds (block_entry_of B r)) rows ≡ true → blocks_fit kinds (entry_blocks B rows) ≡ true
-rows-fit format.Blocks kinds rows fit = labelled-fit format.Blocks kinds rows (distinct_labels (map label_of rows)) fit
-rows-fit format.Copies kinds rows fit = labelled-fit format.Copies kinds rows (distinct_labels (map label_of rows)) fit
+rows-fit format.Blocks kinds rows fit = labelled-fit format.Blocks kinds rows (distinct bytes_eq (map label_of rows)) fit
+rows-fit format.Copies kinds rows fit = labelled-fit format.Copies kinds rows (distinct bytes_eq (map label_of rows)) fit
 rows-fit format.Plain kinds rows fit = plain-fit kinds rows fit
 
 -- copies are in order
@@ -397,8 +398,8 @@ plain-copies (r ∷ rows) = ((once-copies, tt), plain-copies rows)
 
 blocks-copies : (f : Format) (rows : List Record) → AllByRecursion AreCopies (entry_blocks f rows)
 blocks-copies format.Plain rows = plain-copies rows
-blocks-copies format.Blocks rows = labelled-copies format.Blocks rows (distinct_labels (map label_of rows))
-blocks-copies format.Copies rows = labelled-copies format.Copies rows (distinct_labels (map label_of rows))
+blocks-copies format.Blocks rows = labelled-copies format.Blocks rows (distinct bytes_eq (map label_of rows))
+blocks-copies format.Copies rows = labelled-copies format.Copies rows (distinct bytes_eq (map label_of rows))
 
 or_false : (a b : Bool) → (a || b) ≡ false → (a ≡ false) × (b ≡ false)
 or_false true b is = cc

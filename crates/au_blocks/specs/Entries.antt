@@ -1,6 +1,7 @@
 -- The records of a table file below its header: what role each has in its block,
 -- and which records form a block.
 use Rattle.std.specs.Prelude.{ℕ, Bool, true, false, not, List, [], ◌∷◌, map, filter, filter_map, Option, Some, None, option_map, is_some, unwrap_or, if◌then◌else◌, codes, bytes_eq, slice_index_or}
+use Rattle.au_value.specs.Lists.{distinct}
 use Rattle.au_csv.specs.Texts.{Record}
 use Rattle.au_blocks.specs.declared.role.Role.{Role}
 use Rattle.au_blocks.specs.declared.role.Role.TheVariants as role
@@ -74,11 +75,6 @@ alternatives entries = filter (λ e. not (is_absent e.role)) entries
 abbrev pub label_of : Record → List ℕ
 label_of r = field 0 r
 
--- each text once, in the order in which they come first
-abbrev pub distinct_labels : List (List ℕ) → List (List ℕ)
-distinct_labels [] = []
-distinct_labels (x ∷ xs) = x ∷ filter (λ y. not (bytes_eq x y)) (distinct_labels xs)
-
 -- the records with a label
 abbrev pub labelled : List ℕ → List Record → List Record
 labelled label rows = filter (λ r. bytes_eq label (label_of r)) rows
@@ -86,5 +82,5 @@ labelled label rows = filter (λ r. bytes_eq label (label_of r)) rows
 -- the entries of each block: of the records with each label, or in a plain table of each record alone
 abbrev pub entry_blocks : Format → List Record → List (List BlockEntry)
 entry_blocks f rows =
-    if has_blocks f then map (λ label. entries_of f (labelled label rows)) (distinct_labels (map label_of rows))
+    if has_blocks f then map (λ label. entries_of f (labelled label rows)) (distinct bytes_eq (map label_of rows))
     else map (λ r. block_entry role.Guess once r ∷ []) rows

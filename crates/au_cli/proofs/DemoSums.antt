@@ -6,12 +6,13 @@ use Rattle.std.proofs.lemmas.List.{length-map}
 use Rattle.std.proofs.lemmas.List.Sums.{sum_by-cons, sum_by-le-sum_by}
 use Rattle.au_value.specs.declared.value.Value.{Value}
 use Rattle.au_value.specs.Ranges.{Span, guesses, all_certain}
+use Rattle.au_value.specs.Lists.{distinct}
 use Rattle.au_annot.specs.Triples.{Counts, none, plus, total_counts, is_none, in_range}
 use Rattle.au_expr.specs.Terms.{Term}
 use Rattle.au_expr.specs.OnRanges.{range_of}
 use Rattle.au_algebra.specs.declared.query.Agg.{Agg}
 use Rattle.au_algebra.specs.Entries.{entry}
-use Rattle.au_algebra.specs.Lists.{distinct, same_row}
+use Rattle.au_algebra.specs.Lists.{same_row}
 use Rattle.au_algebra.specs.Bounded.{RangeRow, Bounded, project, some_of, most_of, group_counts, output, guessed_keys, group_by, group, same_ranges, merge_equal, row_at_most, normal}
 use Rattle.au_algebra.proofs.Copies.{same_row_is, same_row_refl}
 use Rattle.au_algebra.proofs.DistinctSums.{sum_distinct}

@@ -1,7 +1,6 @@
 -- The generated records have no defect: each has its five fields, the records of one label are those of one block,
 -- and each block has one guess.
-use Rattle.std.proofs.Common.{◌≡◌, ℕ, zero, suc, ◌+◌, ◌*◌, ◌%◌, ◌<◌, ◌≤◌, ◌==◌, Bool, true, false, List, [], ◌∷◌, ◌++◌, length, map, pos, ℤ, Some, refl, ap, ◌∙◌, subst, arith, decimal, codes, filter, inl, inr, bytes_eq, Option}
-use Rattle.std.specs.Prelude.{not}
+use Rattle.std.proofs.Common.{◌≡◌, ℕ, zero, suc, ◌+◌, ◌*◌, ◌%◌, ◌<◌, ◌≤◌, ◌==◌, Bool, true, false, List, [], ◌∷◌, ◌++◌, length, map, pos, ℤ, Some, refl, ap, ◌∙◌, subst, arith, decimal, codes, inl, inr, bytes_eq, Option}
 use Rattle.std.specs.List.{flat_map, range_with_len, AllByRecursion, enumerate_from, list_all}
 use Rattle.std.specs.Str.{is_utf8}
 use Rattle.std.proofs.lemmas.Bool.{cases_Bool, cases_lt}
@@ -9,11 +8,13 @@ use Rattle.std.proofs.lemmas.List.{append-nil, length-map}
 use Rattle.std.proofs.lemmas.List.Elements.{filter-append}
 use Rattle.au_value.specs.declared.kinds.Kind.{Kind}
 use Rattle.au_value.specs.declared.kinds.Kind.TheVariants as kind
+use Rattle.au_value.specs.Lists.{distinct}
 use Rattle.au_value.specs.Numeral.{numeral_value}
+use Rattle.au_value.proofs.FirstSeen.{others}
 use Rattle.au_csv.specs.Texts.{Record, is_text}
 use Rattle.au_gen.specs.Generator.{draw}
 use Rattle.au_blocks.specs.Headers.{format_of}
-use Rattle.au_blocks.specs.Entries.{BlockEntry, entries_of, distinct_labels, label_of, labelled, entry_blocks}
+use Rattle.au_blocks.specs.Entries.{BlockEntry, entries_of, label_of, labelled, entry_blocks}
 use Rattle.au_blocks.specs.Defects.{record_defects, block_defects, blocks_defects}
 use Rattle.au_blocks.proofs.Distinct.{itself}
 use Rattle.au_cli.proofs.GeneratedDigits.{codes_utf8, decimal_utf8, lettered_utf8, decimal_numeral, decimal_apart}
@@ -83,17 +84,14 @@ no_row_defects k (r ∷ rows) h = rw (h.0.faults k) (no_row_defects (k + 1) rows
 abbrev pub labels : ℕ → ℕ → List (List ℕ)
 labels a n = map (λ j. decimal (j + 1)) (range_with_len a n)
 
-abbrev others : List ℕ → List (List ℕ) → List (List ℕ)
-others label = filter (λ y. not (bytes_eq label y))
-
 -- an earlier label is none of the later ones
-others_later : (i a n : ℕ) → i < a → a + n ≤ 100000 → others (decimal (i + 1)) (labels a n) ≡ labels a n
+others_later : (i a n : ℕ) → i < a → a + n ≤ 100000 → others bytes_eq (decimal (i + 1)) (labels a n) ≡ labels a n
 others_later i a zero before few = refl
 others_later i a (suc n) before few =
     rw (decimal_apart (i + 1) (a + 1) (omega arith) (omega arith) (λ e. omega arith))
     (ap (λ ls. decimal (a + 1) ∷ ls) (others_later i (a + 1) n (omega arith) (omega arith)))
 
-others_twice : (label : List ℕ) (xs : List (List ℕ)) → others label (others label xs) ≡ others label xs
+others_twice : (label : List ℕ) (xs : List (List ℕ)) → others bytes_eq label (others bytes_eq label xs) ≡ others bytes_eq label xs
 others_twice label [] = refl
 others_twice label (x ∷ xs) = elim (cases_Bool (bytes_eq label x)) [
   | inl same ↦ rw same (others_twice label xs)
@@ -101,22 +99,22 @@ others_twice label (x ∷ xs) = elim (cases_Bool (bytes_eq label x)) [
 ]
 
 -- a text that comes twice in a row counts once
-distinct_again : (x : List ℕ) (xs : List (List ℕ)) → distinct_labels (x ∷ x ∷ xs) ≡ distinct_labels (x ∷ xs)
-distinct_again x xs = rw (itself x) (ap (λ ys. x ∷ ys) (others_twice x (distinct_labels xs)))
+distinct_again : (x : List ℕ) (xs : List (List ℕ)) → distinct bytes_eq (x ∷ x ∷ xs) ≡ distinct bytes_eq (x ∷ xs)
+distinct_again x xs = rw (itself x) (ap (λ ys. x ∷ ys) (others_twice x (distinct bytes_eq xs)))
 
 distinct_block : (label group amount other more : List ℕ) (two absent : Bool) (rest : List Record)
-    → distinct_labels (map label_of (labelled_rows label group amount other more two absent ++ rest)) ≡ label ∷ others label (distinct_labels (map label_of rest))
+    → distinct bytes_eq (map label_of (labelled_rows label group amount other more two absent ++ rest)) ≡ label ∷ others bytes_eq label (distinct bytes_eq (map label_of rest))
 distinct_block label group amount other more true true rest = distinct_again label (label ∷ map label_of rest) ∙ distinct_again label (map label_of rest)
 distinct_block label group amount other more true false rest = distinct_again label (map label_of rest)
 distinct_block label group amount other more false true rest = distinct_again label (map label_of rest)
 distinct_block label group amount other more false false rest = refl
 
-pub generated_labels : (start a n : ℕ) → a + n ≤ 100000 → distinct_labels (map label_of (rows_from start a n)) ≡ labels a n
+pub generated_labels : (start a n : ℕ) → a + n ≤ 100000 → distinct bytes_eq (map label_of (rows_from start a n)) ≡ labels a n
 generated_labels start a zero few = refl
 generated_labels start a (suc n) few =
     let c = draw start (3 * a + 3) in
     distinct_block (decimal (a + 1)) (decimal (draw start (3 * a + 1) % 4)) (decimal (draw start (3 * a + 2) % 100)) (decimal ((draw start (3 * a + 1) + 1) % 4)) (decimal (draw start (3 * a + 2) % 100 + 7)) (c % 3 == 0) (c % 5 == 0) (rows_from start (a + 1) n)
-    ∙ ap (λ ls. decimal (a + 1) ∷ others (decimal (a + 1)) ls) (generated_labels start (a + 1) n (omega arith))
+    ∙ ap (λ ls. decimal (a + 1) ∷ others bytes_eq (decimal (a + 1)) ls) (generated_labels start (a + 1) n (omega arith))
     ∙ ap (λ ls. decimal (a + 1) ∷ ls) (others_later a (a + 1) n (omega arith) (omega arith))
 
 -- ---- the records of a label

@@ -1,10 +1,11 @@
 -- The generated text is a block table of three columns, with a block for each number.
-use Rattle.std.proofs.Common.{◌≡◌, ℕ, ◌≤◌, true, List, [], ◌∷◌, length, map, Option, Some, None, Ok, refl, ap, ◌∙◌, arith, codes}
+use Rattle.std.proofs.Common.{◌≡◌, ℕ, ◌≤◌, true, List, [], ◌∷◌, length, map, Option, Some, None, Ok, refl, ap, ◌∙◌, arith, codes, bytes_eq}
 use Rattle.std.specs.Prelude.{not, option_map}
 use Rattle.std.specs.List.{AllByRecursion, cons_option, list_all}
 use Rattle.std.proofs.lemmas.List.{length-map}
 use Rattle.au_value.specs.declared.kinds.Kind.{Kind}
 use Rattle.au_value.specs.declared.kinds.Kind.TheVariants as kind
+use Rattle.au_value.specs.Lists.{distinct}
 use Rattle.au_csv.specs.Texts.{Record, is_text, not_text, records_of}
 use Rattle.au_csv.proofs.NotText.{position-none}
 use Rattle.au_gen.specs.Generator.{text}
@@ -12,7 +13,7 @@ use Rattle.au_blocks.specs.declared.column.Column.{Column}
 use Rattle.au_blocks.specs.Tables.{BlockTable}
 use Rattle.au_blocks.specs.Headers.{format_of, cells_of, written_kinds}
 use Rattle.au_blocks.specs.Blocks.{Choices, once}
-use Rattle.au_blocks.specs.Entries.{BlockEntry, alternatives, entry_blocks, copies_in, distinct_labels, entries_of, block_entry, is_absent, label_of, labelled, role_of}
+use Rattle.au_blocks.specs.Entries.{BlockEntry, alternatives, entry_blocks, copies_in, entries_of, block_entry, is_absent, label_of, labelled, role_of}
 use Rattle.au_algebra.proofs.Each.{all_filter}
 use Rattle.au_blocks.specs.Defects.{defects, header_defects, rows_defects, blocks_defects}
 use Rattle.au_blocks.specs.Read.{candidate_of, contents, first, unless, table_of, block_of, header_kinds}
@@ -106,6 +107,6 @@ generated start n few =
         read = table_is (text start n) (header_fields ∷ rows) (text_rows start n few) none;
         columns = columns_are rows;
         count = blocks_counted rows ∙ count_of_blocks start n few;
-        copies = labels_once (header_kinds header_fields rows) rows (distinct_labels (map label_of rows));
+        copies = labels_once (header_kinds header_fields rows) rows (distinct bytes_eq (map label_of rows));
       },
     )

@@ -6,7 +6,8 @@ use Rattle.std.proofs.lemmas.List.{length-append, length-map, map-append}
 use Rattle.au_value.specs.declared.value.Value.{Value}
 use Rattle.au_value.specs.declared.value.Value.TheVariants as value
 use Rattle.au_value.specs.Ranges.{Span, range, certain, hull, hulls, guesses}
-use Rattle.au_algebra.specs.Lists.{distinct, same_row, least, greatest, value_at}
+use Rattle.au_value.specs.Lists.{distinct}
+use Rattle.au_algebra.specs.Lists.{same_row, least, greatest, value_at}
 use Rattle.au_algebra.specs.Ordinary.{Rows}
 use Rattle.au_algebra.specs.Bounded.{hull_of}
 use Rattle.au_algebra.proofs.Copies.{same_row_is}

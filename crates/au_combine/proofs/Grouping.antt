@@ -3,7 +3,8 @@ use Rattle.std.specs.Prelude.{◌≡◌, ℕ, ◌<◌, Bool, true, false, cond, 
 use Rattle.std.specs.List.{AllByRecursion}
 use Rattle.std.proofs.Common.{arith, refl, ◌∙◌, ap}
 use Rattle.au_value.specs.declared.value.Value.{Value}
-use Rattle.au_algebra.specs.Lists.{distinct, same_row, copies}
+use Rattle.au_value.specs.Lists.{distinct}
+use Rattle.au_algebra.specs.Lists.{same_row, copies}
 use Rattle.au_algebra.specs.Ordinary.{Rows}
 use Rattle.au_algebra.proofs.Copies.{copies-cons, counted_other}
 use Rattle.au_algebra.proofs.DistinctKeys.{occurs_distinct}

@@ -10,6 +10,7 @@ use Rattle.au_value.specs.declared.kinds.Kind.TheVariants as kind
 use Rattle.au_value.specs.declared.value.Value.{Value}
 use Rattle.au_value.specs.declared.value.Value.TheVariants as value
 use Rattle.au_value.specs.Decimal.{decimal_value, is_decimal, signed_units}
+use Rattle.au_value.specs.Lists.{distinct}
 use Rattle.au_value.specs.Numeral.{is_digits, is_i128, numeral_value, without_minus, written_number}
 use Rattle.au_value.specs.Order.{at_most, is_scale}
 use Rattle.au_value.specs.Ranges.{Span, certain, range}
@@ -19,7 +20,7 @@ use Rattle.au_blocks.specs.declared.faults.TableFault.TheVariants as fault
 use Rattle.au_blocks.specs.Tables.{BlockTable, IsBlockTable}
 use Rattle.au_blocks.specs.Headers.{cells_of, format_of, has_blocks, lead}
 use Rattle.au_blocks.specs.Spellings.{Parts, number_written, parts, number_range, range_written, three, value_written}
-use Rattle.au_blocks.specs.Entries.{BlockEntry, alternatives, entry_blocks, copies_in, distinct_labels, entries_of, block_entry, is_absent, label_of, labelled, role_of}
+use Rattle.au_blocks.specs.Entries.{BlockEntry, alternatives, entry_blocks, copies_in, entries_of, block_entry, is_absent, label_of, labelled, role_of}
 use Rattle.au_blocks.specs.Defects.{blocks_defects, defects, schema_defects, table_defects}
 use Rattle.au_blocks.specs.Read as reading
 use Rattle.au_blocks.specs.Read.{block_of, candidate_of, cell, contents, first, header_kinds, table_of, unless}
@@ -169,8 +170,8 @@ either_texts false xs ys h k = k
 
 blocks_texts : (header : Record) (rs : List Record) → AreTextRecords rs → AllByRecursion AreTexts (entry_blocks (format_of header) rs)
 blocks_texts header rs h =
-    either_texts (has_blocks (format_of header)) (map (λ label. entries_of (format_of header) (labelled label rs)) (distinct_labels (map label_of rs))) (entry_blocks (format_of []) rs)
-    (labels_texts header rs (distinct_labels (map label_of rs)) h) (plain_texts rs h)
+    either_texts (has_blocks (format_of header)) (map (λ label. entries_of (format_of header) (labelled label rs)) (distinct bytes_eq (map label_of rs))) (entry_blocks (format_of []) rs)
+    (labels_texts header rs (distinct bytes_eq (map label_of rs)) h) (plain_texts rs h)
 
 -- ---- no defect
 

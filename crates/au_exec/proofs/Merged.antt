@@ -10,8 +10,10 @@ use Rattle.au_value.specs.Adding.{Sum, sum_of, with_term}
 use Rattle.au_value.specs.Joining.{joined_sum}
 use Rattle.au_value.proofs.RangeLaws.{greater_assoc, lesser_assoc}
 use Rattle.au_value.specs.Ranges.{greater, lesser}
+use Rattle.au_value.specs.Lists.{distinct}
+use Rattle.au_value.proofs.FirstSeen.{Apart, one, apart-distinct}
 use Rattle.au_expr.specs.Ordinary.{number}
-use Rattle.au_algebra.specs.Lists.{distinct, same_row, value_at}
+use Rattle.au_algebra.specs.Lists.{same_row, value_at}
 use Rattle.au_algebra.specs.Ordinary.{Rows}
 use Rattle.au_plain.specs.declared.plan.PAgg.{PAgg}
 use Rattle.au_plain.specs.declared.plan.PAgg.TheVariants as agg
@@ -23,7 +25,7 @@ use Rattle.au_exec.specs.Tables.{Folded, Table, folded, folded_with, put_at, tab
 use Rattle.au_exec.specs.declared.fold.Fold.{Fold}
 use Rattle.au_exec.specs.declared.fold.Fold.TheVariants.{Sum as Total, Least, Greatest}
 use Rattle.au_exec.proofs.ChainSteps.{without}
-use Rattle.au_algebra.proofs.FirstSeen.{Apart, Cells, apart-distinct, itself, one, same}
+use Rattle.au_algebra.proofs.FirstSeen.{Cells, itself, same}
 use Rattle.au_exec.proofs.TableSteps.{grow_is, table_at}
 use Rattle.au_exec.proofs.Updates.{Change, Has, Lacks, at_place, exchanged, has_own, has_still, keys_in, keys_upd, lacks_first, lacks_later, upd}
 
@@ -165,7 +167,7 @@ module _ (keys : List ℕ) (aggs : List PAgg) where
         ap (λ (xs : List Folded). with_groups xs hs) (sym (exchanged k h.key (map (fold_of (row ∷ [])) aggs) h.folds (map (step row)) (λ fs. joined_folds fs h.folds) apart gs has))
         ∙ outer (with_group gs h) hs (has_still k h.key h.folds (λ fs. joined_folds fs h.folds) gs has) (lacks_later k h hs lacks)
 
-    pub row_more : (hs gs : List Folded) → Apart (keys_in hs) → AllShaped gs → AllShaped hs → with_groups gs (with_row row hs) ≡ with_row row (with_groups gs hs)
+    pub row_more : (hs gs : List Folded) → Apart same_row (keys_in hs) → AllShaped gs → AllShaped hs → with_groups gs (with_row row hs) ≡ with_row row (with_groups gs hs)
     row_more [] gs apart all own =
         same_change (kept keys row) (map (fold_of (row ∷ [])) aggs) (λ fs. joined_folds fs (map (fold_of (row ∷ [])) aggs)) (map (step row)) (λ fs h. first_joined row aggs fs h) gs all
     row_more (h ∷ hs) gs (one absent apart) all own =
@@ -212,7 +214,7 @@ module _ (keys : List ℕ) (aggs : List PAgg) where
       let more = done ++ row ∷ [] in
       let step_one : with_groups (groups_at xs) (groups_at more) ≡ groups_at (xs ++ more) =
       ap (with_groups (groups_at xs)) (sym (groups_push done row))
-      ∙ row_more row (groups_at done) (groups_at xs) (subst Apart (sym (keys_at done)) (apart-distinct (map (kept keys) done))) (shaped_at xs) (shaped_at done)
+      ∙ row_more row (groups_at done) (groups_at xs) (subst (Apart same_row) (sym (keys_at done)) (apart-distinct same_row (map (kept keys) done))) (shaped_at xs) (shaped_at done)
       ∙ ap (with_row row) h
       ∙ groups_push (xs ++ done) row
       ∙ ap groups_at (append_assoc xs done (row ∷ [])) in

@@ -5,9 +5,10 @@ use Rattle.std.proofs.Common.{refl, sym, ◌∙◌, ap, subst, arith, append_ass
 use Rattle.std.proofs.lemmas.Bool.{cases_Bool, true≢false}
 use Rattle.std.proofs.lemmas.List.{length-map}
 use Rattle.au_value.specs.declared.value.Value.{Value}
+use Rattle.au_value.specs.Lists.{distinct}
 use Rattle.au_expr.specs.Figures.{Fit, fit}
 use Rattle.au_expr.proofs.Fits.{fit_both, fit_parts}
-use Rattle.au_algebra.specs.Lists.{distinct, same_row}
+use Rattle.au_algebra.specs.Lists.{same_row}
 use Rattle.au_algebra.specs.Ordinary.{Rows}
 use Rattle.au_plain.specs.declared.plan.PAgg.{PAgg}
 use Rattle.au_plain.specs.declared.plan.PAgg.TheVariants.{Sum, Min, Max}

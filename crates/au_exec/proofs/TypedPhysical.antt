@@ -8,9 +8,10 @@ use Rattle.au_value.specs.declared.kinds.Kind.{Kind}
 use Rattle.au_value.specs.declared.kinds.Kind.TheVariants as kind
 use Rattle.au_value.specs.declared.value.Value.{Value}
 use Rattle.au_value.specs.Order.{at_most, kind_of}
+use Rattle.au_value.specs.Lists.{distinct}
 use Rattle.au_expr.specs.Kinds.{is_kind}
 use Rattle.au_expr.proofs.Along.{is_kind_is, some_agreed}
-use Rattle.au_algebra.specs.Lists.{distinct, greatest, least, same_row, value_at}
+use Rattle.au_algebra.specs.Lists.{greatest, least, same_row, value_at}
 use Rattle.au_algebra.specs.Ordinary.{Rows}
 use Rattle.au_algebra.specs.Typing.{all_kinds, same_kinds}
 use Rattle.au_algebra.proofs.AggregateKinds.{kinds_parts, sum_kind}

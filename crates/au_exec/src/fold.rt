@@ -1,20 +1,19 @@
 //! The aggregates of a group, row by row.
 ghost use Rattle.std.specs.Prelude.{◌≡◌, ◌∷◌, [], ◌++◌, MatchResult, OnOk, flat_map, map};
 ghost use Rattle.au_value.specs.declared.kinds.Kind.{Kind};
+ghost use Rattle.au_value.specs.Extremes.{preferred};
 ghost use Rattle.au_value.specs.Order.{kind_of};
 ghost use Rattle.au_expr.specs.Figures.{Fit};
 ghost use Rattle.au_expr.specs.Ordinary.{number as number_of};
 ghost use Rattle.au_expr.specs.declared.fault.EvalFault.TheVariants as fault;
 ghost use Rattle.au_plain.specs.PlanNumbers.{magnitudes};
-ghost use Rattle.au_exec.specs.Ends.{preferred};
 ghost use Rattle.au_exec.specs.Fitting.{CanAggregate, CanAggregateAll};
 ghost use Rattle.au_exec.specs.Folds.{CanStep, CanStepAll, fold_of, step, stepped_numbers};
 
-use crate::extreme::{Extreme, is_first};
 use crate::lent_row::LentRow;
 use au_expr::EvalFault;
 use au_plain::PAgg;
-use au_value::{Adder, NoMemory, Value, copy};
+use au_value::{Adder, Extreme, NoMemory, Value, copy, is_first};
 use std::alloc::Global;
 
 /// What is kept of an aggregate over some rows, with its column.

@@ -2,21 +2,20 @@
 ghost use Rattle.std.specs.Prelude.{◌≡◌, ◌++◌, ◌∷◌, [], true, false, IfOk, MatchResult, OnOk};
 ghost use Rattle.std.specs.List.{position_or_len};
 ghost use Rattle.indexmap.specs.IndexSet.{insert_key};
+ghost use Rattle.au_value.specs.Extremes.{preferred};
 ghost use Rattle.au_expr.specs.Figures.{Fit};
 ghost use Rattle.au_expr.specs.declared.fault.EvalFault.TheVariants as fault;
 ghost use Rattle.au_algebra.specs.Lists.{same_row};
-ghost use Rattle.au_exec.specs.Ends.{preferred};
 ghost use Rattle.au_algebra.specs.Keys.{key_values};
 ghost use Rattle.au_exec.specs.Merging.{absorb, absorb_all, absorb_numbers, absorbed_fit, fold_join_numbers, join_at, join_at_numbers, join_numbers, joined_fold, joined_folds};
 ghost use Rattle.au_exec.specs.Tables.{folded_of, folded_with, groups_table};
 
-use crate::extreme::{Extreme, comes_first};
 use crate::fold::Fold;
 use crate::groups::{Groups, place_of_key, push_group};
 use crate::key::push_values;
 use au_expr::EvalFault;
 use au_plain::PRow;
-use au_value::{NoMemory, Value, copy};
+use au_value::{Extreme, NoMemory, Value, comes_first, copy};
 use std::alloc::Global;
 
 /// The groups of the first, and then those of the second that the first doesn't have.

@@ -7,9 +7,10 @@ use Rattle.indexmap.specs.IndexSet.{insert_key}
 use Rattle.au_value.specs.declared.kinds.Kind.{Kind}
 use Rattle.au_value.specs.declared.value.Value.{Value}
 use Rattle.au_value.specs.Ranges.{guesses}
+use Rattle.au_value.specs.Lists.{distinct}
 use Rattle.au_algebra.specs.Bounded.{RangeRow, Bounded, combine, merged}
 use Rattle.au_algebra.specs.Keys.{groups_by, with_item_at, with_key}
-use Rattle.au_algebra.specs.Lists.{distinct, same_row}
+use Rattle.au_algebra.specs.Lists.{same_row}
 use Rattle.au_algebra.specs.Ordinary.{Rows}
 use Rattle.au_algebra.proofs.Each.{all_filter}
 use Rattle.au_algebra.proofs.RowGroups.{groups-push, keys-push, within}

@@ -1,11 +1,11 @@
 -- The range of a least or of a greatest value, from its three values.
 use Rattle.std.specs.Prelude.{◌≡◌, ℕ, Bool, true, false, cond}
 use Rattle.std.proofs.Common.{refl, ◌∙◌, ap}
+use Rattle.au_value.specs.declared.extreme.Extreme.TheVariants.{Least, Greatest}
 use Rattle.au_value.specs.declared.value.Value.{Value}
 use Rattle.au_value.specs.Ranges.{range}
 use Rattle.au_algebra.specs.declared.query.Agg.TheVariants.{Min, Max}
 use Rattle.au_algebra.specs.Bounded.{Grouped, aggregate, guess_if, guessed_there, surely_there, or_else}
-use Rattle.au_kfull.specs.declared.extremes.Extreme.TheVariants.{Least, Greatest}
 use Rattle.au_kfull.specs.declared.sums.Bound.TheVariants.{Lower, Guess, Upper}
 use Rattle.au_kfull.specs.Extremes.{extreme_of, values_at}
 

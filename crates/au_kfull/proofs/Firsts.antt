@@ -6,8 +6,9 @@ use Rattle.std.proofs.lemmas.Bool.{true≢false}
 use Rattle.std.proofs.lemmas.List.{map-append}
 use Rattle.std.proofs.lemmas.List.Folds.{list_any-append}
 use Rattle.au_value.specs.declared.value.Value.{Value}
+use Rattle.au_value.specs.Lists.{distinct}
 use Rattle.au_algebra.specs.Bounded.{RangeRow, Bounded}
-use Rattle.au_algebra.specs.Lists.{distinct, same_row}
+use Rattle.au_algebra.specs.Lists.{same_row}
 use Rattle.au_algebra.proofs.Copies.{same_row_is}
 
 module _ (key : RangeRow → List Value) where

@@ -2,26 +2,22 @@
 -- and what makes the least and the greatest of a column possible.
 use Rattle.std.specs.Prelude.{◌≡◌, ℕ, ◌<◌, true, List, length, map}
 use Rattle.std.specs.List.{AllByRecursion}
+use Rattle.au_value.specs.declared.extreme.Extreme.{Extreme}
+use Rattle.au_value.specs.declared.extreme.Extreme.TheVariants.{Least, Greatest}
 use Rattle.au_value.specs.declared.kinds.Kind.{Kind}
 use Rattle.au_value.specs.declared.value.Value.{Value}
-use Rattle.au_value.specs.Ranges.{IsRangeOf, lesser, greater}
+use Rattle.au_value.specs.Ranges.{IsRangeOf}
 use Rattle.au_algebra.specs.declared.query.Agg.{Agg}
 use Rattle.au_algebra.specs.declared.query.Agg.TheVariants.{Sum, Min, Max}
 use Rattle.au_algebra.specs.Bounded.{RangeRow, Bounded, Grouped, range_at, guessed_there}
 use Rattle.au_algebra.specs.Lists.{least, greatest}
-use Rattle.au_kfull.specs.declared.extremes.Extreme.{Extreme}
-use Rattle.au_kfull.specs.declared.extremes.Extreme.TheVariants.{Least, Greatest}
 use Rattle.au_kfull.specs.declared.sums.Bound.{Bound}
 use Rattle.au_kfull.specs.Groups.{end_of}
 
--- the least or the greatest of some values, and of two
+-- the least or the greatest of some values
 abbrev pub extreme_of : Extreme → List Value → Value
 extreme_of Least vs = least vs
 extreme_of Greatest vs = greatest vs
-
-abbrev pub better : Extreme → Value → Value → Value
-better Least a b = lesser a b
-better Greatest a b = greater a b
 
 -- the other one
 abbrev pub opposite : Extreme → Extreme

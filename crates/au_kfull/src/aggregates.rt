@@ -15,7 +15,7 @@ ghost use Rattle.au_kfull.specs.Keys.{keys_of as the_keys};
 ghost use Rattle.au_kfull.specs.declared.sums.Bound.TheVariants as bound;
 
 use crate::counts::{has_certain_keys, is_guessed};
-use crate::extremes::{Extreme, farthest, nearest};
+use crate::extremes::{farthest, nearest};
 use crate::grouping::Grouping;
 use crate::keys::Keys;
 use crate::sums::{Bound, sum};
@@ -23,7 +23,7 @@ use crate::tuple::Tuple;
 use au_algebra::Agg;
 use au_annot::Triple;
 use au_expr::EvalFault;
-use au_value::{NoMemory, Overflow, Range, Value, copy};
+use au_value::{Extreme, NoMemory, Overflow, Range, Value, copy};
 use std::alloc::Global;
 
 // The range of three numbers, whose guess is the lower one where the output is not guessed.

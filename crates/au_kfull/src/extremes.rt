@@ -1,24 +1,18 @@
 //! The least and the greatest value of a column.
 ghost use Rattle.std.specs.Prelude.{◌≡◌, ◌<◌, [], ◌∷◌, MatchOption, length};
+ghost use Rattle.au_value.specs.Extremes.{preferred};
 ghost use Rattle.au_value.specs.Order.{kind_of};
 ghost use Rattle.au_value.specs.declared.kinds.Kind.{Kind};
 ghost use Rattle.au_algebra.specs.Bounded.{range_at, or_else};
-ghost use Rattle.au_kfull.specs.Extremes.{better as better_of, extreme_of, opposite as opposite_of, values_at, HasColumn, HaveColumn};
+ghost use Rattle.au_kfull.specs.Extremes.{extreme_of, opposite as opposite_of, values_at, HasColumn, HaveColumn};
 ghost use Rattle.au_kfull.specs.Groups.{end_of as end_of_range};
 
 use crate::sums::{Bound, end_of};
 use crate::tuple::Tuple;
 use au_annot::Triple;
-use au_value::{Range, Value, order};
+use au_value::{Extreme, Range, Value, is_first};
 
-/// The least or the greatest.
-#[derive(Clone, Copy)]
-pub(crate) enum Extreme {
-    Least,
-    Greatest,
-}
-
-// The other one.
+// The other end.
 fn opposite(which: Extreme) -> Extreme
     ensures { result ≡ opposite_of which }
 {
@@ -31,12 +25,9 @@ fn opposite(which: Extreme) -> Extreme
 // The lesser or the greater of two values.
 fn better<'a>(which: Extreme, a: &'a Value, b: &'a Value) -> &'a Value
     requires { kind_of a.now ≡ kind_of b.now }
-    ensures { result.now ≡ better_of which a.now b.now }
+    ensures { result.now ≡ preferred which a.now b.now }
 {
-    match (which, order(a, b).is_le()) {
-        (Extreme::Least, true) | (Extreme::Greatest, false) => a,
-        (Extreme::Least, false) | (Extreme::Greatest, true) => b,
-    }
+    if is_first(which, a, b) { a } else { b }
 }
 
 // One of the three values in a column of a row.

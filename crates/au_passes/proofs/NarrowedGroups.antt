@@ -8,11 +8,12 @@ use Rattle.au_value.specs.declared.kinds.Kind.{Kind}
 use Rattle.au_value.specs.declared.kinds.Kind.TheVariants as kind
 use Rattle.au_value.specs.declared.value.Value.{Value}
 use Rattle.au_value.specs.declared.value.Value.TheVariants.{Int}
+use Rattle.au_value.specs.Lists.{distinct}
 use Rattle.au_expr.specs.Figures.{Fit}
 use Rattle.au_expr.specs.Kinds.{is_kind}
 use Rattle.au_expr.specs.Ordinary.{number}
 use Rattle.au_expr.proofs.Fits.{fit_both, fit_parts}
-use Rattle.au_algebra.specs.Lists.{distinct, greatest, int_sum, least, same_row, value_at}
+use Rattle.au_algebra.specs.Lists.{greatest, int_sum, least, same_row, value_at}
 use Rattle.au_algebra.specs.Ordinary.{Rows}
 use Rattle.au_algebra.specs.Typing.{all_kinds}
 use Rattle.au_algebra.proofs.AggregateKinds.{kinds_parts}

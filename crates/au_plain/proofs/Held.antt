@@ -10,12 +10,13 @@ use Rattle.au_value.specs.declared.kinds.Kind.{Kind}
 use Rattle.au_value.specs.declared.kinds.Kind.TheVariants as kind
 use Rattle.au_value.specs.declared.value.Value.{Value}
 use Rattle.au_value.specs.Order.{kind_of}
+use Rattle.au_value.specs.Lists.{distinct}
 use Rattle.au_expr.specs.Figures.{fit, Fit}
 use Rattle.au_expr.specs.Numbers.{number_if_any}
 use Rattle.au_expr.specs.Ordinary.{is_true, number}
 use Rattle.au_expr.specs.Kinds.{is_kind}
 use Rattle.au_expr.proofs.Fits.{fit_parts, fit_lesser, fit_greater}
-use Rattle.au_algebra.specs.Lists.{distinct, same_row, int_sum, least, greatest, value_at}
+use Rattle.au_algebra.specs.Lists.{same_row, int_sum, least, greatest, value_at}
 use Rattle.au_algebra.specs.Ordinary.{Rows}
 use Rattle.au_algebra.specs.Typing.{same_kinds, kinds_if, all_kinds}
 use Rattle.au_algebra.proofs.Each.{all_filter, all_append, all_distinct}

@@ -8,7 +8,8 @@ use Rattle.std.proofs.lemmas.List.{length-map}
 use Rattle.au_value.specs.declared.kinds.Kind.{Kind}
 use Rattle.au_value.specs.declared.value.Value.{Value}
 use Rattle.au_value.specs.Order.{kind_of}
-use Rattle.au_algebra.specs.Lists.{distinct, same_row, value_at}
+use Rattle.au_value.specs.Lists.{distinct}
+use Rattle.au_algebra.specs.Lists.{same_row, value_at}
 use Rattle.au_algebra.specs.Ordinary.{Rows}
 use Rattle.au_algebra.specs.Typing.{all_kinds, same_kinds}
 use Rattle.au_algebra.proofs.AggregateKinds.{kinds_parts}

@@ -2,9 +2,10 @@
 -- Besides, how many Scans it has.
 use Rattle.std.specs.Prelude.{ℕ, ◌+◌, List, [], ◌∷◌, ◌++◌, map, filter, flat_map, sum_by, ℤ, pos, nat_abs, if◌then◌else◌}
 use Rattle.au_value.specs.declared.value.Value.{Value}
+use Rattle.au_value.specs.Lists.{distinct}
 use Rattle.au_expr.specs.Ordinary.{is_true, number}
 use Rattle.au_expr.specs.Numbers.{number_if_any}
-use Rattle.au_algebra.specs.Lists.{distinct, same_row, value_at}
+use Rattle.au_algebra.specs.Lists.{same_row, value_at}
 use Rattle.au_algebra.specs.Ordinary.{Rows}
 use Rattle.au_plain.specs.declared.plan.PAgg.{PAgg}
 use Rattle.au_plain.specs.declared.plan.PAgg.TheVariants.{Sum, Min, Max}

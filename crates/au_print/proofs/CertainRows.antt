@@ -13,11 +13,12 @@ use Rattle.std.proofs.lemmas.List.Sorted.{IsPermutation-map}
 use Rattle.au_value.specs.declared.value.Value.{Value}
 use Rattle.au_value.specs.Order.{order}
 use Rattle.au_value.specs.Ranges.{Span, certain, guesses, lower_ends, upper_ends}
+use Rattle.au_value.specs.Lists.{distinct}
 use Rattle.au_annot.specs.Counts.{count_fits}
 use Rattle.au_annot.specs.Triples.{counts, total_counts}
 use Rattle.au_algebra.specs.Counted.{CountedRow, count_of}
 use Rattle.au_algebra.specs.Entries.{entry}
-use Rattle.au_algebra.specs.Lists.{distinct, same_row, sorted_by}
+use Rattle.au_algebra.specs.Lists.{same_row, sorted_by}
 use Rattle.au_algebra.specs.Ordinary.{Rows}
 use Rattle.au_algebra.specs.Bounded.{RangeRow, same_ranges, ranges_order, merge_equal, row_at_most, sorted, normal}
 use Rattle.au_algebra.specs.Fits.{triples_fit}

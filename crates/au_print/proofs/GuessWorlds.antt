@@ -6,10 +6,11 @@ use Rattle.std.proofs.lemmas.Bool.{cases_Bool, true≢false, false_from_ne_true,
 use Rattle.std.proofs.lemmas.List.Sums.{sum_by-cons}
 use Rattle.au_value.specs.declared.value.Value.{Value}
 use Rattle.au_value.specs.Ranges.{Span, guesses}
+use Rattle.au_value.specs.Lists.{distinct}
 use Rattle.au_annot.specs.Triples.{Counts, counts}
 use Rattle.au_algebra.specs.Counted.{CountedRow, occurring, count_of, StandsFor, ones}
 use Rattle.au_algebra.specs.Entries.{entry}
-use Rattle.au_algebra.specs.Lists.{distinct, same_row}
+use Rattle.au_algebra.specs.Lists.{same_row}
 use Rattle.au_algebra.specs.Ordinary.{Rows}
 use Rattle.au_algebra.specs.Bounded.{same_ranges, normal}
 use Rattle.au_algebra.proofs.Counted.{count_of-cons, count_of-if, ones_stand}

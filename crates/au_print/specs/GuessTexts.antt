@@ -7,10 +7,11 @@ use Rattle.std.specs.Cmp.Lexicographic.{slice_cmp}
 use Rattle.au_value.specs.declared.kinds.Kind.{Kind}
 use Rattle.au_value.specs.declared.value.Value.{Value}
 use Rattle.au_value.specs.Order.{order}
+use Rattle.au_value.specs.Lists.{distinct}
 use Rattle.au_annot.specs.Counts.{count_fits}
 use Rattle.au_algebra.specs.Counted.{CountedRow, occurring, count_of}
 use Rattle.au_algebra.specs.Entries.{entry}
-use Rattle.au_algebra.specs.Lists.{distinct, same_row, copies, sorted_by}
+use Rattle.au_algebra.specs.Lists.{same_row, copies, sorted_by}
 use Rattle.au_algebra.specs.Ordinary.{Rows}
 use Rattle.au_print.specs.Texts.{value_texts, record_text}
 

@@ -6,7 +6,8 @@ use Rattle.std.proofs.lemmas.List.{map-append, append-nil}
 use Rattle.std.proofs.lemmas.List.Elements.{filter-append}
 use Rattle.std.proofs.lemmas.List.Folds.{flat_map-map}
 use Rattle.au_value.specs.declared.value.Value.{Value}
-use Rattle.au_algebra.specs.Lists.{distinct, same_row}
+use Rattle.au_value.specs.Lists.{distinct}
+use Rattle.au_algebra.specs.Lists.{same_row}
 use Rattle.au_algebra.specs.Ordinary.{Rows}
 use Rattle.au_algebra.proofs.Copies.{same_row_refl}
 use Rattle.au_algebra.proofs.Each.{all_append, all_distinct}

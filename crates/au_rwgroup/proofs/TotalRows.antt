@@ -8,13 +8,14 @@ use Rattle.au_value.specs.declared.kinds.Kind.{Kind}
 use Rattle.au_value.specs.declared.value.Value.{Value}
 use Rattle.au_value.specs.declared.value.Value.TheVariants as value
 use Rattle.au_value.specs.Ranges.{IsRangeOf, range, certain}
+use Rattle.au_value.specs.Lists.{distinct}
 use Rattle.au_annot.specs.Triples.{one}
 use Rattle.au_expr.specs.Ordinary as on_values
 use Rattle.au_expr.specs.Ordinary.{number}
 use Rattle.au_algebra.specs.declared.query.Agg.{Agg}
 use Rattle.au_algebra.specs.declared.query.Agg.TheVariants as agg
 use Rattle.au_algebra.specs.Entries.{entry}
-use Rattle.au_algebra.specs.Lists.{distinct, same_row, int_sum, value_at}
+use Rattle.au_algebra.specs.Lists.{same_row, int_sum, value_at}
 use Rattle.au_algebra.specs.Ordinary.{Rows}
 use Rattle.au_algebra.specs.Typing.{is_sum}
 use Rattle.au_algebra.specs.Bounded as bounded

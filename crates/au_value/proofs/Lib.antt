@@ -3,3 +3,4 @@ pub mod Numerals
 pub mod OrderLaws
 pub mod ValueEquality
 pub mod RangeLaws
+pub mod FirstSeen

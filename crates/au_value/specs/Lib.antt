@@ -1,7 +1,9 @@
 -- The definitions, in the order in which they are to be read.
 pub mod Texts
+pub mod Lists
 pub mod Order
 pub mod Ranges
+pub mod Extremes
 pub mod Numeral
 pub mod Decimal
 pub mod Adding

@@ -15,6 +15,7 @@
 mod adding;
 mod comparison;
 mod decimal;
+mod extreme;
 mod faults;
 mod kinds;
 mod numeral;
@@ -27,6 +28,7 @@ mod word;
 pub use adding::Adder;
 pub use comparison::Comparison;
 pub use decimal::read_decimal;
+pub use extreme::{Extreme, comes_first, is_first};
 pub use faults::{NoMemory, Overflow};
 pub use kinds::Kind;
 pub use numeral::{all_digits, read_numeral};

@@ -1,10 +1,10 @@
 -- The three values are those of the output.
 use Rattle.std.proofs.Common.{◌≡◌, ◌∙◌, sym, ap, subst, filter, cond, IfOk}
 use Rattle.std.specs.Prelude.{◌&&◌, nat_le}
+use Rattle.au_value.specs.declared.extreme.Extreme.TheVariants.{Least, Greatest}
 use Rattle.au_value.specs.Ranges.{IsRange, all_certain}
 use Rattle.au_algebra.specs.Bounded.{RangeRow, guessed_there, surely_there, or_else}
 use Rattle.au_algebra.proofs.Each.{all_filter}
-use Rattle.au_kfull.specs.declared.extremes.Extreme.TheVariants.{Least, Greatest}
 use Rattle.au_kfull.specs.declared.sums.Bound.TheVariants.{Lower, Guess, Upper}
 use Rattle.au_kfull.specs.Extremes.{extreme_of, values_at, HasColumn, HaveColumn}
 use Rattle.au_kfull.specs.Groups.{seen}

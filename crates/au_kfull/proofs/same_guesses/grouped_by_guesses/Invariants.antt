@@ -1,7 +1,8 @@
 -- The keys and the groups of the rows so far.
 use Rattle.std.proofs.Common.{◌≡◌, map, take}
+use Rattle.au_value.specs.Lists.{distinct}
 use Rattle.au_algebra.specs.Keys.{groups_by, key_values}
-use Rattle.au_algebra.specs.Lists.{distinct, same_row}
+use Rattle.au_algebra.specs.Lists.{same_row}
 use Rattle.au_kfull.specs.SameGuesses.{groups_held}
 use Rattle.au_kfull.proofs.CombineRows.{guess}
 use Rattle.au_kfull.proofs.same_guesses.grouped_by_guesses.Given as goal
