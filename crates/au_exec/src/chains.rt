@@ -38,22 +38,19 @@ pub(crate) fn operators_of(
 fn take_operator(alloc: Global, plan: &mut Physical) -> Option<Operator>
     ensures { MatchOption result (physical_tree plan.new ≡ physical_tree plan.old) (λ o. physical_tree plan.old ≡ atop o (physical_tree plan.new)) }
 {
+    let (operator, rest) = top(alloc, plan)?;
+    *plan = rest;
+    Some(operator)
+}
+
+// The operator on top of a plan, and the plan below it, moved, where that operator works row by row.
+fn top(alloc: Global, plan: &mut Physical) -> Option<(Operator, Physical)>
+    ensures { MatchOption result (physical_tree plan.new ≡ physical_tree plan.old) (λ parts. physical_tree plan.old ≡ atop parts.0 (physical_tree parts.1)) }
+{
     match plan {
-        Physical::Extend(e, of) => {
-            let operator = Operator::Extend(taken(e));
-            *plan = taken_plan(of);
-            Some(operator)
-        }
-        Physical::Keep(places, of) => {
-            let operator = keeping(alloc, places);
-            *plan = taken_plan(of);
-            Some(operator)
-        }
-        Physical::Filter(e, of) => {
-            let operator = Operator::Filter(taken(e));
-            *plan = taken_plan(of);
-            Some(operator)
-        }
+        Physical::Extend(e, of) => Some((Operator::Extend(taken(e)), taken_plan(of))),
+        Physical::Keep(places, of) => Some((keeping(alloc, places), taken_plan(of))),
+        Physical::Filter(e, of) => Some((Operator::Filter(taken(e)), taken_plan(of))),
         _ => None,
     }
 }
