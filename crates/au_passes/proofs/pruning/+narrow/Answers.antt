@@ -236,8 +236,8 @@ narrow-returns-in_ok-made-in-Union-clause-narrowed t c =
     union_gives (plan_tree c.args.plan) (plan_tree p) (plan_tree q) c.args.marks.items w is c.requires wide sides.left.items sides.right.items
     sides.found.items n.found.items (plan_tree made.made.0) (plan_tree made.made.1) (plan_tree n.plan)
     first second c.in_ok-sides-in-Union.ensures.found.0
-    (IfOk-at_ok _ made.ensures.0 left.narrows) (IfOk-at_ok _ made.ensures.0 left.width) (IfOk-at_ok _ made.ensures.0 left.columns)
-    (IfOk-at_ok _ made.ensures.1 right.narrows) (IfOk-at_ok _ made.ensures.1 right.columns) f.0 f.1) c.union.ensures
+    (IfOk-at_ok _ made.ensures.values.0 left.narrows) (IfOk-at_ok _ made.ensures.values.0 left.width) (IfOk-at_ok _ made.ensures.values.0 left.columns)
+    (IfOk-at_ok _ made.ensures.values.1 right.narrows) (IfOk-at_ok _ made.ensures.values.1 right.columns) f.0 f.1) c.union.ensures
 
 pub narrow-returns-in_ok-made-in-Union-clause-count : goal.narrow-returns-in_ok-made-in-Union-clause-count
 narrow-returns-in_ok-made-in-Union-clause-count t c =
@@ -245,7 +245,7 @@ narrow-returns-in_ok-made-in-Union-clause-count t c =
     let made = c.in_ok-made-in-Union in
     IfOk-weaker c.union.result _ _ (λ n f.
     union_counts sides.left.items (plan_tree made.made.0) (plan_tree made.made.1) (plan_tree n.plan) sides.count n.count
-    c.in_ok-sides-in-Union.ensures.found.1 (IfOk-at_ok _ made.ensures.0 c.narrow_to-left-in-Union.ensures.width) f.0 f.2) c.union.ensures
+    c.in_ok-sides-in-Union.ensures.found.1 (IfOk-at_ok _ made.ensures.values.0 c.narrow_to-left-in-Union.ensures.width) f.0 f.2) c.union.ensures
 
 pub narrow-returns-in_ok-made-in-Group-clause-narrowed : goal.narrow-returns-in_ok-made-in-Group-clause-narrowed
 narrow-returns-in_ok-made-in-Group-clause-narrowed t c =
@@ -272,8 +272,8 @@ pub narrow_to-returns-clause-narrows : goal.narrow_to-returns-clause-narrows
 narrow_to-returns-clause-narrows t c =
     let made = c.in_ok-made in
     let below = made.made.1 in
-    let narrowed = IfOk-at_ok _ made.ensures.1 c.narrow.ensures.narrowed in
-    let wanted = c.deref-2.ensures.value ∙ IfOk-at_ok _ made.ensures.0 c.marked.ensures ∙ ap read_places c.deref.ensures.value in
+    let narrowed = IfOk-at_ok _ made.ensures.values.1 c.narrow.ensures.narrowed in
+    let wanted = c.deref-2.ensures.value ∙ IfOk-at_ok _ made.ensures.values.0 c.marked.ensures ∙ ap read_places c.deref.ensures.value in
     IfOk-weaker c.keep.result _ _ (λ q f.
     exact_narrows (plan_tree c.args.plan) (plan_tree below.plan) (plan_tree q) c.args.marks.items below.found.items narrowed
     (subst (λ ws. IsKept (map (slice_index below.found.items) ws) (plan_tree below.plan) (plan_tree q)) wanted f)) c.keep.ensures
@@ -282,8 +282,8 @@ pub narrow_to-returns-clause-width : goal.narrow_to-returns-clause-width
 narrow_to-returns-clause-width t c =
     let made = c.in_ok-made in
     let below = made.made.1 in
-    let narrowed = IfOk-at_ok _ made.ensures.1 c.narrow.ensures.narrowed in
-    let wanted = c.deref-2.ensures.value ∙ IfOk-at_ok _ made.ensures.0 c.marked.ensures ∙ ap read_places c.deref.ensures.value in
+    let narrowed = IfOk-at_ok _ made.ensures.values.1 c.narrow.ensures.narrowed in
+    let wanted = c.deref-2.ensures.value ∙ IfOk-at_ok _ made.ensures.values.0 c.marked.ensures ∙ ap read_places c.deref.ensures.value in
     IfOk-weaker c.keep.result _ _ (λ q f.
     exact_width (plan_tree c.args.plan) (plan_tree below.plan) (plan_tree q) c.args.marks.items below.found.items narrowed
     (subst (λ ws. IsKept (map (slice_index below.found.items) ws) (plan_tree below.plan) (plan_tree q)) wanted f)) c.keep.ensures
@@ -292,8 +292,8 @@ pub narrow_to-returns-clause-columns : goal.narrow_to-returns-clause-columns
 narrow_to-returns-clause-columns t c =
     let made = c.in_ok-made in
     let below = made.made.1 in
-    let narrowed = IfOk-at_ok _ made.ensures.1 c.narrow.ensures.narrowed in
-    let wanted = c.deref-2.ensures.value ∙ IfOk-at_ok _ made.ensures.0 c.marked.ensures ∙ ap read_places c.deref.ensures.value in
+    let narrowed = IfOk-at_ok _ made.ensures.values.1 c.narrow.ensures.narrowed in
+    let wanted = c.deref-2.ensures.value ∙ IfOk-at_ok _ made.ensures.values.0 c.marked.ensures ∙ ap read_places c.deref.ensures.value in
     IfOk-weaker c.keep.result _ _ (λ q f.
     exact_columns (plan_tree c.args.plan) (plan_tree below.plan) (plan_tree q) c.args.marks.items below.found.items narrowed
     (subst (λ ws. IsKept (map (slice_index below.found.items) ws) (plan_tree below.plan) (plan_tree q)) wanted f)) c.keep.ensures

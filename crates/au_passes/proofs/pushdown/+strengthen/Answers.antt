@@ -43,12 +43,12 @@ returns-in_ok-made-in-Join t c =
     let right = plan_tree c.into_inner-right.result in
     let sides = c.in_ok-sides-in-Join in
     let made = c.in_ok-made-in-Join in
-    let ways = IfOk-at_ok _ made.ensures.1 c.both.ensures.values in
+    let ways = IfOk-at_ok _ made.ensures.values.1 c.both.ensures.values in
     let whole : plan_tree c.args.plan ≡ tree.Join condition left right =
     ap plan_tree c.in-Join.is ∙ (λ i. tree.Join condition (plan_tree (sym c.into_inner-left.ensures i)) (plan_tree (sym c.into_inner-right.ensures i))) in
     let made = join_step condition (pterm made.made.0) (map pterm c.args.tests.items) (map pterm sides.sides.left.items)
     (map pterm sides.sides.right.items) (map pterm sides.sides.both.items) c.args.width c.saturating_sub-first.result c.in_ok-more-in-Join.more left right
     (plan_tree made.made.1.0) (plan_tree made.made.1.1) (plan_tree c.args.plan) whole c.in_ok-more-in-Join.ensures c.saturating_sub-first.ensures
-    sides.ensures.left sides.ensures.right sides.ensures.both (IfOk-at_ok _ made.ensures.0 c.condition_of.ensures)
+    sides.ensures.left sides.ensures.right sides.ensures.both (IfOk-at_ok _ made.ensures.values.0 c.condition_of.ensures)
     (IfOk-at_ok _ ways.0 c.strengthen-a.ensures) (IfOk-at_ok _ ways.1 c.strengthen-b.ensures) in
     subst (λ (p : PlanTree). IfOk c.join.result (λ q. plan_tree q ≡ p)) made c.join.ensures
