@@ -13,3 +13,4 @@ pub mod ListPieces
 pub mod Cases
 mod Corners
 mod Rows
+mod Pairs

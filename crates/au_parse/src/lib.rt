@@ -14,10 +14,12 @@
 
 mod limits;
 mod lists;
+mod options;
 mod pieces;
 mod places;
 mod queries;
 mod reading;
+mod results;
 mod terms;
 mod words;
 

@@ -8,7 +8,9 @@ ghost use Rattle.au_parse.specs.Views.{condition_view, item_view, source_before,
 ghost use Rattle.au_parse.specs.Words.{name_word, set_word};
 
 use crate::lists::{alias_word, aliased, at_comma, items, keys};
+use crate::options::paired;
 use crate::pieces::{Bracket, Mark, front_length, inside, is_mark};
+use crate::results::{beside, both};
 use crate::terms::expression;
 use crate::words::{is_all, is_distinct, is_group_open, is_select, name_word};
 use crate::{Item, Name, SelectPart, Source, Statement, Term};
@@ -125,31 +127,27 @@ fn select_part(
     ensures { option_map part_view result ≡ select_of at distinct grouped (option_map (λ v. map item_view v.items) items) (option_map (λ v. sources_of v.items) sources)
         (option_map condition_view condition) (option_map (λ v. v.items) keys) (option_map condition_view having) }
 {
-    let Some(items) = items else {
-        return None;
-    };
-    let Some(sources) = sources else {
-        return None;
-    };
-    let Some(condition) = condition else {
-        return None;
-    };
-    let Some(keys) = keys else {
-        return None;
-    };
-    let Some(having) = having else {
-        return None;
-    };
-    Some(SelectPart {
-        at,
-        distinct,
-        items,
-        sources,
-        condition,
-        keys,
-        grouped,
-        having,
-    })
+    let lists = paired(items, sources);
+    let tests = paired(condition, having);
+    let rest = paired(keys, tests);
+    match paired(lists, rest) {
+        Some((lists, rest)) => {
+            let (items, sources) = lists;
+            let (keys, tests) = rest;
+            let (condition, having) = tests;
+            Some(SelectPart {
+                at,
+                distinct,
+                items,
+                sources,
+                condition,
+                keys,
+                grouped,
+                having,
+            })
+        }
+        None => None,
+    }
 }
 
 fn select_statement(part: Box<SelectPart>) -> Statement
@@ -170,20 +168,15 @@ fn select_of(
     ensures { IfOk result (λ o. query_read o ≡ select_of at distinct (is_some parts.entry.group) (all_some (map item_tree (between_commas listed.now))) (option_map (λ v. sources_of v.items) sources)
         (condition_tree (option_map (λ p. (p.0, p.1.now)) parts.entry.condition)) (keys_tree (option_map (λ p. p.1.now) parts.entry.group)) (condition_tree (option_map (λ p. (p.0, p.1.now)) parts.entry.having))) }
 {
-    let items = items(alloc, listed)?;
-    let condition_found = condition(alloc, parts.condition)?;
-    let keys = keys(alloc, behind_group(parts.group))?;
-    let having = condition(alloc, parts.having)?;
+    let lists = both(items(alloc, listed), keys(alloc, behind_group(parts.group)));
+    let conditions = both(
+        condition(alloc, parts.condition),
+        condition(alloc, parts.having),
+    );
+    let (((items, keys), (condition, having)), sources) = beside(both(lists, conditions), sources)?;
     let grouped = parts.group.is_some();
     match select_part(
-        at,
-        distinct,
-        grouped,
-        items,
-        sources,
-        condition_found,
-        keys,
-        having,
+        at, distinct, grouped, items, sources, condition, keys, having,
     ) {
         Some(part) => Ok(Some(select_statement(Box::new(alloc, part)?))),
         None => Ok(None),
@@ -260,8 +253,7 @@ fn set_joined(
 ) -> Result<Statement, AllocError>
     ensures { IfOk result (λ s. statement_tree s ≡ QueryTree.set (set_of operation) all at (statement_tree left) (statement_tree right)) }
 {
-    let left = Box::new(alloc, left)?;
-    let right = Box::new(alloc, right)?;
+    let (left, right) = both(Box::new(alloc, left), Box::new(alloc, right))?;
     match operation {
         SetOperation::Union => Ok(Statement::Union(all, at, left, right)),
         SetOperation::Except => Ok(Statement::Except(all, at, left, right)),
@@ -279,11 +271,8 @@ fn set_joined_if(
 ) -> Result<Option<Statement>, AllocError>
     ensures { IfOk result (λ o. query_read o ≡ both (QueryTree.set (set_of operation) all at) (query_read left) (query_read right)) }
 {
-    match left {
-        Some(left) => match right {
-            Some(right) => Ok(Some(set_joined(alloc, operation, all, at, left, right)?)),
-            None => Ok(None),
-        },
+    match paired(left, right) {
+        Some((left, right)) => Ok(Some(set_joined(alloc, operation, all, at, left, right)?)),
         None => Ok(None),
     }
 }
@@ -328,8 +317,8 @@ pub fn query(alloc: Global, tokens: &[Token]) -> Result<Option<Statement>, Alloc
         };
         let (piece, behind) = others.split_at(front_length(Mark::Set, others));
         let (all, side) = all_first(piece);
-        let right = operand(alloc, side)?;
-        tree = set_joined_if(alloc, operation, all, word.from, tree, right)?;
+        let (right, left) = beside(operand(alloc, side), tree)?;
+        tree = set_joined_if(alloc, operation, all, word.from, left, right)?;
         rest = behind;
     }
     Ok(tree)

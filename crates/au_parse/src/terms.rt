@@ -7,7 +7,9 @@ ghost use Rattle.au_parse.specs.Tree.{Operator, TermTree};
 ghost use Rattle.au_parse.specs.Views.{term_tree};
 ghost use Rattle.au_parse.specs.Words.{comparison_operator, name_word};
 
+use crate::options::paired;
 use crate::pieces::{Bracket, Mark, front_length, inside};
+use crate::results::{beside, both};
 use crate::words::{
     aggregate_word, copied, is_case, is_dot, is_else, is_group_open, is_minus, is_not, is_star,
     is_then, is_when, name_word,
@@ -85,8 +87,7 @@ fn joined(
 ) -> Result<Term, AllocError>
     ensures { IfOk result (λ t. term_tree t ≡ TermTree.binary at (operator_of operation) (term_tree left) (term_tree right)) }
 {
-    let left = Box::new(alloc, left)?;
-    let right = Box::new(alloc, right)?;
+    let (left, right) = both(Box::new(alloc, left), Box::new(alloc, right))?;
     match operation {
         Operation::Or => Ok(Term::Or(at, left, right)),
         Operation::And => Ok(Term::And(at, left, right)),
@@ -107,11 +108,8 @@ fn joined_if(
 ) -> Result<Option<Term>, AllocError>
     ensures { IfOk result (λ o. tree_read o ≡ both (TermTree.binary at (operator_of operation)) (tree_read left) (tree_read right)) }
 {
-    match left {
-        Some(left) => match right {
-            Some(right) => Ok(Some(joined(alloc, at, operation, left, right)?)),
-            None => Ok(None),
-        },
+    match paired(left, right) {
+        Some((left, right)) => Ok(Some(joined(alloc, at, operation, left, right)?)),
         None => Ok(None),
     }
 }
@@ -188,15 +186,14 @@ fn one_name(alloc: Global, token: &Token) -> Result<Option<Name>, AllocError>
 fn two_names(alloc: Global, first: &Token, last: &Token) -> Result<Option<Name>, AllocError>
     ensures { IfOk result (λ o. o ≡ both (λ table column. record { at = first.now.from; table = Some table; column = column }) (name_word first.now.what) (name_word last.now.what)) }
 {
-    let table = name_word(alloc, &first.what)?;
-    let column = name_word(alloc, &last.what)?;
-    match (table, column) {
-        (Some(table), Some(column)) => Ok(Some(Name {
+    let (table, column) = both(name_word(alloc, &first.what), name_word(alloc, &last.what))?;
+    match paired(table, column) {
+        Some((table, column)) => Ok(Some(Name {
             at: first.from,
             table: Some(table),
             column,
         })),
-        _ => Ok(None),
+        None => Ok(None),
     }
 }
 
@@ -274,8 +271,8 @@ fn chain(alloc: Global, level: Level, tokens: &[Token]) -> Result<Option<Term>, 
             return Ok(tree);
         };
         let (piece, behind) = others.split_at(front_length(mark_of(level), others));
-        let right = below(alloc, level, piece)?;
-        tree = joined_if(alloc, op.from, operation, tree, right)?;
+        let (right, left) = beside(below(alloc, level, piece), tree)?;
+        tree = joined_if(alloc, op.from, operation, left, right)?;
         rest = behind;
     }
     Ok(tree)
@@ -322,8 +319,9 @@ fn comparison(alloc: Global, tokens: &[Token]) -> Result<Option<Term>, AllocErro
     let Some(how) = comparison_of(&op.what) else {
         unreachable!()
     };
-    let left = chain(alloc, Level::Sum, left)?;
-    let right = chain(alloc, Level::Sum, others)?;
+    let left = chain(alloc, Level::Sum, left);
+    let right = chain(alloc, Level::Sum, others);
+    let (left, right) = both(left, right)?;
     joined_if(alloc, op.from, Operation::Compare(how), left, right)
 }
 
@@ -452,13 +450,11 @@ fn arm(alloc: Global, tokens: &[Token]) -> Result<Option<(Term, Term, &[Token])>
         return Ok(None);
     }
     let (piece, left) = others.split_at(front_length(Mark::Case, others));
-    let condition = chain(alloc, Level::Or, front)?;
-    let value = chain(alloc, Level::Or, piece)?;
-    match condition {
-        Some(condition) => match value {
-            Some(value) => Ok(Some((condition, value, left))),
-            None => Ok(None),
-        },
+    let condition = chain(alloc, Level::Or, front);
+    let value = chain(alloc, Level::Or, piece);
+    let (condition, value) = both(condition, value)?;
+    match paired(condition, value) {
+        Some((condition, value)) => Ok(Some((condition, value, left))),
         None => Ok(None),
     }
 }

@@ -50,19 +50,13 @@ fn command_line<'a>(alloc: Global, name: &'a str) -> Result<clap::Command<'a>, A
     ensures app { IfOk result (λ r. app_of r ≡ command_line name.entry.now) }
     ensures local { IfOk result HasNoGlobals }
 {
-    let table = flag(alloc, "table");
-    let combine = flag(alloc, "combine");
-    let workers = valued(alloc, "workers");
-    let compress = valued(alloc, "compress");
-    let first = positional(alloc, "FIRST");
-    let later = repeated(alloc, "LATER");
     clap::Command::new(alloc, name)
-        .arg(table)?
-        .arg(combine)?
-        .arg(workers)?
-        .arg(compress)?
-        .arg(first)?
-        .arg(later)
+        .arg(flag(alloc, "table"))?
+        .arg(flag(alloc, "combine"))?
+        .arg(valued(alloc, "workers"))?
+        .arg(valued(alloc, "compress"))?
+        .arg(positional(alloc, "FIRST"))?
+        .arg(repeated(alloc, "LATER"))
 }
 
 // The program, without help and without its name before the words.

@@ -1,6 +1,9 @@
 use Rattle.std.proofs.Common.{◌≤◌, ◌<◌, sym, ap, ◌∙◌, arith, length}
 use Rattle.std.proofs.lemmas.Bool.Decides.{nat_tests}
+use Rattle.std.proofs.lemmas.Result.{IfOk-at_ok}
 use Rattle.std.specs.Prelude.{option_map}
+use Rattle.au_parse.specs.Expressions.{both}
+use Rattle.au_parse.specs.Tree.{QueryTree}
 use Rattle.au_parse.specs.Words.{name_word}
 use Rattle.au_parse.specs.Statements.{query_read, sources_of, set_of}
 use Rattle.au_parse.proofs.Expressions.{ok_map}
@@ -21,8 +24,11 @@ query-sides-preserved t c =
       sets_on c.args.tokens.now c.sides.rest.now c.in-Some.others.now c.split_at-in-Some.result.0.now c.all_first-all.result.1.now c.split_at-in-Some.result.1.now c.in-Some.word.now
           (set_of c.in-Some-set_word.operation) c.front_length-in-Some.result c.all_first-all.result.0 (query_read c.sides.tree) (query_read c.in_ok-right.right) (query_read c.in_ok-tree-2.tree)
           c.in-Some.ensures.cases.0 (sym c.in-Some-set_word.ensures) c.front_length-in-Some.ensures.count c.split_at-in-Some.ensures.front c.split_at-in-Some.ensures.back
-          c.all_first-all.ensures.all c.all_first-all.ensures.rest c.in_ok-right.ensures
-          (omega (arith, c.split_at-in-Some.ensures.front_len, c.front_length-in-Some.ensures.within, ap length c.in-Some.ensures.cases.0, c.all_first-all.ensures.within)) c.in_ok-tree-2.ensures c.sides.invariant.0,
+          c.all_first-all.ensures.all c.all_first-all.ensures.rest (IfOk-at_ok _ c.in_ok-right.ensures.values.0 c.operand-in-Some.ensures)
+          (omega (arith, c.split_at-in-Some.ensures.front_len, c.front_length-in-Some.ensures.within, ap length c.in-Some.ensures.cases.0, c.all_first-all.ensures.within))
+          (c.in_ok-tree-2.ensures
+          ∙ ap (λ l. both (QueryTree.set (set_of c.in-Some-set_word.operation) c.all_first-all.result.0 c.in-Some.word.now.from) (query_read l) (query_read c.in_ok-right.right)) c.in_ok-right.ensures.values.1)
+          c.sides.invariant.0,
       omega (arith, c.split_at-in-Some.ensures.back_len, ap length c.in-Some.ensures.cases.0),
     )
 

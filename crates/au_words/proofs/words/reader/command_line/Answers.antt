@@ -6,18 +6,18 @@ use Rattle.au_words.proofs.words.reader.command_line.Goals as goal
 
 pub returns-clause-app : goal.returns-clause-app
 returns-clause-app c =
-    let first = c.in_ok-arg.ensures.shape c.flag-table.ensures.local ∙ ap₂ with_rule c.new.ensures.app c.flag-table.ensures.rule in
-    let second = c.in_ok-arg-2.ensures.shape c.flag-combine.ensures.local ∙ ap₂ with_rule first c.flag-combine.ensures.rule in
-    let third = c.in_ok-arg-3.ensures.shape c.valued-workers.ensures.local ∙ ap₂ with_rule second c.valued-workers.ensures.rule in
-    let fourth = c.in_ok-arg-4.ensures.shape c.valued-compress.ensures.local ∙ ap₂ with_rule third c.valued-compress.ensures.rule in
-    let fifth = c.in_ok-arg-5.ensures.shape c.positional-first.ensures.local ∙ ap₂ with_rule fourth c.positional-first.ensures.rule in
-    IfOk-weaker c.arg-6.result _ _ (λ r adds. adds.shape c.repeated-later.ensures.local ∙ ap₂ with_rule fifth c.repeated-later.ensures.rule) c.arg-6.ensures
+    let first = c.in_ok-arg.ensures.shape c.flag.ensures.local ∙ ap₂ with_rule c.new.ensures.app c.flag.ensures.rule in
+    let second = c.in_ok-arg-2.ensures.shape c.flag-2.ensures.local ∙ ap₂ with_rule first c.flag-2.ensures.rule in
+    let third = c.in_ok-arg-3.ensures.shape c.valued.ensures.local ∙ ap₂ with_rule second c.valued.ensures.rule in
+    let fourth = c.in_ok-arg-4.ensures.shape c.valued-2.ensures.local ∙ ap₂ with_rule third c.valued-2.ensures.rule in
+    let fifth = c.in_ok-arg-5.ensures.shape c.positional.ensures.local ∙ ap₂ with_rule fourth c.positional.ensures.rule in
+    IfOk-weaker c.arg-6.result _ _ (λ r adds. adds.shape c.repeated.ensures.local ∙ ap₂ with_rule fifth c.repeated.ensures.rule) c.arg-6.ensures
 
 pub returns-clause-local : goal.returns-clause-local
 returns-clause-local c =
-    let first = c.in_ok-arg.ensures.globals ∙ ap₂ (λ a b. a || b) c.new.ensures.local c.flag-table.ensures.local in
-    let second = c.in_ok-arg-2.ensures.globals ∙ ap₂ (λ a b. a || b) first c.flag-combine.ensures.local in
-    let third = c.in_ok-arg-3.ensures.globals ∙ ap₂ (λ a b. a || b) second c.valued-workers.ensures.local in
-    let fourth = c.in_ok-arg-4.ensures.globals ∙ ap₂ (λ a b. a || b) third c.valued-compress.ensures.local in
-    let fifth = c.in_ok-arg-5.ensures.globals ∙ ap₂ (λ a b. a || b) fourth c.positional-first.ensures.local in
-    IfOk-weaker c.arg-6.result _ _ (λ r adds. adds.globals ∙ ap₂ (λ a b. a || b) fifth c.repeated-later.ensures.local) c.arg-6.ensures
+    let first = c.in_ok-arg.ensures.globals ∙ ap₂ (λ a b. a || b) c.new.ensures.local c.flag.ensures.local in
+    let second = c.in_ok-arg-2.ensures.globals ∙ ap₂ (λ a b. a || b) first c.flag-2.ensures.local in
+    let third = c.in_ok-arg-3.ensures.globals ∙ ap₂ (λ a b. a || b) second c.valued.ensures.local in
+    let fourth = c.in_ok-arg-4.ensures.globals ∙ ap₂ (λ a b. a || b) third c.valued-2.ensures.local in
+    let fifth = c.in_ok-arg-5.ensures.globals ∙ ap₂ (λ a b. a || b) fourth c.positional.ensures.local in
+    IfOk-weaker c.arg-6.result _ _ (λ r adds. adds.globals ∙ ap₂ (λ a b. a || b) fifth c.repeated.ensures.local) c.arg-6.ensures
