@@ -19,7 +19,6 @@ mod pieces;
 mod places;
 mod queries;
 mod reading;
-mod results;
 mod terms;
 mod words;
 

@@ -10,12 +10,11 @@ ghost use Rattle.au_parse.specs.Words.{name_word, set_word};
 use crate::lists::{alias_word, aliased, at_comma, items, keys};
 use crate::options::paired;
 use crate::pieces::{Bracket, Mark, front_length, inside, is_mark};
-use crate::results::{beside, both};
 use crate::terms::expression;
 use crate::words::{is_all, is_distinct, is_group_open, is_select, name_word};
 use crate::{Item, Name, SelectPart, Source, Statement, Term};
 use au_lex::{Keyword, Lexeme, Token};
-use au_value::Word;
+use au_value::{Word, beside, both};
 use std::alloc::{AllocError, Global};
 
 /// The words that cut a SELECT.

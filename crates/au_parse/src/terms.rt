@@ -9,14 +9,13 @@ ghost use Rattle.au_parse.specs.Words.{comparison_operator, name_word};
 
 use crate::options::paired;
 use crate::pieces::{Bracket, Mark, front_length, inside};
-use crate::results::{beside, both};
 use crate::words::{
     aggregate_word, copied, is_case, is_dot, is_else, is_group_open, is_minus, is_not, is_star,
     is_then, is_when, name_word,
 };
 use crate::{AggWord, Name, Term};
 use au_lex::{Keyword, Lexeme, Symbol, Token};
-use au_value::{Comparison, Word};
+use au_value::{Comparison, Word, beside, both};
 use std::alloc::{AllocError, Global};
 
 /// The levels that split at their last operator, from the loosest to the tightest.
