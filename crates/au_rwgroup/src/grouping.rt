@@ -58,12 +58,15 @@ fn group_plan(
     ensures plan { IfOk result (λ p. plan_tree p ≡ plan.group_plan layout.now.columns keys aggs.now (plan_tree of)) }
     ensures columns { OnOk result (keys + length aggs.now < 2 ^ 64) }
 {
-    let kept = kept_aggregates(alloc, aggs)?;
-    let places = GroupPlaces::of(keys, kept.len(), layout.columns, aggs.len())?;
-    let columns = all_result_columns(alloc, places.tests(), places.joined.row, aggs)?;
-    let shown = result_places(alloc, places.triple, keys, places.there + 1, places.aggs)?;
-    let groups = with_members(alloc, of, layout.columns, kept, places, aggs)?;
-    keep(alloc, shown, extend_all(alloc, columns, groups)?)
+    let (kept, of) = beside(kept_aggregates(alloc, aggs), of)?;
+    let places = GroupPlaces::of(keys, kept.len(), layout.columns, aggs.len());
+    let (places, (kept, of)) = beside(places, (kept, of))?;
+    let columns = all_result_columns(alloc, places.tests(), places.joined.row, aggs);
+    let shown = result_places(alloc, places.triple, keys, places.there + 1, places.aggs);
+    let groups = with_members(alloc, of, layout.columns, kept, places, aggs);
+    let (shown, (columns, groups)) = both(shown, both(columns, groups))?;
+    let (made, shown) = beside(extend_all(alloc, columns, groups), shown)?;
+    keep(alloc, shown, made)
 }
 
 // Each box with the results over the rows that overlap it.
