@@ -1,9 +1,14 @@
 //! Plans that are run over the guess rows of tables.
-ghost use Rattle.std.specs.Prelude.{◌≡◌, Some, Err, List, IfOk, IfErr, OnOk, false};
+ghost use Rattle.std.specs.Prelude.{◌≡◌, Some, Err, List, IfOk, IfErr, OnOk, false, map};
+ghost use Rattle.std.specs.List.{AllByRecursion};
 ghost use Rattle.au_value.specs.declared.kinds.Kind.{Kind};
-ghost use Rattle.au_plain.specs.PlanKinds.{HaveKinds, IsTypedPlan};
+ghost use Rattle.au_blocks.specs.Tables.{IsBlockTable};
+ghost use Rattle.au_plain.specs.PlanKinds.{FitTables, HaveKinds, IsTypedPlan};
 ghost use Rattle.au_plain.specs.Plans.{plan_tree};
+ghost use Rattle.au_physical.specs.Physicals.{physical_tree};
+ghost use Rattle.au_plan.specs.Implements.{Implements};
 ghost use Rattle.au_exec.specs.Outcomes.{rows_of};
+ghost use Rattle.au_engine.specs.Answers.{blocks_of, guess_tables as guess_tables_of};
 ghost use Rattle.au_engine.specs.Exchange.{PlainCause, plain_answer as plain_answer_of, plain_fits, plain_kinds, plain_text as plain_text_of, value_kinds as value_kinds_of};
 
 use crate::guess_rows::{guess_tables, value_kinds};
@@ -12,10 +17,11 @@ use crate::runner::Runner;
 use au_blocks::Table;
 use au_expr::EvalFault;
 use au_par::Gate;
+use au_physical::Physical;
 use au_plain::{PRow, Plan};
 use au_plan::improve;
 use au_sqltext::{PlanFault, check_plan, plain_text};
-use au_value::{Kind, NoMemory, Word};
+use au_value::{Kind, NoMemory, Word, beside};
 use std::alloc::Global;
 use std::thread::Threads;
 
@@ -48,8 +54,8 @@ pub fn plain_answer<R: Threads + Sync, G: Gate + Sync>(
     ensures text { IfOk result (λ text. text.items ≡ plain_text_of tables.now (plan_tree plan)) }
     ensures refused { IfErr result (PlainCause tables.now (plan_tree plan)) }
 {
-    let kinds = match checked(alloc, &plan, tables) {
-        Ok(kinds) => kinds,
+    let (kinds, plan) = match beside(checked(alloc, &plan, tables), plan) {
+        Ok(both) => both,
         Err(fault) => return Err(fault),
     };
     let runner = Runner::new(rt, 1, gate);
@@ -93,12 +99,8 @@ fn plain_rows<R: Threads + Sync, G: Gate + Sync>(
     ensures kinds { IfOk result (λ rows. (ks : List Kind) → plain_kinds tables.now (plan_tree plan) ≡ Some ks → HaveKinds ks (rows_of rows)) }
     ensures overflow { result ≡ Err EvalFault.Overflow → plain_fits tables.now (plan_tree plan) ≡ false }
 {
-    let held = match guess_tables(alloc, tables) {
-        Ok(held) => held,
-        Err(NoMemory) => return Err(EvalFault::NoMemory),
-    };
-    let plan = match improve(alloc, plan) {
-        Ok(plan) => plan,
+    let (plan, held) = match ready(alloc, plan, tables) {
+        Ok(both) => both,
         Err(NoMemory) => return Err(EvalFault::NoMemory),
     };
     let rows = match runner.all(alloc, plan, held) {
@@ -109,4 +111,19 @@ fn plain_rows<R: Threads + Sync, G: Gate + Sync>(
         Ok(rows) => Ok(rows),
         Err(NoMemory) => Err(EvalFault::NoMemory),
     }
+}
+
+// The physical plan of a plan, and the tables' guess rows.
+fn ready(
+    alloc: Global,
+    plan: Plan,
+    tables: &[(Word, Table)],
+) -> Result<(Physical, Vec<Vec<PRow>>), NoMemory>
+    ensures stands { IfOk result (λ r. Implements (plan_tree plan) (physical_tree r.0)) }
+    ensures rows { IfOk result (λ r. map rows_of r.1.items ≡ guess_tables_of tables.now) }
+    ensures fit { IfOk result (λ r. FitTables (map rows_of r.1.items)) }
+    ensures tables { OnOk result (AllByRecursion IsBlockTable (blocks_of tables.now)) }
+{
+    let (held, plan) = beside(guess_tables(alloc, tables), plan)?;
+    beside(improve(alloc, plan), held)
 }
