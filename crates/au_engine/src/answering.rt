@@ -21,7 +21,7 @@ use crate::options::Options;
 use crate::runner::Runner;
 use crate::running::evaluated_by_plan;
 use crate::tables::bounded_tables;
-use crate::typing::resolved;
+use crate::typing::{named, resolved};
 use au_algebra::{Query, Rel, normal};
 use au_annot::Triple;
 use au_blocks::Table;
@@ -31,7 +31,7 @@ use au_par::Gate;
 use au_parse::Statement;
 use au_print::Answer;
 use au_typing::Typed;
-use au_value::{NoMemory, Range, Word};
+use au_value::{NoMemory, Range, Word, beside};
 use std::alloc::Global;
 use std::thread::Threads;
 
@@ -109,12 +109,12 @@ fn told(typed: Typed, rows: Result<Rel<Range, Triple>, EvalFault>) -> Result<Ans
     ensures rows { IfOk result (λ a. rows ≡ Ok a.rows) }
     ensures refused { (fit : Bool) → (rows ≡ Err EvalFault.Overflow → fit ≡ false) → IfErr result (RowsCause fit) }
 {
-    match rows {
-        Ok(rows) => Ok(Answer {
-            names: typed.names,
-            kinds: typed.kinds,
-            rows,
-        }),
+    match beside(rows, named(typed)) {
+        Ok(parts) => {
+            let (rows, columns) = parts;
+            let (names, kinds) = columns;
+            Ok(Answer { names, kinds, rows })
+        }
         Err(EvalFault::Overflow) => Err(EngineFault::Overflow),
         Err(EvalFault::NoMemory) => Err(EngineFault::NoMemory),
     }

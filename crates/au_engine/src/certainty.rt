@@ -16,7 +16,7 @@ ghost use Rattle.au_engine.specs.Certainty.{TreeUaHolds, UaHolds, tree_ua_fits, 
 
 use crate::faults::EngineFault;
 use crate::tables::ua_tables;
-use crate::typing::resolved;
+use crate::typing::{named, resolved};
 use au_algebra::Rel;
 use au_annot::Pair;
 use au_blocks::Table;
@@ -24,7 +24,7 @@ use au_expr::EvalFault;
 use au_parse::Statement;
 use au_typing::Typed;
 use au_ua::ua;
-use au_value::{Kind, NoMemory, Value, Word};
+use au_value::{Kind, NoMemory, Value, Word, beside};
 use std::alloc::Global;
 
 /// The answer over the guess world with what is certain of it: a name and a kind for each column, and rows that have one
@@ -61,12 +61,12 @@ pub fn ua_answer(
         Ok(typed) => typed,
         Err(fault) => return Err(fault),
     };
-    match ua_rows(alloc, &typed, tables) {
-        Ok(rows) => Ok(UaAnswer {
-            names: typed.names,
-            kinds: typed.kinds,
-            rows,
-        }),
+    match beside(ua_rows(alloc, &typed, tables), named(typed)) {
+        Ok(parts) => {
+            let (rows, columns) = parts;
+            let (names, kinds) = columns;
+            Ok(UaAnswer { names, kinds, rows })
+        }
         Err(EvalFault::Overflow) => Err(EngineFault::Overflow),
         Err(EvalFault::NoMemory) => Err(EngineFault::NoMemory),
     }

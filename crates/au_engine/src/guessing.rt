@@ -14,7 +14,7 @@ ghost use Rattle.au_engine.specs.Answers.{AnswerCause, answer_kinds, answer_name
 
 use crate::faults::EngineFault;
 use crate::tables::guessed_tables;
-use crate::typing::resolved;
+use crate::typing::{named, resolved};
 use au_algebra::Rel;
 use au_annot::Count;
 use au_blocks::Table;
@@ -22,7 +22,7 @@ use au_expr::EvalFault;
 use au_kfull::ordinary;
 use au_parse::Statement;
 use au_typing::Typed;
-use au_value::{Kind, NoMemory, Value, Word};
+use au_value::{Kind, NoMemory, Value, Word, beside};
 use std::alloc::Global;
 
 /// The answer over the guess world: a name and a kind for each column, and rows that have one value per column, with
@@ -56,12 +56,12 @@ pub fn guess_answer(
         Ok(typed) => typed,
         Err(fault) => return Err(fault),
     };
-    match guess_rows(alloc, &typed, tables) {
-        Ok(rows) => Ok(GuessAnswer {
-            names: typed.names,
-            kinds: typed.kinds,
-            rows,
-        }),
+    match beside(guess_rows(alloc, &typed, tables), named(typed)) {
+        Ok(parts) => {
+            let (rows, columns) = parts;
+            let (names, kinds) = columns;
+            Ok(GuessAnswer { names, kinds, rows })
+        }
         Err(EvalFault::Overflow) => Err(EngineFault::Overflow),
         Err(EvalFault::NoMemory) => Err(EngineFault::NoMemory),
     }

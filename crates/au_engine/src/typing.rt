@@ -14,7 +14,7 @@ use crate::tables::schemas;
 use au_blocks::Table;
 use au_parse::Statement;
 use au_typing::{Typed, TypingFault, resolve};
-use au_value::{NoMemory, Word};
+use au_value::{Kind, NoMemory, Word};
 use std::alloc::Global;
 
 /// The typed tree of a statement over tables, or one of its defects.
@@ -40,6 +40,13 @@ pub(crate) fn resolved(
         Ok(typed) => Ok(typed),
         Err(fault) => Err(typing_fault(fault)),
     }
+}
+
+/// The names and the kinds of the columns of a typed tree, which is let go.
+pub(crate) fn named(typed: Typed) -> (Vec<Word>, Vec<Kind>)
+    ensures { (result.0 ≡ typed.names) × (result.1 ≡ typed.kinds) }
+{
+    (typed.names, typed.kinds)
 }
 
 // What a defect of a statement is to the engine.

@@ -1,5 +1,6 @@
 -- The tree is positive, and each row has as many values as there are names.
-use Rattle.std.proofs.Common.{ap, ◌∙◌}
+use Rattle.std.proofs.Common.{◌≡◌, ap, ◌∙◌}
+use Rattle.std.proofs.lemmas.Result.{IfOk-at_ok}
 use Rattle.au_algebra.specs.Positive.{is_positive}
 use Rattle.au_parse.specs.Views.{statement_tree}
 use Rattle.au_typing.specs.Queries.{typing}
@@ -11,7 +12,9 @@ pub ua_rows-requires-clause-positive : goal.ua_rows-requires-clause-positive
 ua_rows-requires-clause-positive c =
     ap is_positive c.in-Ok.ensures.query ∙ positive_tree (relations_of c.args.tables.now) (statement_tree c.args.statement.now) c.requires.positive
 
-pub returns-in-Ok-ua_rows-clause-widths : goal.returns-in-Ok-ua_rows-clause-widths
-returns-in-Ok-ua_rows-clause-widths c =
-    c.in-Ok-ua_rows.ensures.widths c.in-Ok.typed.names.items (typing (relations_of c.args.tables.now) (statement_tree c.args.statement.now)).columns
-    c.in-Ok.ensures.names c.in-Ok.ensures.kinds
+pub returns-in-Ok-beside-clause-widths : goal.returns-in-Ok-beside-clause-widths
+returns-in-Ok-beside-clause-widths c =
+    let parts = c.in-Ok-beside.parts in
+    let same : parts.1.0.items ≡ c.in-Ok.typed.names.items = ap (λ r. r.0.items) c.in-Ok-beside.ensures.values.1 ∙ ap (λ v. v.items) c.named.ensures.0 in
+    IfOk-at_ok _ c.in-Ok-beside.ensures.values.0 c.ua_rows.ensures.widths parts.1.0.items (typing (relations_of c.args.tables.now) (statement_tree c.args.statement.now)).columns
+    (same ∙ c.in-Ok.ensures.names) c.in-Ok.ensures.kinds
