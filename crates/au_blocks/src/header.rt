@@ -103,7 +103,7 @@ fn column_name(alloc: Global, format: Format, place: usize, field: &str) -> Resu
 {
     let name = written_name(format, field);
     if !name.is_empty() {
-        return Ok(Word::new(String::from_str(alloc, name)?));
+        return Word::of(alloc, name);
     }
     let number = place as u128 + 1;
     Ok(Word::new(format!(in alloc; "col{number}")?))

@@ -45,8 +45,7 @@ fn cell(alloc: Global, kind: Kind, text: &str) -> Result<Cell, NoMemory>
 fn text_cell(alloc: Global, text: &str) -> Result<Cell, NoMemory>
     ensures { IfOk result (λ c. c ≡ certain (Value.Text text.now)) }
 {
-    let word = Word::new(String::from_str(alloc, text)?);
-    Ok(Cell::certain(Value::Text(word)))
+    Ok(Cell::certain(Value::Text(Word::of(alloc, text)?)))
 }
 
 fn truth(alloc: Global, text: &str) -> Result<Cell, NoMemory>

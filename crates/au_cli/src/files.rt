@@ -205,14 +205,8 @@ pub(crate) fn named_table(
         Ok(table) => table,
         Err(outcome) => return Err(outcome),
     };
-    match word(alloc, name) {
+    match Word::of(alloc, name) {
         Ok(name) => Ok((name, table)),
         Err(NoMemory) => Err(Outcome::NoMemory),
     }
-}
-
-fn word(alloc: Global, text: &str) -> Result<Word, NoMemory>
-    ensures { IfOk result (λ word. word ≡ text.now) }
-{
-    Ok(Word::new(String::from_str(alloc, text)?))
 }

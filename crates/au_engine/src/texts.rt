@@ -98,7 +98,8 @@ fn tree_text(alloc: Global, typed: &Typed, tables: &[(Word, Table)]) -> Result<V
 fn plan_line(alloc: Global, plan: &Plan) -> Result<Vec<u8>, NoMemory>
     ensures { IfOk result (λ line. (line.items ≡ plan_text (plan_tree plan.now) ++ codes "\n") × (is_utf8 line.items ≡ true)) }
 {
-    let mut line = write_plan(alloc, plan)?.into_string().into_bytes();
+    let text = write_plan(alloc, plan)?;
+    let mut line = String::from_str(alloc, text.as_str())?.into_bytes();
     line.push(b'\n')?;
     Ok(line)
 }

@@ -114,7 +114,7 @@ impl Call for Written {
         given: &str,
     ) -> Result<String, Fail> {
         match typed_plan(alloc, given) {
-            Ok(plan) => Ok(write_plan(alloc, &plan)?.into_string()),
+            Ok(plan) => Ok(String::from_str(alloc, write_plan(alloc, &plan)?.as_str())?),
             Err(fault) => Ok(format!(in alloc; "{fault:?}")?),
         }
     }

@@ -12,3 +12,4 @@ pub mod Results
 pub mod Laws
 -- What the contracts of inner calls and the proofs speak of.
 pub mod KindLaws
+pub mod Held

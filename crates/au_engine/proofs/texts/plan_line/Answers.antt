@@ -12,8 +12,8 @@ line_feed_utf8 = IsUtf8-from_ascii (10 ∷ []) (IsAscii-cons 10 [] (omega arith)
 
 pub returns : goal.returns
 returns c =
-    let bytes = string_bytes c.into_string.result in
+    let bytes = string_bytes c.in_ok-from_str.field-0 in
     let pushed : c.push.new.self.items ≡ bytes ++ 10 ∷ [] = c.in_ok-push.ensures.items ∙ ap (λ v. vec_items v ++ 10 ∷ []) c.into_bytes-line.ensures.value in
-    let text : bytes ≡ plan_text (plan_tree c.args.plan.now) = c.into_string.ensures ∙ c.in_ok-write_plan.ensures in
-    let utf8 = IsUtf8-append bytes (10 ∷ []) (IsUtf8-string_bytes c.into_string.result) line_feed_utf8 in
+    let text : bytes ≡ plan_text (plan_tree c.args.plan.now) = c.in_ok-from_str.ensures.ok ∙ c.as_str.ensures ∙ c.in_ok-text.ensures in
+    let utf8 = IsUtf8-append bytes (10 ∷ []) (IsUtf8-string_bytes c.in_ok-from_str.field-0) line_feed_utf8 in
     (pushed ∙ ap (λ t. t ++ 10 ∷ []) text, is_utf8-from_IsUtf8 c.push.new.self.items (subst IsUtf8 (sym pushed) utf8))
