@@ -1,13 +1,17 @@
 -- The blocks that are finished one after another.
-use Rattle.std.proofs.Common.{◌≡◌, ℕ, ◌+◌, List, [], ◌∷◌, ◌++◌, length, map, Option, Some, None, Ok, Err, refl, sym, ap, ◌∙◌, append_assoc}
-use Rattle.std.specs.Prelude.{Result, flat_map}
+use Rattle.std.proofs.Common.{◌≡◌, ◌⊎◌, ℕ, ◌+◌, false, inl, inr, Vec, Global, List, [], ◌∷◌, ◌++◌, length, map, Option, Some, None, Ok, Err, refl, sym, ap, ◌∙◌, append_assoc}
+use Rattle.std.specs.Prelude.{Result, IfErr, IfOk, flat_map}
 use Rattle.std.specs.List.{enumerate_from}
 use Rattle.std.proofs.lemmas.List.{append-nil, length_push}
+use Rattle.std.proofs.lemmas.Result.{IfOk-weaker, IfErr-weaker}
 use Rattle.au_value.specs.declared.kinds.Kind.{Kind}
 use Rattle.au_csv.specs.Texts.{Record}
 use Rattle.au_blocks.specs.declared.faults.TableFault.{TableFault}
+use Rattle.au_blocks.specs.declared.faults.TableFault.TheVariants as fault
+use Rattle.au_blocks.specs.declared.format.Format.{Format}
 use Rattle.au_blocks.specs.declared.format.Format.TheVariants as format
 use Rattle.au_blocks.specs.Blocks.{Choices}
+use Rattle.au_blocks.specs.Headers.{has_blocks}
 use Rattle.au_blocks.specs.Entries.{BlockEntry, entry_blocks}
 use Rattle.au_blocks.specs.Defects.{block_defects, blocks_defects}
 use Rattle.au_blocks.specs.Read.{block_of, first, unless}
@@ -68,3 +72,35 @@ plain-from n (r ∷ rows) = plain-from (n + 1) rows
 
 pub plain-blocks : (rows : List Record) → first (blocks_defects (entry_blocks format.Plain rows)) ≡ None
 plain-blocks rows = plain-from 0 rows
+
+plain-format : (f : Format) → has_blocks f ≡ false → f ≡ format.Plain
+plain-format format.Plain h = refl
+plain-format format.Blocks h = cc
+plain-format format.Copies h = cc
+
+-- the blocks of a table, as they are made: of what was gathered, and of a plain table
+abbrev pub Blocks : List Kind → List (List BlockEntry) → Result (Vec Choices Global) TableFault → Type 0
+Blocks kinds blocks r = IfOk r (λ bs. unless (first (blocks_defects blocks)) (map (block_of kinds) blocks) ≡ Ok bs.items)
+
+abbrev pub Fault : List (List BlockEntry) → Result (Vec Choices Global) TableFault → Type 0
+Fault blocks r = IfErr r (λ e. (e ≡ fault.NoMemory) ⊎ (first (blocks_defects blocks) ≡ Some e))
+
+pub gathered-blocks : (kinds : List Kind) (blocks : List (List BlockEntry)) (gs : List Gathered) (r : Result (Vec Choices Global) TableFault) → gs ≡ map (gathered kinds) blocks
+    → IfOk r (λ bs. all_finished 0 gs ≡ Ok bs.items) → Blocks kinds blocks r
+gathered-blocks kinds blocks gs r are finished =
+    let e = ap (all_finished 0) are ∙ finished-blocks kinds blocks in
+    IfOk-weaker r (λ bs. all_finished 0 gs ≡ Ok bs.items) (λ bs. unless (first (blocks_defects blocks)) (map (block_of kinds) blocks) ≡ Ok bs.items) (λ bs is. sym e ∙ is) finished
+
+pub gathered-fault : (kinds : List Kind) (blocks : List (List BlockEntry)) (gs : List Gathered) (r : Result (Vec Choices Global) TableFault) → gs ≡ map (gathered kinds) blocks
+    → IfErr r (λ e. (e ≡ fault.NoMemory) ⊎ (all_finished 0 gs ≡ Err e)) → Fault blocks r
+gathered-fault kinds blocks gs r are finished =
+    let e = ap (all_finished 0) are ∙ finished-blocks kinds blocks in
+    IfErr-weaker r (λ f. (f ≡ fault.NoMemory) ⊎ (all_finished 0 gs ≡ Err f)) (λ f. (f ≡ fault.NoMemory) ⊎ (first (blocks_defects blocks) ≡ Some f))
+    (λ f is. elim is [
+      | inl memory ↦ inl memory
+      | inr defect ↦ inr (unless-err (first (blocks_defects blocks)) (map (block_of kinds) blocks) f (sym e ∙ defect))
+    ]) finished
+
+pub plain-made : (f : Format) (kinds : List Kind) (rows : List Record) (bs : List Choices) → has_blocks f ≡ false → bs ≡ map (block_of kinds) (entry_blocks format.Plain rows)
+    → unless (first (blocks_defects (entry_blocks f rows))) (map (block_of kinds) (entry_blocks f rows)) ≡ Ok bs
+plain-made f kinds rows bs is are = rw (plain-format f is, plain-blocks rows) (ap Ok (sym are))

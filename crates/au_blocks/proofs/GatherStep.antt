@@ -13,8 +13,9 @@ use Rattle.au_value.specs.Texts.{Text}
 use Rattle.au_value.proofs.FirstSeen.{Apart, one, any-distinct, apart-distinct}
 use Rattle.au_csv.specs.Texts.{Record}
 use Rattle.au_blocks.specs.declared.format.Format.{Format}
-use Rattle.au_blocks.specs.Headers.{has_blocks}
-use Rattle.au_blocks.specs.Entries.{BlockEntry, block_entry_of, entries_of, label_of, labelled, entry_blocks}
+use Rattle.au_blocks.specs.declared.role.Role.{Role}
+use Rattle.au_blocks.specs.Headers.{cells_of, has_blocks}
+use Rattle.au_blocks.specs.Entries.{BlockEntry, block_entry, block_entry_of, copies_in, role_of, entries_of, label_of, labelled, entry_blocks}
 use Rattle.au_blocks.specs.Gathered.{Gathered, gathered, nothing, with_entry}
 use Rattle.au_blocks.proofs.Gathering.{gathered-push}
 use Rattle.au_blocks.proofs.Places.{absent-place, known-place}
@@ -99,6 +100,16 @@ builders f kinds rows = map (under f kinds rows) (labels rows)
 -- a builder more, where the label is new
 abbrev pub with_builder : List Gathered → Bool → List Gathered
 with_builder gs known = gs ++ cond known [] (nothing ∷ [])
+
+-- the builders with one more where the label is new
+pub builders-are : (f : Format) (kinds : List Kind) (rows : List Record) (l : Text) (ls : List Text) (gs hs : List Gathered) → ls ≡ labels rows → gs ≡ builders f kinds rows
+    → hs ≡ with_builder gs (list_any (bytes_eq l) ls) → hs ≡ with_builder (builders f kinds rows) (list_any (bytes_eq l) (labels rows))
+builders-are f kinds rows l ls gs hs same are later =
+    later ∙ ap (λ (g : List Gathered). with_builder g (list_any (bytes_eq l) ls)) are ∙ ap (λ (x : List Text). with_builder (builders f kinds rows) (list_any (bytes_eq l) x)) same
+
+-- the entry of a record
+pub entry-is : (f : Format) (r : Record) (x : Role) → role_of f r ≡ Some x → block_entry_of f r ≡ Some (block_entry x (copies_in f r) (cells_of f r))
+entry-is f r x has = rw has refl
 
 pub labels-push : (rows : List Record) (r : Record) → labels (rows ++ r ∷ []) ≡ insert_key bytes_eq (labels rows) (label_of r)
 labels-push rows r = ap (distinct bytes_eq) (map-append label_of rows (r ∷ [])) ∙ distinct-push (map label_of rows) (label_of r)

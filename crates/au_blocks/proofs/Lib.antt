@@ -8,8 +8,12 @@ pub mod First
 pub mod GatherStep
 pub mod Gathering
 pub mod InferredKinds
+pub mod Judged
 pub mod LabelKeys
+pub mod MadeEntries
 pub mod MarkedColumns
 pub mod Places
+pub mod ReadTables
 pub mod RowValues
+pub mod TableParts
 pub mod WellFormed

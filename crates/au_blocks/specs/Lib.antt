@@ -14,3 +14,4 @@ pub mod Faults
 pub mod Gathered
 pub mod Labels
 pub mod Marks
+pub mod Pieces

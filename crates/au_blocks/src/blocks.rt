@@ -1,5 +1,5 @@
 //! The blocks of a table file.
-ghost use Rattle.std.specs.Prelude.{◌≡◌, ◌⊎◌, ◌∷◌, [], true, false, map, Some, Ok, Err, IfErr, IfOk};
+ghost use Rattle.std.specs.Prelude.{◌≡◌, ◌≤◌, ◌⊎◌, ◌∷◌, [], true, false, map, Some, Ok, Err, IfErr, IfOk};
 ghost use Rattle.std.specs.List.{list_all};
 ghost use Rattle.au_blocks.specs.Defects.{blocks_defects};
 ghost use Rattle.au_blocks.specs.Blocks.{once};
@@ -14,13 +14,15 @@ use crate::builder::BlockBuilder;
 use crate::column::Column;
 use crate::faults::TableFault;
 use crate::format::Format;
-use crate::gather::gather;
+use crate::gather::{gather, gather_by};
+use crate::plain_pieces::plain_blocks_by;
 use crate::role::Role;
 use crate::times::Times;
 use crate::values::row;
 use au_csv::Rec;
 use au_value::NoMemory;
 use std::alloc::Global;
+use std::thread::Threads;
 
 // The blocks of the records below a header with these columns, or the first defect of one.
 pub(crate) fn blocks(
@@ -37,6 +39,28 @@ pub(crate) fn blocks(
         finish_all(alloc, gather(alloc, format, columns, rows)?)
     } else {
         Ok(plain_blocks(alloc, columns, rows)?)
+    }
+}
+
+// The same, where so many workers make the cells.
+pub(crate) fn blocks_by<R: Threads + Sync>(
+    rt: &R,
+    alloc: Global,
+    workers: usize,
+    format: Format,
+    columns: &[Column],
+    rows: &[Rec],
+) -> Result<Vec<Block>, TableFault>
+    requires workers { 1 ≤ workers }
+    requires roles { has_blocks format ≡ true → list_all has_role rows.now ≡ true }
+    ensures blocks { IfOk result (λ bs. unless (first (blocks_defects (entry_blocks format rows.now))) (map (block_of (map (λ c. c.kind) columns.now)) (entry_blocks format rows.now)) ≡ Ok bs.items) }
+    ensures fault { IfErr result (λ e. (e ≡ TableFault.NoMemory) ⊎ (first (blocks_defects (entry_blocks format rows.now)) ≡ Some e)) }
+{
+    if format.has_blocks() {
+        let builders = gather_by(rt, alloc, workers, format, columns, rows)?;
+        finish_all(alloc, builders)
+    } else {
+        Ok(plain_blocks_by(rt, alloc, workers, columns, rows)?)
     }
 }
 
@@ -65,7 +89,7 @@ fn plain_blocks(alloc: Global, columns: &[Column], rows: Vec<Rec>) -> Result<Vec
 }
 
 // The block of one marked alternative.
-fn certain(alloc: Global, columns: &[Column], record: &Rec) -> Result<Block, NoMemory>
+pub(crate) fn certain(alloc: Global, columns: &[Column], record: &Rec) -> Result<Block, NoMemory>
     ensures { IfOk result (λ b. b ≡ block_of (map (λ c. c.kind) columns.now) (block_entry Role.Guess once «record».now ∷ [])) }
 {
     let mut alternatives = Vec::with_capacity(alloc, 1)?;

@@ -1,24 +1,26 @@
 //! The records of a block table, gathered by their labels.
-ghost use Rattle.std.specs.Prelude.{◌≡◌, ◌++◌, ◌∷◌, [], true, Some, if◌then◌else◌, map, IfOk, OnOk, bytes_eq};
+ghost use Rattle.std.specs.Prelude.{◌≡◌, ◌≤◌, ◌++◌, ◌∷◌, [], true, Some, if◌then◌else◌, map, IfOk, OnOk, bytes_eq};
 ghost use Rattle.std.specs.List.{list_all, list_any, position_or_len};
 ghost use Rattle.indexmap.specs.IndexSet.{insert_key};
 ghost use Rattle.au_blocks.specs.Entries.{entry_blocks, copies_in, block_entry, has_role, role_of};
 ghost use Rattle.au_blocks.specs.Headers.{cells_of, has_blocks};
 ghost use Rattle.au_blocks.specs.Gathered.{gathered, nothing, with_entry};
 ghost use Rattle.au_blocks.specs.Labels.{label_bytes};
+ghost use Rattle.au_blocks.specs.Pieces.{with_alternative};
 
-use crate::alternative::Alternative;
 use crate::builder::BlockBuilder;
 use crate::column::Column;
+use crate::entry::Entry;
+use crate::entry_pieces::{alternative, entries_by};
 use crate::fields::field;
 use crate::format::Format;
 use crate::role::Role;
-use crate::row_faults::{role, times_in};
-use crate::values::row;
+use crate::row_faults::role;
 use au_csv::Rec;
 use au_value::NoMemory;
 use indexmap::IndexSet;
 use std::alloc::Global;
+use std::thread::Threads;
 
 // What the records of each label amount to, in the order in which the labels come first.
 pub(crate) fn gather(
@@ -37,6 +39,34 @@ pub(crate) fn gather(
         let role = role_in(format, &record);
         let place = place_of(alloc, &mut labels, &mut builders, field(&record, 0))?;
         add_entry(alloc, format, columns, &mut builders[place], role, &record)?;
+    }
+    Ok(builders)
+}
+
+// The same, where so many workers make the alternatives.
+pub(crate) fn gather_by<R: Threads + Sync>(
+    rt: &R,
+    alloc: Global,
+    workers: usize,
+    format: Format,
+    columns: &[Column],
+    rows: &[Rec],
+) -> Result<Vec<BlockBuilder>, NoMemory>
+    requires workers { 1 ≤ workers }
+    requires blocks { has_blocks format ≡ true }
+    requires roles { list_all has_role rows.now ≡ true }
+    ensures { IfOk result (λ bs. bs.items ≡ map (gathered (map (λ c. c.kind) columns.now)) (entry_blocks format rows.now)) }
+{
+    let mut entries = entries_by(rt, alloc, workers, format, columns, rows)?.into_iter();
+    let mut labels = IndexSet::new(alloc);
+    let mut builders = Vec::new(alloc);
+    for number in 0..rows.len() {
+        let Some(entry) = entries.next() else {
+            unreachable!()
+        };
+        let label = field(&rows[number], 0);
+        let place = place_of(alloc, &mut labels, &mut builders, label)?;
+        add_made(&mut builders[place], entry)?;
     }
     Ok(builders)
 }
@@ -87,9 +117,23 @@ fn add_entry(
         builder.add_absence(role.is_marked());
         return Ok(());
     }
-    let cells = row(alloc, format, columns, record)?;
-    builder.add_row(
-        role.is_marked(),
-        Alternative::of(cells, times_in(format, record)),
-    )
+    let alternative = alternative(alloc, format, columns, record)?;
+    builder.add_row(role.is_marked(), alternative)
+}
+
+// One entry more of a block, as a worker made it.
+fn add_made(builder: &mut BlockBuilder, entry: Entry) -> Result<(), NoMemory>
+    ensures { OnOk result (builder.new ≡ with_alternative builder.old entry.marked entry.alternative) }
+{
+    let Entry {
+        marked,
+        alternative,
+    } = entry;
+    match alternative {
+        Some(alternative) => builder.add_row(marked, alternative),
+        None => {
+            builder.add_absence(marked);
+            Ok(())
+        }
+    }
 }

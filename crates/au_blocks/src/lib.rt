@@ -1,6 +1,7 @@
 //! Block tables: rows of which one alternative holds, and the table files that hold them.
 //!
 //! [`read_table`] reads the bytes of a CSV file as a [`Table`], or names the first of their defects, a [`TableFault`].
+//! [`read_table_by`] does the same by several workers.
 //! A table has columns and blocks: [`Table::columns`] and [`Table::blocks`] read it. A [`Block`] has at least one
 //! alternative, may be optional, and marks one choice as the guess: [`Block::alternatives`], [`Block::optional`] and
 //! [`Block::guess`] read it. An [`Alternative`] has a [`Cell`] for each column, a value or a range, and its [`Times`] say
@@ -21,6 +22,9 @@ mod blocks;
 mod builder;
 mod cell;
 mod column;
+mod defect_pieces;
+mod entry;
+mod entry_pieces;
 mod faults;
 mod fields;
 mod format;
@@ -28,6 +32,7 @@ mod gather;
 mod header;
 mod header_faults;
 mod kinds;
+mod plain_pieces;
 mod read;
 mod role;
 mod row_faults;
@@ -43,6 +48,6 @@ pub use block::Block;
 pub use cell::Cell;
 pub use column::{Column, copy_columns};
 pub use faults::TableFault;
-pub use read::read_table;
+pub use read::{read_table, read_table_by};
 pub use table::Table;
 pub use times::Times;

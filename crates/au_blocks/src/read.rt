@@ -1,16 +1,18 @@
 //! The block table of a file's bytes.
-ghost use Rattle.std.specs.Prelude.{◌≡◌, ◌⊎◌, ◌∷◌, Some, Ok, Err, IfOk, IfErr};
+ghost use Rattle.std.specs.Prelude.{◌≡◌, ◌≤◌, ◌⊎◌, ◌∷◌, Some, Ok, Err, IfOk, IfErr};
+ghost use Rattle.au_csv.specs.Texts.{text_records};
 ghost use Rattle.au_blocks.specs.Defects.{table_defects};
 ghost use Rattle.au_blocks.specs.Read.{contents, first, table_of, unless};
 
-use crate::blocks::blocks;
+use crate::blocks::{blocks, blocks_by};
 use crate::faults::TableFault;
 use crate::format::Format;
-use crate::schema::schema;
+use crate::schema::{schema, schema_by};
 use crate::table::Table;
 use au_csv::{Rec, records};
 use au_value::Word;
 use std::alloc::Global;
+use std::thread::Threads;
 
 /// The block table of the bytes of a table file.
 ///
@@ -26,12 +28,39 @@ pub fn read_table(alloc: Global, bytes: &[u8]) -> Result<Table, TableFault>
     ensures table { IfOk result (λ t. table_of bytes.now ≡ Ok t) }
     ensures fault { IfErr result (λ e. (e ≡ TableFault.NoMemory) ⊎ (table_of bytes.now ≡ Err e)) }
 {
+    let (header, rows) = header_and_rows(alloc, bytes)?;
+    table_under(alloc, header.as_slice(), rows)
+}
+
+/// The table of [`read_table`], whose records so many workers judge and make cells of.
+pub fn read_table_by<R: Threads + Sync>(
+    rt: &R,
+    alloc: Global,
+    workers: usize,
+    bytes: &[u8],
+) -> Result<Table, TableFault>
+    requires workers { 1 ≤ workers }
+    ensures table { IfOk result (λ t. table_of bytes.now ≡ Ok t) }
+    ensures fault { IfErr result (λ e. (e ≡ TableFault.NoMemory) ⊎ (table_of bytes.now ≡ Err e)) }
+{
+    if workers == 1 {
+        return read_table(alloc, bytes);
+    }
+    let (header, rows) = header_and_rows(alloc, bytes)?;
+    table_by(rt, alloc, workers, header.as_slice(), rows.as_slice())
+}
+
+// The header of a text, and the records below it.
+fn header_and_rows(alloc: Global, bytes: &[u8]) -> Result<(Vec<Word>, Vec<Rec>), TableFault>
+    ensures records { IfOk result (λ p. text_records bytes.now ≡ Ok (p.0.items ∷ p.1.items)) }
+    ensures fault { IfErr result (λ e. (e ≡ TableFault.NoMemory) ⊎ (table_of bytes.now ≡ Err e)) }
+{
     let mut rows = records(alloc, bytes)?;
     if rows.is_empty() {
         return Err(TableFault::NoHeader);
     }
     let header = rows.remove(0).words(alloc)?;
-    table_under(alloc, header.as_slice(), rows)
+    Ok((header, rows))
 }
 
 // The block table of a header and the records below it.
@@ -42,5 +71,23 @@ fn table_under(alloc: Global, header: &[Word], rows: Vec<Rec>) -> Result<Table, 
     let columns = schema(alloc, header, rows.as_slice())?;
     let format = Format::of(header);
     let blocks = blocks(alloc, format, columns.as_slice(), rows)?;
+    Ok(Table::of(columns, blocks))
+}
+
+// The same, where so many workers judge the records and make the cells.
+fn table_by<R: Threads + Sync>(
+    rt: &R,
+    alloc: Global,
+    workers: usize,
+    header: &[Word],
+    rows: &[Rec],
+) -> Result<Table, TableFault>
+    requires { 1 ≤ workers }
+    ensures table { IfOk result (λ t. unless (first (table_defects (header.now ∷ rows.now))) (contents (header.now ∷ rows.now)) ≡ Ok t) }
+    ensures fault { IfErr result (λ e. (e ≡ TableFault.NoMemory) ⊎ (first (table_defects (header.now ∷ rows.now)) ≡ Some e)) }
+{
+    let columns = schema_by(rt, alloc, workers, header, rows)?;
+    let format = Format::of(header);
+    let blocks = blocks_by(rt, alloc, workers, format, columns.as_slice(), rows)?;
     Ok(Table::of(columns, blocks))
 }

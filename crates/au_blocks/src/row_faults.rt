@@ -34,7 +34,7 @@ pub(crate) fn row_fault(
 }
 
 // The first defect of the record with this number.
-fn record_fault(
+pub(crate) fn record_fault(
     format: Format,
     width: usize,
     written: &[Option<Kind>],

@@ -1,9 +1,13 @@
 //! The columns of a table file.
-ghost use Rattle.std.specs.Prelude.{◌≡◌, ◌⊎◌, Some, None, IfErr, IfOk};
-ghost use Rattle.au_blocks.specs.Defects.{schema_defects};
+ghost use Rattle.std.specs.Prelude.{◌≡◌, ◌≤◌, ◌⊎◌, Some, None, IfErr, IfOk};
+ghost use Rattle.au_blocks.specs.Defects.{header_defects, schema_defects};
+ghost use Rattle.au_blocks.specs.Entries.{entries_of};
+ghost use Rattle.au_blocks.specs.Headers.{column_names as column_names_of, written_kinds as written_kinds_of};
+ghost use Rattle.au_blocks.specs.Inferring.{inferred_kinds};
 ghost use Rattle.au_blocks.specs.Read.{columns_of, first, header_columns};
 
 use crate::column::Column;
+use crate::defect_pieces::row_fault_by;
 use crate::faults::TableFault;
 use crate::format::Format;
 use crate::header::{cells, column_names, written_kinds};
@@ -13,6 +17,7 @@ use crate::row_faults::row_fault;
 use au_csv::Rec;
 use au_value::{Kind, NoMemory, Word};
 use std::alloc::Global;
+use std::thread::Threads;
 
 // The columns of a header over the records below it, or the first defect of these but for the blocks.
 pub(crate) fn schema(
@@ -25,17 +30,74 @@ pub(crate) fn schema(
     ensures fault { IfErr result (λ e. (e ≡ TableFault.NoMemory) ⊎ (first (schema_defects header.now rows.now) ≡ Some e)) }
 {
     let format = Format::of(header);
-    let fields = cells(format, header);
+    let (names, written) = heading(alloc, format, cells(format, header))?;
+    if let Some(fault) = row_fault(format, header.len(), written.as_slice(), rows) {
+        return Err(fault);
+    }
+    Ok(typed(alloc, format, names, written.as_slice(), rows)?)
+}
+
+// The same, where so many workers judge the records.
+pub(crate) fn schema_by<R: Threads + Sync>(
+    rt: &R,
+    alloc: Global,
+    workers: usize,
+    header: &[Word],
+    rows: &[Rec],
+) -> Result<Vec<Column>, TableFault>
+    requires workers { 1 ≤ workers }
+    ensures sound { IfOk result (λ _. first (schema_defects header.now rows.now) ≡ None) }
+    ensures columns { IfOk result (λ columns. columns.items ≡ header_columns header.now rows.now) }
+    ensures fault { IfErr result (λ e. (e ≡ TableFault.NoMemory) ⊎ (first (schema_defects header.now rows.now) ≡ Some e)) }
+{
+    let format = Format::of(header);
+    let (names, written) = heading(alloc, format, cells(format, header))?;
+    let width = header.len();
+    if let Some(fault) = row_fault_by(
+        rt,
+        alloc,
+        workers,
+        format,
+        width,
+        written.as_slice(),
+        rows,
+    )? {
+        return Err(fault);
+    }
+    Ok(typed(alloc, format, names, written.as_slice(), rows)?)
+}
+
+// The names and the written kinds of the columns of these header fields, or the first defect of one.
+fn heading(
+    alloc: Global,
+    format: Format,
+    fields: &[Word],
+) -> Result<(Vec<Word>, Vec<Option<Kind>>), TableFault>
+    ensures sound { IfOk result (λ _. first (header_defects format fields.now) ≡ None) }
+    ensures names { IfOk result (λ p. p.0.items ≡ column_names_of format fields.now) }
+    ensures written { IfOk result (λ p. p.1.items ≡ written_kinds_of fields.now) }
+    ensures fault { IfErr result (λ e. (e ≡ TableFault.NoMemory) ⊎ (first (header_defects format fields.now) ≡ Some e)) }
+{
     let names = column_names(alloc, format, fields)?;
     if let Some(fault) = header_fault(format, names.as_slice(), fields) {
         return Err(fault);
     }
     let written = written_kinds(alloc, fields)?;
-    if let Some(fault) = row_fault(format, header.len(), written.as_slice(), rows) {
-        return Err(fault);
-    }
-    let kinds = kinds(alloc, format, written.as_slice(), rows)?;
-    Ok(columns(alloc, names, kinds)?)
+    Ok((names, written))
+}
+
+// The columns with these names and written kinds, over the records below the header.
+fn typed(
+    alloc: Global,
+    format: Format,
+    names: Vec<Word>,
+    written: &[Option<Kind>],
+    rows: &[Rec],
+) -> Result<Vec<Column>, NoMemory>
+    ensures { IfOk result (λ columns. columns.items ≡ columns_of names.items (inferred_kinds (entries_of format rows.now) written.now)) }
+{
+    let kinds = kinds(alloc, format, written, rows)?;
+    columns(alloc, names, kinds)
 }
 
 // The columns with these names and kinds.

@@ -1,31 +1,17 @@
 -- One record more, and the end.
-use Rattle.std.proofs.Common.{◌≡◌, ◌∙◌, ◌++◌, ◌∷◌, [], List, Some, map, get_or, refl, sym, ap, append_assoc}
+use Rattle.std.proofs.Common.{◌≡◌, ◌∙◌, ◌++◌, ◌∷◌, [], List, map, get_or, sym, ap, append_assoc}
 use Rattle.std.specs.Prelude.{bytes_eq}
-use Rattle.std.specs.List.{list_any, position_or_len}
+use Rattle.std.specs.List.{position_or_len}
 use Rattle.std.specs.Vec.Iter.{into_iter_items}
 use Rattle.std.proofs.lemmas.List.{append-nil, get_or_read, nil_from_length}
-use Rattle.au_value.specs.declared.kinds.Kind.{Kind}
 use Rattle.au_csv.specs.Texts.{Record}
 use Rattle.au_blocks.specs.declared.column.Column.{Column}
-use Rattle.au_blocks.specs.declared.format.Format.{Format}
-use Rattle.au_blocks.specs.declared.role.Role.{Role}
-use Rattle.au_blocks.specs.Entries.{block_entry, block_entry_of, label_of, role_of, copies_in}
+use Rattle.au_blocks.specs.Entries.{block_entry, label_of, copies_in}
 use Rattle.au_blocks.specs.Headers.{cells_of}
-use Rattle.au_blocks.specs.Gathered.{Gathered, nothing}
+use Rattle.au_blocks.specs.Gathered.{nothing}
 use Rattle.au_blocks.specs.Labels.{label_bytes}
-use Rattle.au_value.specs.Texts.{Text}
-use Rattle.au_blocks.proofs.GatherStep.{labels, builders, with_builder, labels-push, builders-push, builders-blocks, place-within}
+use Rattle.au_blocks.proofs.GatherStep.{labels, builders, builders-are, entry-is, labels-push, builders-push, builders-blocks, place-within}
 use Rattle.au_blocks.proofs.gather.gather.Goals as goal
-
--- the builders with one more where the label is new
-builders-are : (f : Format) (kinds : List Kind) (rows : List Record) (l : Text) (ls : List Text) (gs hs : List Gathered) → ls ≡ labels rows → gs ≡ builders f kinds rows
-    → hs ≡ with_builder gs (list_any (bytes_eq l) ls) → hs ≡ with_builder (builders f kinds rows) (list_any (bytes_eq l) (labels rows))
-builders-are f kinds rows l ls gs hs same are later =
-    later ∙ ap (λ (g : List Gathered). with_builder g (list_any (bytes_eq l) ls)) are ∙ ap (λ (x : List Text). with_builder (builders f kinds rows) (list_any (bytes_eq l) x)) same
-
--- the entry of a record
-entry-is : (f : Format) (r : Record) (x : Role) → role_of f r ≡ Some x → block_entry_of f r ≡ Some (block_entry x (copies_in f r) (cells_of f r))
-entry-is f r x has = rw has refl
 
 pub index_mut-requires : goal.index_mut-requires
 index_mut-requires c =

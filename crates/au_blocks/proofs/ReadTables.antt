@@ -1,0 +1,30 @@
+-- The table of a text whose records were read.
+use Rattle.std.proofs.Common.{◌≡◌, ◌∙◌, ◌<◌, ◌∷◌, [], ℕ, List, Option, Some, None, Ok, length, get_or, refl, arith}
+use Rattle.std.specs.Prelude.{IfOk, Result}
+use Rattle.std.specs.List.{remove}
+use Rattle.std.proofs.lemmas.Result.{IfOk-weaker}
+use Rattle.au_csv.specs.Texts.{Record, records_of, not_text, unless_not_text, text_records}
+use Rattle.au_blocks.specs.declared.faults.TableFault.{TableFault}
+use Rattle.au_blocks.specs.Defects.{table_defects}
+use Rattle.au_blocks.specs.Read.{contents, first, table_of, unless}
+use Rattle.au_blocks.specs.Tables.{BlockTable}
+
+ok-parts : (o : Option ℕ) (rs qs : List Record) → unless_not_text o rs ≡ Ok qs → (o ≡ None) × (rs ≡ qs)
+ok-parts None rs qs is = (refl, cc)
+ok-parts (Some r) rs qs is = cc
+
+-- the table of a text all of whose records are text
+table-of-records : (bytes : List ℕ) (rs : List Record) → text_records bytes ≡ Ok rs → table_of bytes ≡ unless (first (table_defects rs)) (contents rs)
+table-of-records bytes rs is =
+    let parts = ok-parts (not_text (records_of bytes)) (records_of bytes) rs is in
+    rw (parts.0, parts.1) refl
+
+pub table-read : (bytes : List ℕ) (rs : List Record) (r : Result BlockTable TableFault) → text_records bytes ≡ Ok rs
+    → IfOk r (λ t. unless (first (table_defects rs)) (contents rs) ≡ Ok t) → IfOk r (λ t. table_of bytes ≡ Ok t)
+table-read bytes rs r is made =
+    IfOk-weaker r (λ t. unless (first (table_defects rs)) (contents rs) ≡ Ok t) (λ t. table_of bytes ≡ Ok t) (λ t has. table-of-records bytes rs is ∙ has) made
+
+-- a list from its head and the others
+pub head-others : (xs : List Record) (x : Record) → 0 < length xs → x ≡ get_or xs 0 x → x ∷ remove xs 0 ≡ xs
+head-others [] x some is = absurd (omega arith)
+head-others (z ∷ xs) x some is = rw is refl
