@@ -1,12 +1,13 @@
-//! The tables of two files, which two workers parse.
+//! The tables of two files, which are parsed side by side.
 //!
 //! The bytes are read one file after the other, as the shelf gives them. Each file's bytes are then made a table in a thread
-//! of its own.
+//! of its own, by half of the workers.
 ghost use Rattle.std.specs.Prelude.{◌≡◌, ◌≤◌, ◌∷◌, [], Ok, IfErr, IfOk, IfSome, map};
 ghost use Rattle.au_words.specs.CommandLine.{seen_table};
 ghost use Rattle.au_cli.specs.FileCauses.{FilesCause};
 ghost use Rattle.au_cli.specs.Files.{tables_from};
 ghost use Rattle.au_cli.specs.TwoFiles.{BothTables, NamesRead, NamesTable};
+ghost use denote.Param.Send.{IsSync};
 
 use crate::files::{Purpose, file_bytes, named_table, read_tables};
 use crate::outcome::Outcome;
@@ -17,8 +18,8 @@ use au_words::TableWord;
 use std::alloc::Global;
 use std::thread::{Threads, join};
 
-/// The tables of a query's files, each under its name, in the order of the words. Two files are parsed by two workers,
-/// where there are several.
+/// The tables of a query's files, each under its name, in the order of the words. Two files are parsed side by side, each
+/// by half of the workers, where there are several. Other files are parsed one after the other, each by all workers.
 pub(crate) fn query_tables<R: Threads + Sync, S: Shelf>(
     rt: &R,
     alloc: Global,
@@ -32,11 +33,11 @@ pub(crate) fn query_tables<R: Threads + Sync, S: Shelf>(
     ensures counts { (S.faults shelf.old ≤ S.faults shelf.new) × (S.absences shelf.old ≤ S.absences shelf.new) }
 {
     if workers == 1 {
-        return read_tables(alloc, shelf, Purpose::Query, 0, 0, words);
+        return read_tables(rt, alloc, shelf, workers, Purpose::Query, 0, 0, words);
     }
     match two_words(words) {
-        Some((first, second)) => two_tables(rt, alloc, shelf, first, second),
-        None => read_tables(alloc, shelf, Purpose::Query, 0, 0, words),
+        Some((first, second)) => two_tables(rt, alloc, shelf, workers / 2, first, second),
+        None => read_tables(rt, alloc, shelf, workers, Purpose::Query, 0, 0, words),
     }
 }
 
@@ -53,11 +54,12 @@ fn two_words<'a, 'w>(words: &'a [TableWord<'w>]) -> Option<(&'a TableWord<'w>, &
     }
 }
 
-// The tables of two files.
+// The tables of two files, each parsed by so many workers.
 fn two_tables<R: Threads + Sync, S: Shelf>(
     rt: &R,
     alloc: Global,
     shelf: &mut S,
+    workers: usize,
     first: &TableWord<'_>,
     second: &TableWord<'_>,
 ) -> Result<Vec<(Word, Table)>, Outcome>
@@ -71,7 +73,15 @@ fn two_tables<R: Threads + Sync, S: Shelf>(
         Err(outcome) => return Err(outcome),
     };
     let more = file_bytes(alloc, shelf, 1, bytes.len(), second.path);
-    let (one, other) = parsed(rt, alloc, first.name, bytes.as_slice(), second.name, &more);
+    let (one, other) = parsed(
+        rt,
+        alloc,
+        workers,
+        first.name,
+        bytes.as_slice(),
+        second.name,
+        &more,
+    );
     both_tables(alloc, one, other)
 }
 
@@ -79,6 +89,7 @@ fn two_tables<R: Threads + Sync, S: Shelf>(
 fn parsed<R: Threads + Sync>(
     rt: &R,
     alloc: Global,
+    workers: usize,
     first: &str,
     bytes: &[u8],
     second: &str,
@@ -93,17 +104,21 @@ fn parsed<R: Threads + Sync>(
     join(
         rt,
         || -> Result<(Word, Table), Outcome>
+            requires { IsSync R.row }
             ensures { NamesTable Purpose.Query 0 first.entry.now bytes.entry.now result }
-        { named_table(alloc, Purpose::Query, 0, first, bytes) },
+        { named_table(rt, alloc, workers, Purpose::Query, 0, first, bytes) },
         || -> Result<(Word, Table), Outcome>
+            requires { IsSync R.row }
             ensures { NamesRead Purpose.Query 1 second.entry.now more.entry.now result }
-        { named_read(alloc, 1, second, more) },
+        { named_read(rt, alloc, workers, 1, second, more) },
     )
 }
 
 // The table of a file's bytes, where they were read.
-fn named_read(
+fn named_read<R: Threads + Sync>(
+    rt: &R,
     alloc: Global,
+    workers: usize,
     file: usize,
     name: &str,
     bytes: &Result<Vec<u8>, Outcome>,
@@ -111,7 +126,17 @@ fn named_read(
     ensures { NamesRead Purpose.Query file name.now bytes.now result }
 {
     match bytes {
-        Ok(bytes) => named_table(alloc, Purpose::Query, file, name, bytes.as_slice()),
+        Ok(bytes) => {
+            named_table(
+                rt,
+                alloc,
+                workers,
+                Purpose::Query,
+                file,
+                name,
+                bytes.as_slice(),
+            )
+        }
         Err(outcome) => Err(*outcome),
     }
 }
