@@ -70,12 +70,16 @@ fn judge_workers<R: Abort + Threads + Sync>(
     Ok(())
 }
 
-// The numbers 0 to 9 by whether they are even, joined with a row of each kind by equality and by ranges.
+// The numbers 0 to 9 by whether they are even, joined with a row of each kind by equality and by ranges; and rows of a
+// table, with a column added, tested and reordered.
 const GROUPS: &str =
     "SELECT c1 AS c0, SUM(c0) AS c1 FROM (SELECT x.c0 AS c0, x.c1 AS c1, x.c2 AS c2, y.c0 AS c3, y.c1 AS c4, y.c2 AS c5 FROM (SELECT c0, c1, c2 FROM t0) x, (SELECT c0, c1, c2 FROM t0) y WHERE (x.c0 = y.c0)) x GROUP BY c1 | 0 even true; 1 odd true; 2 even true; 3 odd true; 4 even true; 5 odd true; 6 even true; 7 odd true; 8 even true; 9 odd true -> even 20 ; odd 25 ; 
 SELECT c1 AS c0, MIN(c3) AS c1, MAX(c3) AS c2 FROM (SELECT x.c0 AS c0, x.c1 AS c1, x.c2 AS c2, y.c0 AS c3, y.c1 AS c4, y.c2 AS c5 FROM (SELECT c0, c1, c2 FROM t0) x, (SELECT c0, c1, c2 FROM t0) y WHERE ((x.c0 <= y.c0) AND (y.c0 <= x.c0))) x GROUP BY c1 | 3 odd true; 2 even true; 9 odd true; 4 even true -> odd 3 9 ; even 2 4 ; 
 SELECT c1 AS c0, SUM(c6) AS c1 FROM (SELECT x.*, (c0 + c3) AS c6 FROM (SELECT x.c0 AS c0, x.c1 AS c1, x.c2 AS c2, y.c0 AS c3, y.c1 AS c4, y.c2 AS c5 FROM (SELECT c0, c1, c2 FROM t0) x, (SELECT c0, c1, c2 FROM t0) y WHERE (x.c0 = y.c0)) x) x GROUP BY c1 | 1 a true; 2 b true; 3 a true -> a 8 ; b 4 ; 
 SELECT c1 AS c0, SUM(c0) AS c1 FROM (SELECT x.c0 AS c0, x.c1 AS c1, x.c2 AS c2, y.c0 AS c3, y.c1 AS c4, y.c2 AS c5 FROM (SELECT c0, c1, c2 FROM t0) x, (SELECT c0, c1, c2 FROM t0) y WHERE (x.c0 = y.c0)) x GROUP BY c1 | 85070591730234615865843651857942052864 a true; -85070591730234615865843651857942052864 a true -> Overflow
+SELECT c1 AS c0, SUM(c3) AS c1 FROM (SELECT x.*, (c0 + c0) AS c3 FROM (SELECT * FROM (SELECT c0, c1, c2 FROM t0) x WHERE c2) x) x GROUP BY c1 | 1 a true; 2 b true; 9 a false; 3 a true -> a 8 ; b 4 ; 
+SELECT c1 AS c0, SUM(c3) AS c1 FROM (SELECT x.*, (c0 + c0) AS c3 FROM (SELECT c0, c1, c2 FROM t0) x) x GROUP BY c1 | 1 a true; 170141183460469231731687303715884105727 b true -> Overflow
+SELECT c1 AS c0, SUM(c2) AS c1 FROM (SELECT c1 AS c0, c2 AS c1, c0 AS c2 FROM (SELECT c0, c1, c2 FROM t0) x) x GROUP BY c1 | 1 a true; 2 b false; 3 a true -> true 4 ; false 2 ; 
 SELECT c1 AS c0, SUM(c0) AS c1 FROM (SELECT x.c0 AS c0, x.c1 AS c1, x.c2 AS c2, y.c0 AS c3, y.c1 AS c4, y.c2 AS c5 FROM (SELECT c0, c1, c2 FROM t0) x, (SELECT c0, c1, c2 FROM t0) y WHERE (x.c0 = y.c0)) x GROUP BY c1 |  -> ";
 
 #[test]
@@ -91,6 +95,39 @@ fn operators_by_workers(rt: HostRuntime) -> Result<(), Fail> {
 #[test]
 fn groups_by_workers(rt: HostRuntime) -> Result<(), Fail> {
     judge_workers(&rt, rt.alloc(), GROUPS)
+}
+
+// Three numbers, each joined with all by equal flags and by ranges of flags, by whether these are even.
+const PARTNERS: &str =
+    "SELECT c4 AS c0, SUM(c3) AS c1, MIN(c0) AS c2, MAX(c3) AS c3 FROM (SELECT x.c0 AS c0, x.c1 AS c1, x.c2 AS c2, y.c0 AS c3, y.c1 AS c4, y.c2 AS c5 FROM (SELECT * FROM (SELECT c0, c1, c2 FROM t0) x WHERE (c0 < 3)) x, (SELECT c0, c1, c2 FROM t0) y WHERE (x.c2 = y.c2)) x GROUP BY c4
+SELECT c4 AS c0, SUM(c3) AS c1, MIN(c0) AS c2, MAX(c3) AS c3 FROM (SELECT x.c0 AS c0, x.c1 AS c1, x.c2 AS c2, y.c0 AS c3, y.c1 AS c4, y.c2 AS c5 FROM (SELECT * FROM (SELECT c0, c1, c2 FROM t0) x WHERE (c0 < 3)) x, (SELECT c0, c1, c2 FROM t0) y WHERE ((x.c2 <= y.c2) AND (y.c2 <= x.c2))) x GROUP BY c4";
+
+// The numbers below a thousand, each with whether it is even, behind a plan.
+fn with_thousand(alloc: Global, plan: &str) -> Result<String, Fail> {
+    let mut text = String::from_str(alloc, plan)?;
+    text.push_str(" | ")?;
+    let count: u32 = 1000;
+    for number in 0..count {
+        let parity = if number % 2 == 0 { "even" } else { "odd" };
+        text.push_str(format!(in alloc; "{number} {parity} true; ")?.as_str())?;
+    }
+    Ok(text)
+}
+
+#[test]
+fn partners_by_workers(rt: HostRuntime) -> Result<(), Fail> {
+    for plan in PARTNERS.lines() {
+        let given = with_thousand(rt.alloc(), plan)?;
+        for workers in [1, 2, 3, 64] {
+            let found = text_by(&rt, rt.alloc(), given.as_str(), workers, NoGate)?;
+            assert_eq!(rt;
+                found.as_str(),
+                "even 748500 0 998 ; odd 750000 0 999 ; ",
+                "{workers} workers: {plan}"
+            );
+        }
+    }
+    Ok(())
 }
 
 const JOINED: &str =

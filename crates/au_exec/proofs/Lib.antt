@@ -35,7 +35,10 @@ pub mod Updates
 pub mod Merged
 pub mod MergedFits
 pub mod Gathered
+pub mod PieceGroups
 pub mod DrawnPieces
+pub mod DrawnPlaces
+pub mod LentPieces
 pub mod Shared
 pub mod RangeJoins
 pub mod PlacesByKey

@@ -26,7 +26,7 @@ rows_apart (code.Keep places) xs ys = map-append (kept places.items) xs ys
 rows_apart (code.Narrow ascending) xs ys = map-append (kept ascending.places.items) xs ys
 rows_apart (code.Filter e) xs ys = filter-append (passes (pterm e)) xs ys
 
-numbers_apart : (e : PTerm) (xs ys : Rows) → fit (flat_map (term_numbers e) (xs ++ ys)) ≡ fit (flat_map (term_numbers e) xs) && fit (flat_map (term_numbers e) ys)
+pub numbers_apart : (e : PTerm) (xs ys : Rows) → fit (flat_map (term_numbers e) (xs ++ ys)) ≡ fit (flat_map (term_numbers e) xs) && fit (flat_map (term_numbers e) ys)
 numbers_apart e xs ys =
     ap fit (flat_map-append (term_numbers e) xs ys) ∙ list_all-append is_i128 (flat_map (term_numbers e) xs) (flat_map (term_numbers e) ys)
 
@@ -36,7 +36,7 @@ fit_apart (code.Keep places) xs ys = refl
 fit_apart (code.Narrow ascending) xs ys = refl
 fit_apart (code.Filter e) xs ys = numbers_apart (pterm e) xs ys
 
-and_pairs : (a b c d : Bool) → (a && b) && (c && d) ≡ (a && c) && (b && d)
+pub and_pairs : (a b c d : Bool) → (a && b) && (c && d) ≡ (a && c) && (b && d)
 and_pairs true true c d = refl
 and_pairs true false true d = refl
 and_pairs true false false d = refl

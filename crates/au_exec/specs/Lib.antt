@@ -20,11 +20,16 @@ pub mod Chains
 pub mod Probed
 pub mod ChainLaws
 pub mod Gathering
+pub mod Pieces
+pub mod PieceLaws
 pub mod GatherLaws
+pub mod Lending
 pub mod Copies
 pub mod Joins
 pub mod Ascents
 pub mod Paired
+pub mod Placing
+pub mod PairLaws
 pub mod Pushed
 pub mod Left
 pub mod Waiting

@@ -46,8 +46,8 @@ pub(crate) fn grouped_node<R: Threads + Sync, G: Gate + Sync>(
     Ok(boxed(alloc, Node::Source(rows.into_iter()))?)
 }
 
-// The groups of all rows of a node. Where they are those of a join that is probed, its left rows are there at once, and
-// the workers share them.
+// The groups of all rows of a node. The left rows of a join that is probed are there at once, and the workers share them;
+// several workers share other rows that are there, too.
 fn node_groups<R: Threads + Sync, G: Gate + Sync>(
     rt: &R,
     alloc: Global,
@@ -63,7 +63,7 @@ fn node_groups<R: Threads + Sync, G: Gate + Sync>(
     requires aggs { AllByRecursion (HasArgument (rows_left of.old)) aggs.now }
     ensures { MatchResult result (λ g. (groups_table g ≡ grow_all keys.now aggs.now (table_with [] []) (rows_left of.old)) × (fits_left of.old ≡ true) × (grown_fit keys.now aggs.now (table_with [] []) (rows_left of.old) ≡ true)) (λ f. f ≡ fault.Overflow → fits_left of.old && grown_fit keys.now aggs.now (table_with [] []) (rows_left of.old) ≡ false) }
 {
-    if !is_probed(of) {
+    if !is_probed(of) && (workers == 1 || !is_there(of)) {
         return folded_rows(alloc, keys, aggs, of);
     }
     match of {
@@ -71,6 +71,22 @@ fn node_groups<R: Threads + Sync, G: Gate + Sync>(
             drawn_groups(rt, alloc, workers, gate, keys, aggs, operators, below)
         }
         other => drawn_groups(rt, alloc, workers, gate, keys, aggs, &[], other),
+    }
+}
+
+// Whether all rows of the node are there, perhaps below operators that work row by row.
+fn is_there(node: &Node) -> bool {
+    match node {
+        Node::Chain(_, of) => is_source(of),
+        _ => is_source(node),
+    }
+}
+
+// Whether its own rows are there.
+fn is_source(node: &Node) -> bool {
+    match node {
+        Node::Source(_) => true,
+        _ => false,
     }
 }
 

@@ -10,7 +10,7 @@ ghost use Rattle.au_exec.specs.Fitting.{HavePlaces};
 ghost use Rattle.au_exec.specs.Folds.{fold_value};
 ghost use Rattle.au_algebra.specs.Keys.{key_values};
 ghost use Rattle.au_exec.specs.Outcomes.{rows_of};
-ghost use Rattle.au_exec.specs.Tables.{CanGrow, CanGrowAll, CanPut, finished_row, folded_of, grow, grow_all, grow_numbers, grown_fit, put_at, put_numbers, groups_table};
+ghost use Rattle.au_exec.specs.Tables.{CanGrow, CanGrowAll, CanPut, finished_row, folded_of, grow, grow_all, grow_numbers, grown_fit, put_at, put_numbers, groups_table, table_with};
 
 use crate::fold::{Fold, add_all, first_folds};
 use crate::keep::columns;
@@ -31,6 +31,19 @@ pub(crate) struct Groups {
     pub(crate) held: Vec<(PRow, Vec<Fold>)>,
     /// The place that was found last. Rows of one group often come one after the other, so it is tried first.
     pub(crate) recent: usize,
+}
+
+impl Groups {
+    /// No groups yet.
+    pub(crate) fn new(alloc: Global) -> Groups
+        ensures { groups_table result ≡ table_with [] [] }
+    {
+        Groups {
+            seen: IndexSet::new(alloc),
+            held: Vec::new(alloc),
+            recent: 0,
+        }
+    }
 }
 
 /// More rows.

@@ -3,8 +3,8 @@
 //! A [`Run`] gives the rows of a plan in the order of its meaning: [`Run::next_batch`] up to 256 at once, and [`Run::all`]
 //! all that are left. The overflow of its numbers is the only refusal beside wanting memory. Operators that work row by
 //! row are worked one after the other on each row, which moves; a join keeps its right rows, and a grouping a state for
-//! each key. Several workers share the left rows of a join that has a table or an index; the rows are the same for each
-//! number of them.
+//! each key. Several workers share the left rows of a join that has a table or an index, and the rows of a table that are
+//! grouped; the plan's rows are the same for each number of workers.
 //!
 //! ```text
 //! let scan = Box::new(alloc, Physical::Scan(0, 2))?;
@@ -25,6 +25,7 @@ mod collect;
 mod combine;
 mod copying;
 mod drawn;
+mod drawn_pairs;
 mod evaluation;
 mod extreme;
 mod fold;
@@ -40,6 +41,7 @@ mod keep;
 mod key;
 mod lent_operators;
 mod lent_row;
+mod lent_rows;
 mod matching;
 mod merge;
 mod narrow;
@@ -49,6 +51,7 @@ mod operators;
 mod pair;
 mod pair_groups;
 mod pair_rows;
+mod partners;
 mod probe;
 mod pull;
 mod right;
@@ -58,6 +61,7 @@ mod scans;
 mod source;
 mod split;
 mod state;
+mod tally;
 mod view;
 
 pub use batches::{Batch, Run};
