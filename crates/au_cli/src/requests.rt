@@ -14,7 +14,7 @@ use crate::outcome::Outcome;
 use crate::two_files::query_tables;
 use au_engine::{EngineFault, LimitFault, QueryFault, read_query};
 use au_io::Shelf;
-use au_par::Gate;
+use au_par::{Gate, let_go};
 use au_parse::Statement;
 use au_ua::not_positive;
 use au_words::{Command, Request};
@@ -99,7 +99,10 @@ fn statement_text<R: Threads + Sync, S: Shelf, G: Gate + Sync>(
         Err(outcome) => return Err(outcome),
     };
     match answer_text(rt, alloc, request, statement, tables.as_slice(), gate) {
-        Ok(text) => Ok(text),
+        Ok(text) => {
+            let_go(rt, request.workers, tables);
+            Ok(text)
+        }
         Err(fault) => Err(ended(fault)),
     }
 }

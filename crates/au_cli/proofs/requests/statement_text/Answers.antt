@@ -20,8 +20,8 @@ returns-in-Err-clause-refused g c =
     (subst (λ words. FilesCause told purpose.Query 0 0 (map seen_table words) (g.S.Shelf.faults c.args.shelf.now) (g.S.Shelf.faults c.query_tables.new.shelf) (g.S.Shelf.absences c.args.shelf.now) (g.S.Shelf.absences c.query_tables.new.shelf) c.in-Err.outcome)
     c.as_slice-words.ensures.value c.in-Err.ensures.refused)
 
-pub returns-clause-refused : goal.returns-clause-refused
-returns-clause-refused g c =
+pub returns-in-Err-answer_text-clause-refused : goal.returns-in-Err-answer_text-clause-refused
+returns-in-Err-answer_text-clause-refused g c =
     let r = seen_request c.args.request.now in
     let s = statement_tree c.args.statement.now in
     let read : IsRead r = record { allowed = c.requires.allowed; statement = s; is = c.requires.tree } in
