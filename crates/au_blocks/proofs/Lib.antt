@@ -12,6 +12,7 @@ pub mod Judged
 pub mod LabelKeys
 pub mod MadeEntries
 pub mod MarkedColumns
+mod NearLabels
 pub mod Places
 pub mod ReadTables
 pub mod RowValues

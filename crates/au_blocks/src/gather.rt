@@ -1,11 +1,11 @@
 //! The records of a block table, gathered by their labels.
-ghost use Rattle.std.specs.Prelude.{◌≡◌, ◌≤◌, ◌++◌, ◌∷◌, [], true, Some, if◌then◌else◌, map, IfOk, OnOk, bytes_eq};
+ghost use Rattle.std.specs.Prelude.{◌≡◌, ◌≤◌, ◌++◌, ◌∷◌, [], true, Some, if◌then◌else◌, map, IfOk, IsTrue, OnOk, bytes_eq};
 ghost use Rattle.std.specs.List.{list_all, list_any, position_or_len};
 ghost use Rattle.indexmap.specs.IndexSet.{insert_key};
 ghost use Rattle.au_blocks.specs.Entries.{entry_blocks, copies_in, block_entry, has_role, role_of};
 ghost use Rattle.au_blocks.specs.Headers.{cells_of, has_blocks};
 ghost use Rattle.au_blocks.specs.Gathered.{gathered, nothing, with_entry};
-ghost use Rattle.au_blocks.specs.Labels.{label_bytes};
+ghost use Rattle.au_blocks.specs.Labels.{label_bytes, lent_labels};
 ghost use Rattle.au_blocks.specs.Pieces.{with_alternative};
 
 use crate::builder::BlockBuilder;
@@ -58,17 +58,67 @@ pub(crate) fn gather_by<R: Threads + Sync>(
     ensures { IfOk result (λ bs. bs.items ≡ map (gathered (map (λ c. c.kind) columns.now)) (entry_blocks format rows.now)) }
 {
     let mut entries = entries_by(rt, alloc, workers, format, columns, rows)?.into_iter();
-    let mut labels = IndexSet::new(alloc);
-    let mut builders = Vec::new(alloc);
+    let mut labels = IndexSet::with_capacity(alloc, rows.len())?;
+    let mut builders = Vec::with_capacity(alloc, rows.len())?;
+    let mut recent = 0;
     for number in 0..rows.len() {
         let Some(entry) = entries.next() else {
             unreachable!()
         };
         let label = field(&rows[number], 0);
-        let place = place_of(alloc, &mut labels, &mut builders, label)?;
-        add_made(&mut builders[place], entry)?;
+        recent = lent_place_near(alloc, &mut labels, &mut builders, label, recent)?;
+        add_made(&mut builders[recent], entry)?;
     }
     Ok(builders)
+}
+
+// The place of the block with this label, which is a new one where the label is new. The block may well stand at the place
+// that was found last, which is tried first: so nothing is hashed for records of one label that follow one another.
+fn lent_place_near<'a>(
+    alloc: Global,
+    labels: &mut IndexSet<&'a str>,
+    builders: &mut Vec<BlockBuilder>,
+    label: &'a str,
+    recent: usize,
+) -> Result<usize, NoMemory>
+    ensures labels { OnOk result (lent_labels labels.new ≡ insert_key bytes_eq (lent_labels labels.old) label.now) }
+    ensures builders { OnOk result (builders.new.items ≡ builders.old.items ++ (if list_any (bytes_eq label.now) (lent_labels labels.old) then [] else nothing ∷ [])) }
+    ensures place { IfOk result (λ place. place ≡ position_or_len (bytes_eq label.now) (lent_labels labels.old)) }
+{
+    if lent_stands_at(labels, label, recent) {
+        return Ok(recent);
+    }
+    lent_place_of(alloc, labels, builders, label)
+}
+
+// Whether a label is the one at a place.
+fn lent_stands_at(labels: &IndexSet<&str>, label: &str, place: usize) -> bool
+    ensures { IsTrue result → (list_any (bytes_eq label.now) (lent_labels labels.now) ≡ true) × (place ≡ position_or_len (bytes_eq label.now) (lent_labels labels.now)) }
+{
+    let known = labels.as_slice();
+    if place < known.len() {
+        label == known[place]
+    } else {
+        false
+    }
+}
+
+// The same place, without a guess.
+fn lent_place_of<'a>(
+    alloc: Global,
+    labels: &mut IndexSet<&'a str>,
+    builders: &mut Vec<BlockBuilder>,
+    label: &'a str,
+) -> Result<usize, NoMemory>
+    ensures labels { OnOk result (lent_labels labels.new ≡ insert_key bytes_eq (lent_labels labels.old) label.now) }
+    ensures builders { OnOk result (builders.new.items ≡ builders.old.items ++ (if list_any (bytes_eq label.now) (lent_labels labels.old) then [] else nothing ∷ [])) }
+    ensures place { IfOk result (λ place. place ≡ position_or_len (bytes_eq label.now) (lent_labels labels.old)) }
+{
+    let (place, new) = labels.insert_full(label)?;
+    if new {
+        builders.push(BlockBuilder::new(alloc))?;
+    }
+    Ok(place)
 }
 
 // The role of a record that has one.

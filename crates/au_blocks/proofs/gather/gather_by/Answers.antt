@@ -7,7 +7,7 @@ use Rattle.std.proofs.lemmas.List.{get_or_read, nil_from_length, take_all, take_
 use Rattle.au_blocks.specs.declared.column.Column.{Column}
 use Rattle.au_blocks.specs.Entries.{label_of}
 use Rattle.au_blocks.specs.Gathered.{nothing}
-use Rattle.au_blocks.specs.Labels.{label_bytes}
+use Rattle.au_blocks.specs.Labels.{lent_labels}
 use Rattle.au_blocks.specs.Pieces.{entry_in}
 use Rattle.au_blocks.proofs.GatherStep.{labels, builders, builders-are, builders-blocks, labels-push, place-within}
 use Rattle.au_blocks.proofs.MadeEntries.{builders-made, made-more, made-some}
@@ -27,10 +27,10 @@ index_mut-requires g c =
     let f = c.args.format in
     let seen = take c.loop-number.number c.args.rows.now in
     let l = c.field-label.result.now in
-    let are = builders-are f kinds seen l (label_bytes c.loop-number.labels) c.loop-number.builders.items c.place_of.new.builders.items inv.labels inv.builders c.in_ok-place.ensures.builders in
-    let place : c.in_ok-place.place ≡ position_or_len (bytes_eq l) (labels seen) = c.in_ok-place.ensures.place ∙ ap (position_or_len (bytes_eq l)) inv.labels in
-    let low = place-within f kinds seen l c.place_of.new.builders.items are in
-    rw (place, c.place_of.new.builders.ok.0) low
+    let are = builders-are f kinds seen l (lent_labels c.loop-number.labels) c.loop-number.builders.items c.lent_place_near.new.builders.items inv.labels inv.builders c.in_ok-recent.ensures.builders in
+    let place : c.in_ok-recent.recent ≡ position_or_len (bytes_eq l) (labels seen) = c.in_ok-recent.ensures.place ∙ ap (position_or_len (bytes_eq l)) inv.labels in
+    let low = place-within f kinds seen l c.lent_place_near.new.builders.items are in
+    rw (place, c.lent_place_near.new.builders.ok.0) low
 
 pub loop-number-preserved : goal.loop-number-preserved
 loop-number-preserved g c =
@@ -46,15 +46,15 @@ loop-number-preserved g c =
     let found : c.index-rows-number.result ≡ r = get_or_read rows n c.index-rows-number.result within c.index-rows-number.is [] in
     let l = c.field-label.result.now in
     let label : l ≡ label_of r = c.field-label.ensures ∙ ap label_of found in
-    let are = builders-are f kinds seen l (label_bytes c.loop-number.labels) c.loop-number.builders.items c.place_of.new.builders.items inv.labels inv.builders c.in_ok-place.ensures.builders in
-    let place : c.in_ok-place.place ≡ position_or_len (bytes_eq l) (labels seen) = c.in_ok-place.ensures.place ∙ ap (position_or_len (bytes_eq l)) inv.labels in
-    let low = place-within f kinds seen l c.place_of.new.builders.items are in
-    let gs = c.place_of.new.builders.items in
-    let at : c.index_mut.result.now ≡ get_or gs c.in_ok-place.place nothing = get_or_read gs c.in_ok-place.place c.index_mut.result.now (rw place low) c.index_mut.ensures.value nothing in
+    let are = builders-are f kinds seen l (lent_labels c.loop-number.labels) c.loop-number.builders.items c.lent_place_near.new.builders.items inv.labels inv.builders c.in_ok-recent.ensures.builders in
+    let place : c.in_ok-recent.recent ≡ position_or_len (bytes_eq l) (labels seen) = c.in_ok-recent.ensures.place ∙ ap (position_or_len (bytes_eq l)) inv.labels in
+    let low = place-within f kinds seen l c.lent_place_near.new.builders.items are in
+    let gs = c.lent_place_near.new.builders.items in
+    let at : c.index_mut.result.now ≡ get_or gs c.in_ok-recent.recent nothing = get_or_read gs c.in_ok-recent.recent c.index_mut.result.now (rw place low) c.index_mut.ensures.value nothing in
     let made = builders-made f kinds rows n c.requires.blocks c.requires.roles within gs (rw label at are) in
     record {
       rest = more.1;
-      labels = c.in_ok-place.ensures.labels ∙ rw (label, inv.labels) (sym (labels-push seen r) ∙ ap labels (sym (take_more rows n [] within)));
+      labels = c.in_ok-recent.ensures.labels ∙ rw (label, inv.labels) (sym (labels-push seen r) ∙ ap labels (sym (take_more rows n [] within)));
       builders = rw (c.in_ok-add_made.ensures, at, place, label, more.0) made;
     }
 
