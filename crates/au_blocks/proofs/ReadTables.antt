@@ -24,6 +24,11 @@ pub table-read : (bytes : List ℕ) (rs : List Record) (r : Result BlockTable Ta
 table-read bytes rs r is made =
     IfOk-weaker r (λ t. unless (first (table_defects rs)) (contents rs) ≡ Ok t) (λ t. table_of bytes ≡ Ok t) (λ t has. table-of-records bytes rs is ∙ has) made
 
+-- the table of the same records
+pub table-over : (rs qs : List Record) (r : Result BlockTable TableFault) → rs ≡ qs
+    → IfOk r (λ t. unless (first (table_defects qs)) (contents qs) ≡ Ok t) → IfOk r (λ t. unless (first (table_defects rs)) (contents rs) ≡ Ok t)
+table-over rs qs r is made = rw is made
+
 -- a list from its head and the others
 pub head-others : (xs : List Record) (x : Record) → 0 < length xs → x ≡ get_or xs 0 x → x ∷ remove xs 0 ≡ xs
 head-others [] x some is = absurd (omega arith)

@@ -35,10 +35,12 @@ pub(crate) fn gather(
 {
     let mut labels = IndexSet::new(alloc);
     let mut builders = Vec::new(alloc);
+    let mut recent = 0;
     for record in rows {
         let role = role_in(format, &record);
-        let place = place_of(alloc, &mut labels, &mut builders, field(&record, 0))?;
-        add_entry(alloc, format, columns, &mut builders[place], role, &record)?;
+        let label = field(&record, 0);
+        recent = place_near(alloc, &mut labels, &mut builders, label, recent)?;
+        add_entry(alloc, format, columns, &mut builders[recent], role, &record)?;
     }
     Ok(builders)
 }
@@ -72,8 +74,70 @@ pub(crate) fn gather_by<R: Threads + Sync>(
     Ok(builders)
 }
 
-// The place of the block with this label, which is a new one where the label is new. The block may well stand at the place
-// that was found last, which is tried first: so nothing is hashed for records of one label that follow one another.
+// The role of a record that has one.
+fn role_in(format: Format, record: &Rec) -> Role
+    requires blocks { has_blocks format ≡ true }
+    requires role { has_role «record».now ≡ true }
+    ensures { role_of format «record».now ≡ Some result }
+{
+    match role(format, record) {
+        Some(role) => role,
+        None => unreachable!(),
+    }
+}
+
+// The place of the block with this label, which is a new one where the label is new. The place that was found last is tried
+// first.
+fn place_near(
+    alloc: Global,
+    labels: &mut IndexSet<String>,
+    builders: &mut Vec<BlockBuilder>,
+    label: &str,
+    recent: usize,
+) -> Result<usize, NoMemory>
+    ensures labels { OnOk result (label_bytes labels.new ≡ insert_key bytes_eq (label_bytes labels.old) label.now) }
+    ensures builders { OnOk result (builders.new.items ≡ builders.old.items ++ (if list_any (bytes_eq label.now) (label_bytes labels.old) then [] else nothing ∷ [])) }
+    ensures place { IfOk result (λ place. place ≡ position_or_len (bytes_eq label.now) (label_bytes labels.old)) }
+{
+    if stands_at(labels, label, recent) {
+        return Ok(recent);
+    }
+    place_of(alloc, labels, builders, label)
+}
+
+// Whether a label is the one at a place.
+fn stands_at(labels: &IndexSet<String>, label: &str, place: usize) -> bool
+    ensures { IsTrue result → (list_any (bytes_eq label.now) (label_bytes labels.now) ≡ true) × (place ≡ position_or_len (bytes_eq label.now) (label_bytes labels.now)) }
+{
+    let known = labels.as_slice();
+    if place < known.len() {
+        label == known[place].as_str()
+    } else {
+        false
+    }
+}
+
+// The same place, without a guess.
+fn place_of(
+    alloc: Global,
+    labels: &mut IndexSet<String>,
+    builders: &mut Vec<BlockBuilder>,
+    label: &str,
+) -> Result<usize, NoMemory>
+    ensures labels { OnOk result (label_bytes labels.new ≡ insert_key bytes_eq (label_bytes labels.old) label.now) }
+    ensures builders { OnOk result (builders.new.items ≡ builders.old.items ++ (if list_any (bytes_eq label.now) (label_bytes labels.old) then [] else nothing ∷ [])) }
+    ensures place { IfOk result (λ place. place ≡ position_or_len (bytes_eq label.now) (label_bytes labels.old)) }
+{
+    if let Some(place) = labels.get_index_of(label) {
+        return Ok(place);
+    }
+    let (place, _) = labels.insert_full(String::from_str(alloc, label)?)?;
+    builders.push(BlockBuilder::new(alloc))?;
+    Ok(place)
+}
+
+// The same over labels that are lent from the records, so that no text is made for one. A label that is the one before it is
+// not even hashed.
 fn lent_place_near<'a>(
     alloc: Global,
     labels: &mut IndexSet<&'a str>,
@@ -91,7 +155,7 @@ fn lent_place_near<'a>(
     lent_place_of(alloc, labels, builders, label)
 }
 
-// Whether a label is the one at a place.
+// The same over labels that are lent.
 fn lent_stands_at(labels: &IndexSet<&str>, label: &str, place: usize) -> bool
     ensures { IsTrue result → (list_any (bytes_eq label.now) (lent_labels labels.now) ≡ true) × (place ≡ position_or_len (bytes_eq label.now) (lent_labels labels.now)) }
 {
@@ -103,7 +167,7 @@ fn lent_stands_at(labels: &IndexSet<&str>, label: &str, place: usize) -> bool
     }
 }
 
-// The same place, without a guess.
+// The place among labels that are lent.
 fn lent_place_of<'a>(
     alloc: Global,
     labels: &mut IndexSet<&'a str>,
@@ -114,42 +178,11 @@ fn lent_place_of<'a>(
     ensures builders { OnOk result (builders.new.items ≡ builders.old.items ++ (if list_any (bytes_eq label.now) (lent_labels labels.old) then [] else nothing ∷ [])) }
     ensures place { IfOk result (λ place. place ≡ position_or_len (bytes_eq label.now) (lent_labels labels.old)) }
 {
-    let (place, new) = labels.insert_full(label)?;
+    let (at, new) = labels.insert_full(label)?;
     if new {
         builders.push(BlockBuilder::new(alloc))?;
     }
-    Ok(place)
-}
-
-// The role of a record that has one.
-fn role_in(format: Format, record: &Rec) -> Role
-    requires blocks { has_blocks format ≡ true }
-    requires role { has_role «record».now ≡ true }
-    ensures { role_of format «record».now ≡ Some result }
-{
-    match role(format, record) {
-        Some(role) => role,
-        None => unreachable!(),
-    }
-}
-
-// The place of the block with this label, which is a new one where the label is new.
-fn place_of(
-    alloc: Global,
-    labels: &mut IndexSet<String>,
-    builders: &mut Vec<BlockBuilder>,
-    label: &str,
-) -> Result<usize, NoMemory>
-    ensures labels { OnOk result (label_bytes labels.new ≡ insert_key bytes_eq (label_bytes labels.old) label.now) }
-    ensures builders { OnOk result (builders.new.items ≡ builders.old.items ++ (if list_any (bytes_eq label.now) (label_bytes labels.old) then [] else nothing ∷ [])) }
-    ensures place { IfOk result (λ place. place ≡ position_or_len (bytes_eq label.now) (label_bytes labels.old)) }
-{
-    if let Some(place) = labels.get_index_of(label) {
-        return Ok(place);
-    }
-    let (place, _) = labels.insert_full(String::from_str(alloc, label)?)?;
-    builders.push(BlockBuilder::new(alloc))?;
-    Ok(place)
+    Ok(at)
 }
 
 // One entry more of a block: of a record with this role.

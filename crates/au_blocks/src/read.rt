@@ -10,6 +10,7 @@ use crate::format::Format;
 use crate::schema::{schema, schema_by};
 use crate::table::Table;
 use au_csv::{Rec, records};
+use au_par::let_go;
 use au_value::Word;
 use std::alloc::Global;
 use std::thread::Threads;
@@ -46,8 +47,10 @@ pub fn read_table_by<R: Threads + Sync>(
     if workers == 1 {
         return read_table(alloc, bytes);
     }
-    let (header, rows) = header_and_rows(alloc, bytes)?;
-    table_by(rt, alloc, workers, header.as_slice(), rows.as_slice())
+    let rows = records(alloc, bytes)?;
+    let table = table_of_by(rt, alloc, workers, rows.as_slice());
+    let_go(rt, workers, rows);
+    table
 }
 
 // The header of a text, and the records below it.
@@ -74,7 +77,25 @@ fn table_under(alloc: Global, header: &[Word], rows: Vec<Rec>) -> Result<Table, 
     Ok(Table::of(columns, blocks))
 }
 
-// The same, where so many workers judge the records and make the cells.
+// The block table of these records, the header first, of which so many workers judge the others and make the cells.
+fn table_of_by<R: Threads + Sync>(
+    rt: &R,
+    alloc: Global,
+    workers: usize,
+    rows: &[Rec],
+) -> Result<Table, TableFault>
+    requires { 1 ≤ workers }
+    ensures table { IfOk result (λ t. unless (first (table_defects rows.now)) (contents rows.now) ≡ Ok t) }
+    ensures fault { IfErr result (λ e. (e ≡ TableFault.NoMemory) ⊎ (first (table_defects rows.now) ≡ Some e)) }
+{
+    let Some((header, others)) = rows.split_first() else {
+        return Err(TableFault::NoHeader);
+    };
+    let header = header.words(alloc)?;
+    table_by(rt, alloc, workers, header.as_slice(), others)
+}
+
+// The same, of a header and the records below it.
 fn table_by<R: Threads + Sync>(
     rt: &R,
     alloc: Global,

@@ -18,11 +18,11 @@ index_mut-requires c =
     let inv = c.loop-record.invariant in
     let kinds = map (λ (x : Column). x.kind) c.args.columns.now in
     let f = c.args.format in
-    let l = c.field.result.now in
-    let are = builders-are f kinds c.loop-record.yielded l (label_bytes c.loop-record.labels) c.loop-record.builders.items c.place_of.new.builders.items inv.labels inv.builders c.in_ok-place.ensures.builders in
-    let place : c.in_ok-place.place ≡ position_or_len (bytes_eq l) (labels c.loop-record.yielded) = c.in_ok-place.ensures.place ∙ ap (position_or_len (bytes_eq l)) inv.labels in
-    let low = place-within f kinds c.loop-record.yielded l c.place_of.new.builders.items are in
-    rw (place, c.place_of.new.builders.ok.0) low
+    let l = c.field-label.result.now in
+    let are = builders-are f kinds c.loop-record.yielded l (label_bytes c.loop-record.labels) c.loop-record.builders.items c.place_near.new.builders.items inv.labels inv.builders c.in_ok-recent.ensures.builders in
+    let place : c.in_ok-recent.recent ≡ position_or_len (bytes_eq l) (labels c.loop-record.yielded) = c.in_ok-recent.ensures.place ∙ ap (position_or_len (bytes_eq l)) inv.labels in
+    let low = place-within f kinds c.loop-record.yielded l c.place_near.new.builders.items are in
+    rw (place, c.place_near.new.builders.ok.0) low
 
 pub loop-record-preserved : goal.loop-record-preserved
 loop-record-preserved c =
@@ -30,19 +30,19 @@ loop-record-preserved c =
     let rows = c.loop-record.yielded in
     let kinds = map (λ (x : Column). x.kind) c.args.columns.now in
     let f = c.args.format in
-    let l = c.field.result.now in
-    let label : l ≡ label_of c.in-Some.record = c.field.ensures in
-    let are = builders-are f kinds rows l (label_bytes c.loop-record.labels) c.loop-record.builders.items c.place_of.new.builders.items inv.labels inv.builders c.in_ok-place.ensures.builders in
-    let place : c.in_ok-place.place ≡ position_or_len (bytes_eq l) (labels rows) = c.in_ok-place.ensures.place ∙ ap (position_or_len (bytes_eq l)) inv.labels in
-    let low = place-within f kinds rows l c.place_of.new.builders.items are in
+    let l = c.field-label.result.now in
+    let label : l ≡ label_of c.in-Some.record = c.field-label.ensures in
+    let are = builders-are f kinds rows l (label_bytes c.loop-record.labels) c.loop-record.builders.items c.place_near.new.builders.items inv.labels inv.builders c.in_ok-recent.ensures.builders in
+    let place : c.in_ok-recent.recent ≡ position_or_len (bytes_eq l) (labels rows) = c.in_ok-recent.ensures.place ∙ ap (position_or_len (bytes_eq l)) inv.labels in
+    let low = place-within f kinds rows l c.place_near.new.builders.items are in
     let is = entry-is f c.in-Some.record c.role_in-role.result c.role_in-role.ensures in
-    let gs = c.place_of.new.builders.items in
-    let at : c.index_mut.result.now ≡ get_or gs c.in_ok-place.place nothing = get_or_read gs c.in_ok-place.place c.index_mut.result.now (rw place low) c.index_mut.ensures.value nothing in
+    let gs = c.place_near.new.builders.items in
+    let at : c.index_mut.result.now ≡ get_or gs c.in_ok-recent.recent nothing = get_or_read gs c.in_ok-recent.recent c.index_mut.result.now (rw place low) c.index_mut.ensures.value nothing in
     let e = block_entry c.role_in-role.result (copies_in f c.in-Some.record) (cells_of f c.in-Some.record) in
     let pushed = builders-push f kinds rows c.in-Some.record e is gs (rw label at are) in
     record {
       all = append_assoc rows (c.in-Some.record ∷ []) (into_iter_items c.next.new.self) ∙ sym (ap (λ (rest : List Record). rows ++ rest) c.in-Some.ensures.steps.0) ∙ inv.all;
-      labels = c.in_ok-place.ensures.labels ∙ rw (label, inv.labels) (sym (labels-push rows c.in-Some.record));
+      labels = c.in_ok-recent.ensures.labels ∙ rw (label, inv.labels) (sym (labels-push rows c.in-Some.record));
       builders = rw (c.in_ok-add_entry.ensures, at, place, label) pushed;
     }
 
