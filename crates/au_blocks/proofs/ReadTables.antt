@@ -1,7 +1,6 @@
 -- The table of a text whose records were read.
-use Rattle.std.proofs.Common.{◌≡◌, ◌∙◌, ◌<◌, ◌∷◌, [], ℕ, List, Option, Some, None, Ok, length, get_or, refl, arith}
+use Rattle.std.proofs.Common.{◌≡◌, ◌∙◌, ◌<◌, ◌∷◌, [], ℕ, List, Option, Some, None, Ok, drop, refl, sym}
 use Rattle.std.specs.Prelude.{IfOk, Result}
-use Rattle.std.specs.List.{remove}
 use Rattle.std.proofs.lemmas.Result.{IfOk-weaker}
 use Rattle.au_csv.specs.Texts.{Record, records_of, not_text, unless_not_text, text_records}
 use Rattle.au_blocks.specs.declared.faults.TableFault.{TableFault}
@@ -29,7 +28,6 @@ pub table-over : (rs qs : List Record) (r : Result BlockTable TableFault) → rs
     → IfOk r (λ t. unless (first (table_defects qs)) (contents qs) ≡ Ok t) → IfOk r (λ t. unless (first (table_defects rs)) (contents rs) ≡ Ok t)
 table-over rs qs r is made = rw is made
 
--- a list from its head and the others
-pub head-others : (xs : List Record) (x : Record) → 0 < length xs → x ≡ get_or xs 0 x → x ∷ remove xs 0 ≡ xs
-head-others [] x some is = absurd (omega arith)
-head-others (z ∷ xs) x some is = rw is refl
+-- records from their header and the others, through the slices of both
+pub head-whole : (rows lent : List Record) (header words : Record) → lent ≡ rows → words ≡ header → lent ≡ header ∷ drop 1 lent → rows ≡ words ∷ drop 1 rows
+head-whole rows lent header words at is whole = sym at ∙ whole ∙ (λ i. sym is i ∷ drop 1 (at i))

@@ -1,5 +1,6 @@
 //! The blocks of a table file.
 ghost use Rattle.std.specs.Prelude.{◌≡◌, ◌≤◌, ◌⊎◌, ◌∷◌, [], true, false, map, Some, Ok, Err, IfErr, IfOk};
+ghost use Rattle.std.specs.Vec.Iter.{into_iter_items};
 ghost use Rattle.std.specs.List.{list_all};
 ghost use Rattle.au_blocks.specs.Defects.{blocks_defects};
 ghost use Rattle.au_blocks.specs.Blocks.{once};
@@ -23,17 +24,18 @@ use au_csv::Rec;
 use au_value::NoMemory;
 use std::alloc::Global;
 use std::thread::Threads;
+use std::vec::IntoIter;
 
 // The blocks of the records below a header with these columns, or the first defect of one.
 pub(crate) fn blocks(
     alloc: Global,
     format: Format,
     columns: &[Column],
-    rows: Vec<Rec>,
+    rows: IntoIter<Rec>,
 ) -> Result<Vec<Block>, TableFault>
-    requires { has_blocks format ≡ true → list_all has_role rows.items ≡ true }
-    ensures blocks { IfOk result (λ bs. unless (first (blocks_defects (entry_blocks format rows.items))) (map (block_of (map (λ c. c.kind) columns.now)) (entry_blocks format rows.items)) ≡ Ok bs.items) }
-    ensures fault { IfErr result (λ e. (e ≡ TableFault.NoMemory) ⊎ (first (blocks_defects (entry_blocks format rows.items)) ≡ Some e)) }
+    requires { has_blocks format ≡ true → list_all has_role (into_iter_items rows) ≡ true }
+    ensures blocks { IfOk result (λ bs. unless (first (blocks_defects (entry_blocks format (into_iter_items rows)))) (map (block_of (map (λ c. c.kind) columns.now)) (entry_blocks format (into_iter_items rows))) ≡ Ok bs.items) }
+    ensures fault { IfErr result (λ e. (e ≡ TableFault.NoMemory) ⊎ (first (blocks_defects (entry_blocks format (into_iter_items rows))) ≡ Some e)) }
 {
     if format.has_blocks() {
         finish_all(alloc, gather(alloc, format, columns, rows)?)
@@ -78,8 +80,12 @@ fn finish_all(alloc: Global, builders: Vec<BlockBuilder>) -> Result<Vec<Block>, 
 }
 
 // Each record as a block of its own.
-fn plain_blocks(alloc: Global, columns: &[Column], rows: Vec<Rec>) -> Result<Vec<Block>, NoMemory>
-    ensures { IfOk result (λ bs. bs.items ≡ map (block_of (map (λ c. c.kind) columns.now)) (entry_blocks Format.Plain rows.items)) }
+fn plain_blocks(
+    alloc: Global,
+    columns: &[Column],
+    rows: IntoIter<Rec>,
+) -> Result<Vec<Block>, NoMemory>
+    ensures { IfOk result (λ bs. bs.items ≡ map (block_of (map (λ c. c.kind) columns.now)) (entry_blocks Format.Plain (into_iter_items rows))) }
 {
     let mut blocks = Vec::with_capacity(alloc, rows.len())?;
     for record in rows {

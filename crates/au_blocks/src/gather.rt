@@ -1,5 +1,6 @@
 //! The records of a block table, gathered by their labels.
 ghost use Rattle.std.specs.Prelude.{◌≡◌, ◌≤◌, ◌++◌, ◌∷◌, [], true, Some, if◌then◌else◌, map, IfOk, IsTrue, OnOk, bytes_eq};
+ghost use Rattle.std.specs.Vec.Iter.{into_iter_items};
 ghost use Rattle.std.specs.List.{list_all, list_any, position_or_len};
 ghost use Rattle.indexmap.specs.IndexSet.{insert_key};
 ghost use Rattle.au_blocks.specs.Entries.{entry_blocks, copies_in, block_entry, has_role, role_of};
@@ -21,17 +22,18 @@ use au_value::NoMemory;
 use indexmap::IndexSet;
 use std::alloc::Global;
 use std::thread::Threads;
+use std::vec::IntoIter;
 
 // What the records of each label amount to, in the order in which the labels come first.
 pub(crate) fn gather(
     alloc: Global,
     format: Format,
     columns: &[Column],
-    rows: Vec<Rec>,
+    rows: IntoIter<Rec>,
 ) -> Result<Vec<BlockBuilder>, NoMemory>
     requires blocks { has_blocks format ≡ true }
-    requires roles { list_all has_role rows.items ≡ true }
-    ensures { IfOk result (λ bs. bs.items ≡ map (gathered (map (λ c. c.kind) columns.now)) (entry_blocks format rows.items)) }
+    requires roles { list_all has_role (into_iter_items rows) ≡ true }
+    ensures { IfOk result (λ bs. bs.items ≡ map (gathered (map (λ c. c.kind) columns.now)) (entry_blocks format (into_iter_items rows))) }
 {
     let mut labels = IndexSet::new(alloc);
     let mut builders = Vec::new(alloc);

@@ -1,5 +1,6 @@
 //! The block table of a file's bytes.
-ghost use Rattle.std.specs.Prelude.{◌≡◌, ◌≤◌, ◌⊎◌, ◌∷◌, Some, Ok, Err, IfOk, IfErr};
+ghost use Rattle.std.specs.Prelude.{◌≡◌, ◌≤◌, ◌⊎◌, ◌∷◌, Some, Ok, Err, IfOk, IfErr, drop};
+ghost use Rattle.std.specs.Vec.Iter.{into_iter_items};
 ghost use Rattle.au_csv.specs.Texts.{text_records};
 ghost use Rattle.au_blocks.specs.Defects.{table_defects};
 ghost use Rattle.au_blocks.specs.Read.{contents, first, table_of, unless};
@@ -14,6 +15,7 @@ use au_par::let_go;
 use au_value::Word;
 use std::alloc::Global;
 use std::thread::Threads;
+use std::vec::IntoIter;
 
 /// The block table of the bytes of a table file.
 ///
@@ -29,7 +31,8 @@ pub fn read_table(alloc: Global, bytes: &[u8]) -> Result<Table, TableFault>
     ensures table { IfOk result (λ t. table_of bytes.now ≡ Ok t) }
     ensures fault { IfErr result (λ e. (e ≡ TableFault.NoMemory) ⊎ (table_of bytes.now ≡ Err e)) }
 {
-    let (header, rows) = header_and_rows(alloc, bytes)?;
+    let rows = records(alloc, bytes)?;
+    let header = header_of(alloc, rows.as_slice())?;
     table_under(alloc, header.as_slice(), rows)
 }
 
@@ -53,27 +56,44 @@ pub fn read_table_by<R: Threads + Sync>(
     table
 }
 
-// The header of a text, and the records below it.
-fn header_and_rows(alloc: Global, bytes: &[u8]) -> Result<(Vec<Word>, Vec<Rec>), TableFault>
-    ensures records { IfOk result (λ p. text_records bytes.now ≡ Ok (p.0.items ∷ p.1.items)) }
-    ensures fault { IfErr result (λ e. (e ≡ TableFault.NoMemory) ⊎ (table_of bytes.now ≡ Err e)) }
+// The header, which is the first record.
+fn header_of(alloc: Global, rows: &[Rec]) -> Result<Vec<Word>, TableFault>
+    ensures header { IfOk result (λ header. rows.now ≡ header.items ∷ drop 1 rows.now) }
+    ensures fault { IfErr result (λ e. (e ≡ TableFault.NoMemory) ⊎ (first (table_defects rows.now) ≡ Some e)) }
 {
-    let mut rows = records(alloc, bytes)?;
-    if rows.is_empty() {
+    let Some((header, _)) = rows.split_first() else {
         return Err(TableFault::NoHeader);
-    }
-    let header = rows.remove(0).words(alloc)?;
-    Ok((header, rows))
+    };
+    Ok(header.words(alloc)?)
 }
 
-// The block table of a header and the records below it.
-fn table_under(alloc: Global, header: &[Word], rows: Vec<Rec>) -> Result<Table, TableFault>
-    ensures table { IfOk result (λ t. unless (first (table_defects (header.now ∷ rows.items))) (contents (header.now ∷ rows.items)) ≡ Ok t) }
-    ensures fault { IfErr result (λ e. (e ≡ TableFault.NoMemory) ⊎ (first (table_defects (header.now ∷ rows.items)) ≡ Some e)) }
+// The records below the header.
+fn below(rows: &[Rec]) -> &[Rec]
+    ensures { result.now ≡ drop 1 rows.now }
 {
-    let columns = schema(alloc, header, rows.as_slice())?;
+    match rows.split_first() {
+        Some((_, others)) => others,
+        None => rows,
+    }
+}
+
+// The same, taken out.
+fn taken_below(rows: Vec<Rec>) -> IntoIter<Rec>
+    ensures { into_iter_items result ≡ drop 1 rows.items }
+{
+    let mut others = rows.into_iter();
+    let _ = others.next();
+    others
+}
+
+// The block table of a header and the records, of which it is the first.
+fn table_under(alloc: Global, header: &[Word], rows: Vec<Rec>) -> Result<Table, TableFault>
+    ensures table { IfOk result (λ t. unless (first (table_defects (header.now ∷ drop 1 rows.items))) (contents (header.now ∷ drop 1 rows.items)) ≡ Ok t) }
+    ensures fault { IfErr result (λ e. (e ≡ TableFault.NoMemory) ⊎ (first (table_defects (header.now ∷ drop 1 rows.items)) ≡ Some e)) }
+{
+    let columns = schema(alloc, header, below(rows.as_slice()))?;
     let format = Format::of(header);
-    let blocks = blocks(alloc, format, columns.as_slice(), rows)?;
+    let blocks = blocks(alloc, format, columns.as_slice(), taken_below(rows))?;
     Ok(Table::of(columns, blocks))
 }
 
@@ -88,11 +108,8 @@ fn table_of_by<R: Threads + Sync>(
     ensures table { IfOk result (λ t. unless (first (table_defects rows.now)) (contents rows.now) ≡ Ok t) }
     ensures fault { IfErr result (λ e. (e ≡ TableFault.NoMemory) ⊎ (first (table_defects rows.now) ≡ Some e)) }
 {
-    let Some((header, others)) = rows.split_first() else {
-        return Err(TableFault::NoHeader);
-    };
-    let header = header.words(alloc)?;
-    table_by(rt, alloc, workers, header.as_slice(), others)
+    let header = header_of(alloc, rows)?;
+    table_by(rt, alloc, workers, header.as_slice(), below(rows))
 }
 
 // The same, of a header and the records below it.

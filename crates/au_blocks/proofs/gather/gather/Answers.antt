@@ -53,6 +53,6 @@ returns c =
     let f = c.args.format in
     let rest = c.loop-record.record-iterator.rest in
     let empty : rest.items ≡ [] = nil_from_length rest.items (sym rest.ok.0 ∙ c.in-None.ensures.steps.0) in
-    let all : c.loop-record.yielded ≡ c.args.rows.items =
+    let all : c.loop-record.yielded ≡ (into_iter_items c.args.rows) =
     sym (append-nil c.loop-record.yielded) ∙ sym (ap (λ (more : List Record). c.loop-record.yielded ++ more) empty) ∙ inv.all in
-    inv.builders ∙ ap (builders f kinds) all ∙ builders-blocks f kinds c.args.rows.items c.requires.blocks
+    inv.builders ∙ ap (builders f kinds) all ∙ builders-blocks f kinds (into_iter_items c.args.rows) c.requires.blocks

@@ -7,7 +7,7 @@ use Rattle.au_blocks.proofs.gather.gather.Given as goal
 -- the labels of the records so far, and what is gathered under each
 abbrev pub invariant-loop-record : goal.invariant-loop-record
 invariant-loop-record l = record {
-  all : l.yielded ++ into_iter_items l.record-iterator ≡ l.fn.rows.items;
+  all : l.yielded ++ into_iter_items l.record-iterator ≡ into_iter_items l.fn.rows;
   labels : label_bytes l.labels ≡ labels l.yielded;
   builders : l.builders.items ≡ builders l.format (map (λ c. c.kind) l.columns) l.yielded;
 }
