@@ -1,5 +1,5 @@
 -- The table of a text whose records were read.
-use Rattle.std.proofs.Common.{◌≡◌, ◌∙◌, ◌<◌, ◌∷◌, [], ℕ, List, Option, Some, None, Ok, drop, refl, sym}
+use Rattle.std.proofs.Common.{◌≡◌, ◌∙◌, ◌∷◌, ℕ, List, Option, Some, None, Ok, drop, refl, sym}
 use Rattle.std.specs.Prelude.{IfOk, Result}
 use Rattle.std.proofs.lemmas.Result.{IfOk-weaker}
 use Rattle.au_csv.specs.Texts.{Record, records_of, not_text, unless_not_text, text_records}

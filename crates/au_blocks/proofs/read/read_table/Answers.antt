@@ -1,5 +1,5 @@
 -- The records of a text as a table.
-use Rattle.std.proofs.Common.{◌∙◌, ◌∷◌, Ok, drop, sym, ap}
+use Rattle.std.proofs.Common.{◌∙◌, ◌∷◌, Ok, drop, ap}
 use Rattle.au_blocks.proofs.ReadTables.{head-whole, table-read}
 use Rattle.au_blocks.proofs.read.read_table.Goals as goal
 

@@ -1,5 +1,5 @@
 -- The header and the records below it are all records.
-use Rattle.std.proofs.Common.{◌≡◌, ◌∙◌, ◌∷◌, drop, sym}
+use Rattle.std.proofs.Common.{◌≡◌, ◌∙◌, ◌∷◌, sym}
 use Rattle.au_blocks.proofs.ReadTables.{table-over}
 use Rattle.au_blocks.proofs.read.table_of_by.Goals as goal
 
