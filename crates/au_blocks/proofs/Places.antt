@@ -1,8 +1,8 @@
 -- The place of the first item that passes a test.
-use Rattle.std.proofs.Common.{◌≡◌, ℕ, ◌<◌, Bool, true, false, List, [], ◌∷◌, length, Some, None, inl, inr, refl, arith}
+use Rattle.std.proofs.Common.{◌≡◌, ◌<◌, Bool, true, false, List, [], ◌∷◌, length, Some, None, inl, inr, refl, arith}
 use Rattle.std.specs.Prelude.{position}
 use Rattle.std.specs.List.{list_any, position_or_len}
-use Rattle.std.proofs.lemmas.Bool.{cases_Bool, lt-ltb, le-ltb}
+use Rattle.std.proofs.lemmas.Bool.{cases_Bool, lt-ltb}
 
 -- where some item passes, it is one of theirs
 pub known-place : {X : Type 0} (p : X → Bool) (xs : List X) → list_any p xs ≡ true → position_or_len p xs < length xs
@@ -35,18 +35,4 @@ no-position p xs none =
           let low = known-place p xs some in
           let e : position p xs ≡ Some (position_or_len p xs) = rw (lt-ltb (position_or_len p xs) (length xs) low) refl in cc (e, none)
       | inr other ↦ other
-    ]
-
--- and one that is found is the first
-pub found-position : {X : Type 0} (p : X → Bool) (xs : List X) (i : ℕ) → position p xs ≡ Some i → (list_any p xs ≡ true) × (i ≡ position_or_len p xs)
-found-position p xs i found =
-    elim (cases_Bool (list_any p xs)) [
-      | inl some ↦
-          let low = known-place p xs some in
-          let e : position p xs ≡ Some (position_or_len p xs) = rw (lt-ltb (position_or_len p xs) (length xs) low) refl in
-          let same : i ≡ position_or_len p xs = cc (e, found) in
-          (some, same)
-      | inr none ↦
-          let past = absent-place p xs none in
-          let e : position p xs ≡ None = rw (past, le-ltb (length xs) (length xs) (omega arith)) refl in cc (e, found)
     ]

@@ -1,11 +1,7 @@
 -- The labels of blocks as a set of texts in the order of insertion.
-use Rattle.std.specs.Prelude.{ℕ, List, map, String, string_bytes}
+use Rattle.std.specs.Prelude.{ℕ, List, map}
 use Rattle.std.specs.Borrow.{Bor}
 use Rattle.std.specs.HashSet.{HashSet}
-
--- the bytes of the labels
-abbrev pub label_bytes : {Z S : Type 0} → HashSet (String Z) S → List (List ℕ)
-label_bytes s = map string_bytes s.keys
 
 -- the bytes of the labels that are lent
 abbrev pub lent_labels : {S : Type 0} → HashSet (Bor (List ℕ)) S → List (List ℕ)

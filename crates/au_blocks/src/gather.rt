@@ -6,7 +6,7 @@ ghost use Rattle.indexmap.specs.IndexSet.{insert_key};
 ghost use Rattle.au_blocks.specs.Entries.{entry_blocks, copies_in, block_entry, has_role, role_of};
 ghost use Rattle.au_blocks.specs.Headers.{cells_of, has_blocks};
 ghost use Rattle.au_blocks.specs.Gathered.{gathered, nothing, with_entry};
-ghost use Rattle.au_blocks.specs.Labels.{label_bytes, lent_labels};
+ghost use Rattle.au_blocks.specs.Labels.{lent_labels};
 ghost use Rattle.au_blocks.specs.Pieces.{with_alternative};
 
 use crate::builder::BlockBuilder;
@@ -18,9 +18,10 @@ use crate::format::Format;
 use crate::role::Role;
 use crate::row_faults::role;
 use au_csv::Rec;
-use au_value::NoMemory;
+use au_value::{NoMemory, Word};
 use indexmap::IndexSet;
 use std::alloc::Global;
+use std::hash::Hash;
 use std::thread::Threads;
 use std::vec::IntoIter;
 
@@ -89,27 +90,28 @@ fn role_in(format: Format, record: &Rec) -> Role
 }
 
 // The place of the block with this label, which is a new one where the label is new. The place that was found last is tried
-// first.
+// first, since the records of a block mostly follow one another.
 fn place_near(
     alloc: Global,
-    labels: &mut IndexSet<String>,
+    labels: &mut IndexSet<Word>,
     builders: &mut Vec<BlockBuilder>,
     label: &str,
     recent: usize,
 ) -> Result<usize, NoMemory>
-    ensures labels { OnOk result (label_bytes labels.new ≡ insert_key bytes_eq (label_bytes labels.old) label.now) }
-    ensures builders { OnOk result (builders.new.items ≡ builders.old.items ++ (if list_any (bytes_eq label.now) (label_bytes labels.old) then [] else nothing ∷ [])) }
-    ensures place { IfOk result (λ place. place ≡ position_or_len (bytes_eq label.now) (label_bytes labels.old)) }
+    ensures labels { OnOk result (labels.new.keys ≡ insert_key bytes_eq labels.old.keys label.now) }
+    ensures builders { OnOk result (builders.new.items ≡ builders.old.items ++ (if list_any (bytes_eq label.now) labels.old.keys then [] else nothing ∷ [])) }
+    ensures place { IfOk result (λ place. place ≡ position_or_len (bytes_eq label.now) labels.old.keys) }
 {
     if stands_at(labels, label, recent) {
         return Ok(recent);
     }
-    place_of(alloc, labels, builders, label)
+    let at = place_of(alloc, labels, builders, Word::of(alloc, label)?)?;
+    Ok(at)
 }
 
 // Whether a label is the one at a place.
-fn stands_at(labels: &IndexSet<String>, label: &str, place: usize) -> bool
-    ensures { IsTrue result → (list_any (bytes_eq label.now) (label_bytes labels.now) ≡ true) × (place ≡ position_or_len (bytes_eq label.now) (label_bytes labels.now)) }
+fn stands_at(labels: &IndexSet<Word>, label: &str, place: usize) -> bool
+    ensures { IsTrue result → (list_any (bytes_eq label.now) labels.now.keys ≡ true) × (place ≡ position_or_len (bytes_eq label.now) labels.now.keys) }
 {
     let known = labels.as_slice();
     if place < known.len() {
@@ -119,27 +121,7 @@ fn stands_at(labels: &IndexSet<String>, label: &str, place: usize) -> bool
     }
 }
 
-// The same place, without a guess.
-fn place_of(
-    alloc: Global,
-    labels: &mut IndexSet<String>,
-    builders: &mut Vec<BlockBuilder>,
-    label: &str,
-) -> Result<usize, NoMemory>
-    ensures labels { OnOk result (label_bytes labels.new ≡ insert_key bytes_eq (label_bytes labels.old) label.now) }
-    ensures builders { OnOk result (builders.new.items ≡ builders.old.items ++ (if list_any (bytes_eq label.now) (label_bytes labels.old) then [] else nothing ∷ [])) }
-    ensures place { IfOk result (λ place. place ≡ position_or_len (bytes_eq label.now) (label_bytes labels.old)) }
-{
-    if let Some(place) = labels.get_index_of(label) {
-        return Ok(place);
-    }
-    let (place, _) = labels.insert_full(String::from_str(alloc, label)?)?;
-    builders.push(BlockBuilder::new(alloc))?;
-    Ok(place)
-}
-
-// The same over labels that are lent from the records, so that no text is made for one. A label that is the one before it is
-// not even hashed.
+// The same over labels that are lent from the records, so that no text is made for one.
 fn lent_place_near<'a>(
     alloc: Global,
     labels: &mut IndexSet<&'a str>,
@@ -154,10 +136,11 @@ fn lent_place_near<'a>(
     if lent_stands_at(labels, label, recent) {
         return Ok(recent);
     }
-    lent_place_of(alloc, labels, builders, label)
+    let at = place_of(alloc, labels, builders, label)?;
+    Ok(at)
 }
 
-// The same over labels that are lent.
+// Whether a label is the one that is lent at a place.
 fn lent_stands_at(labels: &IndexSet<&str>, label: &str, place: usize) -> bool
     ensures { IsTrue result → (list_any (bytes_eq label.now) (lent_labels labels.now) ≡ true) × (place ≡ position_or_len (bytes_eq label.now) (lent_labels labels.now)) }
 {
@@ -169,22 +152,22 @@ fn lent_stands_at(labels: &IndexSet<&str>, label: &str, place: usize) -> bool
     }
 }
 
-// The place among labels that are lent.
-fn lent_place_of<'a>(
+// The place of the block with this label, without a guess.
+fn place_of<K: Eq + Hash + Drop>(
     alloc: Global,
-    labels: &mut IndexSet<&'a str>,
+    labels: &mut IndexSet<K>,
     builders: &mut Vec<BlockBuilder>,
-    label: &'a str,
+    label: K,
 ) -> Result<usize, NoMemory>
-    ensures labels { OnOk result (lent_labels labels.new ≡ insert_key bytes_eq (lent_labels labels.old) label.now) }
-    ensures builders { OnOk result (builders.new.items ≡ builders.old.items ++ (if list_any (bytes_eq label.now) (lent_labels labels.old) then [] else nothing ∷ [])) }
-    ensures place { IfOk result (λ place. place ≡ position_or_len (bytes_eq label.now) (lent_labels labels.old)) }
+    ensures labels { OnOk result (labels.new.keys ≡ insert_key K.eq labels.old.keys label) }
+    ensures builders { OnOk result (builders.new.items ≡ builders.old.items ++ (if list_any (K.eq label) labels.old.keys then [] else nothing ∷ [])) }
+    ensures place { IfOk result (λ place. place ≡ position_or_len (K.eq label) labels.old.keys) }
 {
-    let (at, new) = labels.insert_full(label)?;
+    let (place, new) = labels.insert_full(label)?;
     if new {
         builders.push(BlockBuilder::new(alloc))?;
     }
-    Ok(at)
+    Ok(place)
 }
 
 // One entry more of a block: of a record with this role.

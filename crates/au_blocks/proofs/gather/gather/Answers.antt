@@ -9,7 +9,6 @@ use Rattle.au_blocks.specs.declared.column.Column.{Column}
 use Rattle.au_blocks.specs.Entries.{block_entry, label_of, copies_in}
 use Rattle.au_blocks.specs.Headers.{cells_of}
 use Rattle.au_blocks.specs.Gathered.{nothing}
-use Rattle.au_blocks.specs.Labels.{label_bytes}
 use Rattle.au_blocks.proofs.GatherStep.{labels, builders, builders-are, entry-is, labels-push, builders-push, builders-blocks, place-within}
 use Rattle.au_blocks.proofs.gather.gather.Goals as goal
 
@@ -19,7 +18,7 @@ index_mut-requires c =
     let kinds = map (λ (x : Column). x.kind) c.args.columns.now in
     let f = c.args.format in
     let l = c.field-label.result.now in
-    let are = builders-are f kinds c.loop-record.yielded l (label_bytes c.loop-record.labels) c.loop-record.builders.items c.place_near.new.builders.items inv.labels inv.builders c.in_ok-recent.ensures.builders in
+    let are = builders-are f kinds c.loop-record.yielded l c.loop-record.labels.keys c.loop-record.builders.items c.place_near.new.builders.items inv.labels inv.builders c.in_ok-recent.ensures.builders in
     let place : c.in_ok-recent.recent ≡ position_or_len (bytes_eq l) (labels c.loop-record.yielded) = c.in_ok-recent.ensures.place ∙ ap (position_or_len (bytes_eq l)) inv.labels in
     let low = place-within f kinds c.loop-record.yielded l c.place_near.new.builders.items are in
     rw (place, c.place_near.new.builders.ok.0) low
@@ -32,7 +31,7 @@ loop-record-preserved c =
     let f = c.args.format in
     let l = c.field-label.result.now in
     let label : l ≡ label_of c.in-Some.record = c.field-label.ensures in
-    let are = builders-are f kinds rows l (label_bytes c.loop-record.labels) c.loop-record.builders.items c.place_near.new.builders.items inv.labels inv.builders c.in_ok-recent.ensures.builders in
+    let are = builders-are f kinds rows l c.loop-record.labels.keys c.loop-record.builders.items c.place_near.new.builders.items inv.labels inv.builders c.in_ok-recent.ensures.builders in
     let place : c.in_ok-recent.recent ≡ position_or_len (bytes_eq l) (labels rows) = c.in_ok-recent.ensures.place ∙ ap (position_or_len (bytes_eq l)) inv.labels in
     let low = place-within f kinds rows l c.place_near.new.builders.items are in
     let is = entry-is f c.in-Some.record c.role_in-role.result c.role_in-role.ensures in

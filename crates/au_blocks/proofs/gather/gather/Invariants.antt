@@ -1,6 +1,5 @@
 use Rattle.std.proofs.Common.{◌≡◌, ◌++◌, map}
 use Rattle.std.specs.Vec.Iter.{into_iter_items}
-use Rattle.au_blocks.specs.Labels.{label_bytes}
 use Rattle.au_blocks.proofs.GatherStep.{labels, builders}
 use Rattle.au_blocks.proofs.gather.gather.Given as goal
 
@@ -8,6 +7,6 @@ use Rattle.au_blocks.proofs.gather.gather.Given as goal
 abbrev pub invariant-loop-record : goal.invariant-loop-record
 invariant-loop-record l = record {
   all : l.yielded ++ into_iter_items l.record-iterator ≡ into_iter_items l.fn.rows;
-  labels : label_bytes l.labels ≡ labels l.yielded;
+  labels : l.labels.keys ≡ labels l.yielded;
   builders : l.builders.items ≡ builders l.format (map (λ c. c.kind) l.columns) l.yielded;
 }

@@ -1,8 +1,8 @@
 -- No label is there twice, so one with these bytes is the only one.
 use Rattle.std.proofs.Common.{◌≡◌, ◌∙◌, ◌<◌, get_or, length, true, ap, sym}
-use Rattle.std.specs.Prelude.{bytes_eq, string_bytes}
+use Rattle.std.specs.Prelude.{bytes_eq}
 use Rattle.std.proofs.lemmas.List.{get_or_read}
-use Rattle.au_blocks.proofs.NearLabels.{stands}
+use Rattle.au_blocks.proofs.NearLabels.{stands-itself}
 use Rattle.au_blocks.proofs.gather.stands_at.Goals as goal
 
 pub returns-then-place-known : goal.returns-then-place-known
@@ -13,5 +13,5 @@ returns-then-place-known c = λ says.
     let k = c.index-known-place.result in
     let below : place < length ks = c.if-place-known.true in
     let is : k ≡ get_or ks place k = get_or_read ks place k below c.index-known-place.is k in
-    let same : bytes_eq c.args.label.now (string_bytes k) ≡ true = ap (bytes_eq c.args.label.now) (sym c.as_str.ensures.value) ∙ sym c.eq.ensures ∙ says in
-    stands string_bytes c.args.label.now c.args.labels.now.keys place k k c.as_slice-known.ensures.unique (rw keys at below) (is ∙ ap (λ xs. get_or xs place k) keys) same
+    let same : bytes_eq c.args.label.now k ≡ true = ap (bytes_eq c.args.label.now) (sym c.as_str.ensures) ∙ sym c.eq.ensures ∙ says in
+    stands-itself c.args.label.now c.args.labels.now.keys place k c.as_slice-known.ensures.unique (rw keys at below) (is ∙ ap (λ xs. get_or xs place k) keys) same
