@@ -17,7 +17,7 @@ at_end_step : (b : Bool) (p q : Read) → length q.2 ≤ 0 → (if b then Some q
 at_end_step true p q here is = let e : q ≡ p = cc in subst (λ x. length x.2 ≤ 0) e here
 at_end_step false p q here is = cc
 
-shorter : (cfg : Config) (xs : List ℕ) (s : State) (fields : List (List ℕ)) (field : List ℕ) (c : ℕ) (p : Read) → next_record cfg s fields field (c ∷ xs) ≡ Some p → length p.2 ≤ length xs
+pub shorter : (cfg : Config) (xs : List ℕ) (s : State) (fields : List (List ℕ)) (field : List ℕ) (c : ℕ) (p : Read) → next_record cfg s fields field (c ∷ xs) ≡ Some p → length p.2 ≤ length xs
 unfolding next_record
 shorter cfg [] s fields field c p is =
     shorter_step (is_end (step cfg s c).1) p _ _ 0 (omega arith) (λ r. at_end_step (ends_at_end (step cfg s c).0) r _ (omega arith)) is

@@ -2,7 +2,8 @@
 //!
 //! [`records`] reads the text of a table file: fields between commas, quoted by double quotes where they hold commas or
 //! ends of lines (RFC 4180, as the `csv` crate reads it). Each [`Rec`] is a list of texts, which [`Rec::len`] and
-//! [`Rec::get`] read. Records may differ in length, and no record is a header here.
+//! [`Rec::get`] read. Records may differ in length, and no record is a header here. [`records_by`] reads the same by
+//! several workers.
 //!
 //! ```text
 //! match records(alloc, bytes) {
@@ -14,9 +15,11 @@
 #![tactic(auto)]
 
 mod faults;
+mod pieces;
 mod read;
 mod rec;
 
 pub use faults::CsvFault;
+pub use pieces::records_by;
 pub use read::records;
 pub use rec::Rec;

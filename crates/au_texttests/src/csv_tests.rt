@@ -1,8 +1,10 @@
 //! Texts and their records.
 use crate::cases::{Call, file_bytes, judge};
-use au_csv::{Rec, records};
+use au_csv::{CsvFault, Rec, records, records_by};
 use std::alloc::{AllocError, Global};
+use std::process::Abort;
 use std::test::Fail;
+use std::thread::Threads;
 
 // A bar, and the fields in brackets.
 fn push_record(text: &mut String, record: &Rec) -> Result<(), AllocError> {
@@ -23,15 +25,19 @@ fn records_text(alloc: Global, records: &[Rec]) -> Result<String, AllocError> {
     Ok(text)
 }
 
+fn outcome_text(alloc: Global, outcome: &Result<Vec<Rec>, CsvFault>) -> Result<String, AllocError> {
+    match outcome {
+        Ok(records) => records_text(alloc, records.as_slice()),
+        Err(fault) => format!(in alloc; "{fault:?}"),
+    }
+}
+
 struct Records;
 
 impl Call for Records {
     fn outcome(alloc: Global, given: &str) -> Result<String, Fail> {
         let bytes = file_bytes(alloc, given)?;
-        match records(alloc, bytes.as_slice()) {
-            Ok(records) => Ok(records_text(alloc, records.as_slice())?),
-            Err(fault) => Ok(format!(in alloc; "{fault:?}")?),
-        }
+        Ok(outcome_text(alloc, &records(alloc, bytes.as_slice()))?)
     }
 }
 
@@ -51,4 +57,38 @@ a,# -> NotText(0)";
 #[test]
 fn records_of_texts(rt: HostRuntime) -> Result<(), Fail> {
     judge::<Records>(&rt, rt.alloc(), RECORDS)
+}
+
+// Whether four workers read what one does, and that ends so.
+fn judge_shared<R: Abort + Threads + Sync>(
+    rt: &R,
+    alloc: Global,
+    given: &str,
+    end: &str,
+) -> Result<(), Fail> {
+    let bytes = file_bytes(alloc, given)?;
+    let one = outcome_text(alloc, &records(alloc, bytes.as_slice()))?;
+    let four = outcome_text(alloc, &records_by(rt, alloc, 4, bytes.as_slice()))?;
+    assert!(rt; one.as_str() == four.as_str(), "{given}");
+    assert!(rt; one.ends_with(end), "{given}");
+    Ok(())
+}
+
+const SHARED: &str = "«60000 1,b~»x,y~ -> |[1][b]|[x][y]
+«60000 1,b~»\"x,y\"~ -> |[1][b]|[x,y]
+\"x,y\"~«60000 1,b~» -> |[1][b]|[1][b]
+«60000 1,b~»1,#~ -> NotText(60000)
+1,#~«60000 1,b~» -> NotText(0)
+\u{FEFF}«60000 1,b~~»x -> |[1][b]|[x]
+«60000 \u{FEFF}1~»x -> |[\u{FEFF}1]|[x]
+«60000 1,b^»x -> |[1][b]|[x]
+«60000 1,b^~»x,^~ -> |[1][b]|[x][]";
+
+#[test]
+fn records_of_shared_texts(rt: HostRuntime) -> Result<(), Fail> {
+    for line in SHARED.lines() {
+        let (given, end) = line.split_once(" -> ").expect(&rt, "an arrow");
+        judge_shared(&rt, rt.alloc(), given, end)?;
+    }
+    Ok(())
 }
