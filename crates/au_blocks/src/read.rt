@@ -10,7 +10,7 @@ use crate::faults::TableFault;
 use crate::format::Format;
 use crate::schema::{schema, schema_by};
 use crate::table::Table;
-use au_csv::{Rec, records};
+use au_csv::{Rec, records, records_by};
 use au_par::let_go;
 use au_value::Word;
 use std::alloc::Global;
@@ -50,7 +50,7 @@ pub fn read_table_by<R: Threads + Sync>(
     if workers == 1 {
         return read_table(alloc, bytes);
     }
-    let rows = records(alloc, bytes)?;
+    let rows = records_by(rt, alloc, workers, bytes)?;
     let table = table_of_by(rt, alloc, workers, rows.as_slice());
     let_go(rt, workers, rows);
     table
