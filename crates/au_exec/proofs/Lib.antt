@@ -12,6 +12,7 @@ pub mod ChainSteps
 pub mod Overlays
 pub mod Pulling
 pub mod RangeOrder
+pub mod KeyedRows
 pub mod RangeIndex
 pub mod Matches
 pub mod Probing

@@ -14,6 +14,7 @@ pub mod Folds
 pub mod Tables
 pub mod Merging
 pub mod Ranged
+pub mod Keyed
 pub mod Hashed
 pub mod Rights
 pub mod Chains
