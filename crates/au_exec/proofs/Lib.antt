@@ -9,6 +9,7 @@ pub mod NearPlaces
 pub mod Members
 pub mod NarrowSteps
 pub mod ChainSteps
+pub mod HalvedRows
 pub mod Overlays
 pub mod Pulling
 pub mod RangeOrder

@@ -17,7 +17,7 @@ use crate::node::Node;
 use crate::pull::pull;
 use crate::split::is_probed;
 use au_expr::EvalFault;
-use au_par::Gate;
+use au_par::{Gate, let_go};
 use au_plain::PAgg;
 use indexmap::IndexSet;
 use std::alloc::Global;
@@ -42,6 +42,7 @@ pub(crate) fn grouped_node<R: Threads + Sync, G: Gate + Sync>(
 {
     let mut of = of;
     let groups = node_groups(rt, alloc, workers, gate, keys, aggs, &mut of)?;
+    let_go(rt, workers, of);
     let rows = finished(alloc, groups)?;
     Ok(boxed(alloc, Node::Source(rows.into_iter()))?)
 }

@@ -58,6 +58,7 @@ mod right;
 mod room;
 mod rows;
 mod scans;
+mod shared_chains;
 mod source;
 mod split;
 mod state;
