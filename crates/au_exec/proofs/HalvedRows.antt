@@ -1,5 +1,5 @@
 -- Rows that are halved and worked: what holds of each half, and what the two answers give, put together.
-use Rattle.std.proofs.Common.{◌≡◌, ⊎_elim, Bool, true, false, ◌++◌, Result, Ok, Err, Vec, Global, map, sym, ap, subst, ◌∙◌, refl}
+use Rattle.std.proofs.Common.{◌≡◌, ⊎_elim, Bool, true, false, ◌++◌, Result, Ok, Err, Vec, Global, sym, ap, subst, ◌∙◌, refl}
 use Rattle.std.specs.Prelude.{List, ◌&&◌}
 use Rattle.std.proofs.lemmas.List.{map-append}
 use Rattle.au_expr.specs.declared.fault.EvalFault.{EvalFault}
