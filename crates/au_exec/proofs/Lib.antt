@@ -38,6 +38,7 @@ pub mod Merged
 pub mod MergedFits
 pub mod Gathered
 pub mod PieceGroups
+pub mod PieceRows
 pub mod DrawnPieces
 pub mod DrawnPlaces
 pub mod LentPieces

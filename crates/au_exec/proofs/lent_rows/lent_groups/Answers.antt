@@ -1,6 +1,6 @@
 -- The pieces are of all rows, and what their groups make is the grouping.
 use Rattle.au_exec.specs.Lending.{fits_of, left_of}
-use Rattle.au_exec.proofs.DrawnPieces.{takes_all}
+use Rattle.au_exec.proofs.PieceRows.{takes_all}
 use Rattle.au_exec.proofs.PieceGroups.{stands_groups}
 use Rattle.au_exec.proofs.TableSteps.{can_grow}
 use Rattle.au_exec.proofs.lent_rows.lent_groups.Goals as goal
