@@ -11,8 +11,8 @@ use crate::rec::Rec;
 use std::alloc::Global;
 use std::thread::{Threads, join};
 
-// Fewer bytes are read by one worker: they take it a millisecond or two, and a thread takes a tenth of one to start.
-const FEW: usize = 65536;
+// Fewer bytes are read by one worker: they take it a millisecond, and a thread takes some tenths of one to start.
+const FEW: usize = 262_144;
 
 /// The records of [`records`], which so many workers read.
 ///
