@@ -76,6 +76,7 @@ demo|7|40 -> 0 Done rows 4~least 4~guess 4~most 15~!
 demo|7|--workers=64|40 -> 0 Done rows 4~least 4~guess 4~most 15~! 
 demo|1|100000 -> 0 Done rows 4~least 4~guess 4~most 33156~! 
 demo|1|100000 -> 0 Done rows 4~least 4~guess 4~most 33156~! 
+demo|1|--workers=4|100000 -> 0 Done rows 4~least 4~guess 4~most 33156~! 
 demo|1|0 -> 2 Usage(Words) ! audb: usage: audb answer SQL NAME=PATH..~
 demo|1|100001 -> 2 Usage(Words) ! audb: usage: audb answer SQL NAME=PATH..~
 demo|4294967296|1 -> 2 Usage(Words) ! audb: usage: audb answer SQL NAME=PATH..~
