@@ -11,8 +11,8 @@ use crate::rec::Rec;
 use std::alloc::Global;
 use std::thread::{Threads, join};
 
-// Fewer bytes are read by one worker: they take it a millisecond, and a thread takes some tenths of one to start.
-const FEW: usize = 262_144;
+// A worker reads no fewer bytes than these: they take it half a millisecond, and a thread takes some tenths of one to start.
+const FEW: usize = 131_072;
 
 /// The records of [`records`], which so many workers read.
 ///
@@ -27,10 +27,11 @@ pub fn records_by<R: Threads + Sync>(
     ensures records { IfOk result (λ rs. text_records bytes.now ≡ Ok rs.items) }
     ensures fault { IfErr result (λ e. (e ≡ CsvFault.NoMemory) ⊎ (text_records bytes.now ≡ Err e)) }
 {
-    if workers == 1 || bytes.len() < FEW || bytes.contains(&b'"') {
+    let pieces = workers.min(bytes.len() / FEW);
+    if pieces < 2 || bytes.contains(&b'"') {
         return records(alloc, bytes);
     }
-    match halves(rt, alloc, workers, bytes) {
+    match in_pieces(rt, alloc, pieces, bytes) {
         Ok(records) => Ok(records),
         // A worker knows the record's number in its piece alone.
         Err(CsvFault::NotText(_)) => records(alloc, bytes),
@@ -38,34 +39,34 @@ pub fn records_by<R: Threads + Sync>(
     }
 }
 
-// The records of a text without double quotes. A fault doesn't tell which record of the text it is of.
-#[cycle(halves)]
-fn halves<R: Threads + Sync>(
+// The records of a text without double quotes, in so many pieces, which go to threads one after the other. A fault doesn't
+// tell which record of the text it is of.
+#[cycle(pieces)]
+fn in_pieces<R: Threads + Sync>(
     rt: &R,
     alloc: Global,
-    workers: usize,
+    pieces: usize,
     bytes: &[u8],
 ) -> Result<Vec<Rec>, CsvFault>
     requires { is_quoted bytes.now ≡ false }
     ensures { IfOk result (λ rs. text_records bytes.now ≡ Ok rs.items) }
 {
-    if workers < 2 || bytes.len() < FEW {
+    if pieces < 2 {
         return records(alloc, bytes);
     }
-    let low = workers / 2;
-    let Some(end) = line_end(bytes, bytes.len() / workers * low) else {
+    let Some(end) = line_end(bytes, bytes.len() / pieces) else {
         return records(alloc, bytes);
     };
     let (left, right) = bytes.split_at(end + 1);
     let front = move || -> Result<Vec<Rec>, CsvFault>
-        requires { IsSync R.row × (is_quoted left.now ≡ false) }
+        requires { is_quoted left.now ≡ false }
         ensures { IfOk result (λ rs. text_records left.entry.now ≡ Ok rs.items) }
-    { halves(rt, alloc, low, left) };
-    let high = workers - low;
+    { records(alloc, left) };
+    let others = pieces - 1;
     let back = move || -> Result<Vec<Rec>, CsvFault>
         requires { IsSync R.row × (is_quoted right.now ≡ false) }
         ensures { IfOk result (λ rs. text_records right.entry.now ≡ Ok rs.items) }
-    { halves(rt, alloc, high, right) };
+    { in_pieces(rt, alloc, others, right) };
     let (a, b) = join(rt, front, back);
     put_together(a, b)
 }

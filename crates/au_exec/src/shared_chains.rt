@@ -1,5 +1,5 @@
 //! Operators that work row by row, on rows that several workers share.
-ghost use Rattle.std.specs.Prelude.{◌≡◌, ◌++◌, IfOk};
+ghost use Rattle.std.specs.Prelude.{◌≡◌, ◌<◌, ◌++◌, IfOk};
 ghost use Rattle.au_par.specs.Joined.{Joins};
 ghost use Rattle.au_exec.specs.Chains.{CanChain, WorksAll};
 ghost use Rattle.au_exec.specs.Outcomes.{rows_of};
@@ -12,14 +12,13 @@ use au_value::NoMemory;
 use std::alloc::Global;
 use std::thread::{Threads, join};
 
-/// The least number of rows that are halved: a thread costs more than what it saves on fewer.
-const HALVED: usize = 256;
+// A worker works no fewer rows than these: a thread costs more than what it saves on them.
+const FEW: usize = 256;
 
 /// What the operators leave of some rows, in order.
 ///
-/// The rows and the workers are halved, and one half goes to a thread of its own, until there is one worker for each
-/// part or the rows are few.
-#[cycle(halving)]
+/// A piece of the rows for each worker goes to a thread of its own, one after the other, where the pieces are not too small.
+#[cycle(sharing)]
 pub(crate) fn worked_by<R: Threads + Sync>(
     rt: &R,
     alloc: Global,
@@ -30,31 +29,31 @@ pub(crate) fn worked_by<R: Threads + Sync>(
     requires rows { CanChain operators.now (rows_of rows) }
     ensures { WorksAll operators.now (rows_of rows) result }
 {
-    if workers < 2 || rows.len() < HALVED {
+    let pieces = workers.min(rows.len() / FEW);
+    if pieces < 2 {
         return work_rows(alloc, operators, rows);
     }
-    let (first, second) = halves(rows)?;
-    let low = workers / 2;
-    let high = workers - low;
+    let (first, second) = cut(rows, pieces)?;
+    let others = pieces - 1;
     let front = move || -> Result<Vec<PRow>, EvalFault>
-        requires { IsSync R.row × CanChain operators.now (rows_of first) }
+        requires { CanChain operators.now (rows_of first) }
         ensures { WorksAll operators.entry.now (rows_of first) result }
-    { worked_by(rt, alloc, low, operators, first) };
+    { work_rows(alloc, operators, first) };
     let back = move || -> Result<Vec<PRow>, EvalFault>
         requires { IsSync R.row × CanChain operators.now (rows_of second) }
         ensures { WorksAll operators.entry.now (rows_of second) result }
-    { worked_by(rt, alloc, high, operators, second) };
+    { worked_by(rt, alloc, others, operators, second) };
     let (a, b) = join(rt, front, back);
     put_together(a, b)
 }
 
-// The first half of the rows, and the others.
-fn halves(rows: Vec<PRow>) -> Result<(Vec<PRow>, Vec<PRow>), NoMemory>
+// The rows of the first of so many pieces, and the others.
+fn cut(rows: Vec<PRow>, pieces: usize) -> Result<(Vec<PRow>, Vec<PRow>), NoMemory>
+    requires { 0 < pieces }
     ensures { IfOk result (λ v. rows.items ≡ v.0.items ++ v.1.items) }
 {
     let mut rows = rows;
-    let middle = rows.len() / 2;
-    let more = rows.split_off(middle)?;
+    let more = rows.split_off(rows.len() / pieces)?;
     Ok((rows, more))
 }
 

@@ -1,12 +1,14 @@
 -- What the answers of all workers say, taken together.
-use Rattle.std.proofs.Common.{◌≡◌, ℕ, zero, suc, ◌+◌, ◌*◌, ◌<◌, ◌≤◌, Bool, true, true≢false, List, [], ◌∷◌, ◌++◌, map, length, get_or, All, Result, Ok, Err, Vec, Global, sym, refl, ap, ◌∙◌, subst, arith}
+use Rattle.std.proofs.Common.{◌≡◌, ℕ, zero, suc, ◌+◌, ◌*◌, ◌<◌, ◌≤◌, Bool, true, true≢false, ⊎_elim, MatchResult, List, [], ◌∷◌, ◌++◌, map, length, get_or, All, Result, Ok, Err, Vec, Global, sym, refl, ap, ◌∙◌, subst, arith}
 use mathlib.Core.List.{map-append}
+use Rattle.std.proofs.lemmas.List.{get_or_at, length_push}
 use Rattle.std.proofs.lemmas.List.Elements.{All-nil, All-append}
 use Rattle.std.specs.Fork.{slice_chunk}
 use Rattle.au_board.specs.Views.{BoardView, PassView, AreOf, all_drawn, number_ended}
 use Rattle.au_expr.specs.declared.fault.EvalFault.{EvalFault}
 use Rattle.au_expr.specs.declared.fault.EvalFault.TheVariants as fault
-use Rattle.au_par.specs.States.{Drew, AllDrew, passes_in, states_in, none_failed, some_overflowed, StandInOrder}
+use Rattle.au_par.specs.Joined.{Behind}
+use Rattle.au_par.specs.States.{Drew, AllDrew, NoneDrew, passes_in, states_in, none_failed, some_overflowed, StandInOrder}
 
 abbrev Gain : Type 0 → Type 0
 Gain S = Result (PassView × Vec (ℕ × S) Global) EvalFault
@@ -24,6 +26,23 @@ module _ {T S : Type 0} (stands : S → List T → Type 0) (overflows : List T �
     subst (λ (n : ℕ). D n answer) (omega arith) (each zero answer (omega arith)),
     one_by_one (k + 1) answers (λ i d below. subst (λ (n : ℕ). D n (get_or answers i d)) (omega arith) (each (suc i) d (omega arith))),
   )
+
+  drew_push : (k : ℕ) (answers : List (Gain S)) (answer : Gain S) → Ds k answers → D (k + length answers) answer → Ds k (answers ++ answer ∷ [])
+  drew_push k [] answer all drew = (subst (λ (n : ℕ). D n answer) (omega arith) drew, tt)
+  drew_push k (a ∷ answers) answer all drew = (all.0, drew_push (k + 1) answers answer all.1 (subst (λ (n : ℕ). D n answer) (omega arith) drew))
+
+  -- what each of so many workers gives
+  abbrev pub Given : ℕ → Result (Vec (Gain S) Global) EvalFault → Type 0
+  Given count answers = MatchResult answers (λ v. (length v.items ≡ count) × Ds 0 v.items) (λ f. f ≡ fault.NoMemory)
+
+  -- what one worker gives, behind what the workers before it give
+  pub given_behind : (count : ℕ) (others all : Result (Vec (Gain S) Global) EvalFault) (answer : Gain S) → Given count others → D count answer → Behind others answer all → Given (count + 1) all
+  given_behind count others (Ok v) answer given drew put =
+      let first : Given count (Ok put.0) = subst (Given count) put.1 given in
+      let long = ap length put.2 ∙ length_push put.0.items answer in
+      let number : count ≡ 0 + length put.0.items = omega (arith, first.0) in
+      (omega (arith, long, first.0), subst (Ds 0) (sym put.2) (drew_push 0 put.0.items answer first.1 (subst (λ (n : ℕ). D n answer) number drew)))
+  given_behind count others (Err f) answer given drew put = ⊎_elim (λ want. want) (λ is. subst (Given count) is given) put
 
   pub an_overflow : (k : ℕ) (answers : List (Gain S)) → Ds k answers → some_overflowed answers ≡ true → overflows rows ≡ true
   an_overflow k [] all over = absurd (true≢false (sym over))
@@ -86,3 +105,10 @@ module _ {T S : Type 0} (stands : S → List T → Type 0) (overflows : List T �
             (λ i d below. all (suc i) d (omega arith))
             (subst (λ (n : ℕ). length rows ≤ n * size) (omega arith) enough),
       )
+
+-- the number of the last of the passes
+pub last_number : (board : BoardView) (others : List PassView) (pass : PassView) (passes : List PassView) → passes ≡ others ++ pass ∷ [] → NoneDrew board passes → pass.number ≡ length others
+last_number board others pass passes is none =
+    let n = length others in
+    let long : n < length passes = let l = ap length is ∙ length_push others pass in omega arith in
+    ap (λ (p : PassView). p.number) (sym (get_or_at others pass [] pass n refl) ∙ sym (ap (λ ps. get_or ps n pass) is) ∙ none n pass long)

@@ -3,7 +3,7 @@ use Rattle.std.specs.Prelude.{◌≡◌, ℕ, ◌+◌, ◌*◌, ◌<◌, ◌≤�
 use Rattle.std.specs.declared.alloc.Global.{Global}
 use Rattle.std.specs.Fork.{slice_chunk}
 use Rattle.std.specs.List.{All}
-use Rattle.au_board.specs.Views.{BoardView, PassView}
+use Rattle.au_board.specs.Views.{BoardView, PassView, fresh}
 use Rattle.au_expr.specs.declared.fault.EvalFault.{EvalFault}
 use Rattle.au_expr.specs.declared.fault.EvalFault.TheVariants as fault
 
@@ -21,6 +21,10 @@ module _ {T S : Type 0} where
   abbrev pub StandInOrder : (S → List T → Type 0) → List T → ℕ → ℕ → List (ℕ × S) → Type 0
   StandInOrder stands rows size k [] = length rows ≤ k * size
   StandInOrder stands rows size k (state ∷ states) = stands state.1 (slice_chunk rows size k) × StandInOrder stands rows size (k + 1) states
+
+-- the passes from number 0 on, none of which has drawn a piece
+abbrev pub NoneDrew : BoardView → List PassView → Type 0
+NoneDrew board passes = (i : ℕ) (d : PassView) → i < length passes → slice_index_or passes i d ≡ fresh board i
 
 -- a pass drew until the end, and there is a state for each piece that it drew
 pub record HasDrawn {T S : Type 0} (stands : S → List T → Type 0) (rows : List T) (size : ℕ) (board : BoardView) (number : ℕ) (pass : PassView) (states : List (ℕ × S)) : Type 0 where

@@ -3,9 +3,11 @@ ghost use Rattle.std.specs.Prelude.{◌≡◌, ℕ, ◌+◌, ◌*◌, ◌^◌, �
 ghost use Rattle.std.specs.Fork.{slice_chunk};
 ghost use Rattle.std.specs.Int.{div_ceil};
 ghost use Rattle.std.specs.List.{All};
-ghost use Rattle.au_board.specs.Views.{AreFresh, fresh};
+ghost use Rattle.au_board.specs.Views.{fresh};
 ghost use Rattle.au_expr.specs.declared.fault.EvalFault.TheVariants as fault;
-ghost use Rattle.au_par.specs.States.{StandsOrOverflows, Drew, AllDrew, Collects, StandInOrder};
+ghost use Rattle.au_par.specs.Joined.{Behind};
+ghost use Rattle.au_par.specs.States.{NoneDrew, StandsOrOverflows, Drew, AllDrew, Collects, StandInOrder};
+ghost use denote.Param.Send.{IsSync, IsSend};
 
 use crate::gate::Gate;
 use crate::merging::{in_order, merged};
@@ -13,8 +15,7 @@ use crate::partial::Partial;
 use au_board::{Board, Pass};
 use au_expr::EvalFault;
 use std::alloc::Global;
-use std::thread;
-use std::thread::Threads;
+use std::thread::{Threads, join};
 
 /// A state that stands for all rows.
 ///
@@ -58,7 +59,8 @@ pub fn by_drawing<
     merged(alloc, rows, piece, states, work)
 }
 
-// What each of the workers gives that draw at the same time.
+// What each of the workers gives that draw at the same time. They go to threads one after the other, the last excepted.
+#[cycle(starting)]
 fn all_drawn<R: Threads + Sync, T: Sync, S: Send + Drop, W: Partial<T, S> + Sync, G: Gate + Sync>(
     rt: &R,
     alloc: Global,
@@ -70,16 +72,37 @@ fn all_drawn<R: Threads + Sync, T: Sync, S: Send + Drop, W: Partial<T, S> + Sync
     gate: &G,
 ) -> Result<Vec<Result<(Pass, Vec<(usize, S)>), EvalFault>>, EvalFault>
     requires pieces { (1 ≤ size) × (board.now.pieces ≡ div_ceil (length rows.now) size) }
-    requires passes { AreFresh board.now passes.items }
+    requires passes { NoneDrew board.now passes.items }
     requires rows { All (W.takes work.now) rows.now }
-    ensures { MatchResult result (λ v. (length v.items ≡ board.now.passes) × AllDrew (W.stands_for work.now) (W.overflows work.now) rows.now size board.now 0 v.items) (λ f. f ≡ fault.NoMemory) }
+    ensures { MatchResult result (λ v. (length v.items ≡ length passes.items) × AllDrew (W.stands_for work.now) (W.overflows work.now) rows.now size board.now 0 v.items) (λ f. f ≡ fault.NoMemory) }
 {
-    let one = |pass: Pass| -> Result<(Pass, Vec<(usize, S)>), EvalFault>
-        requires { (pass ≡ fresh board.now pass.number) × (1 ≤ size) × (board.now.pieces ≡ div_ceil (length rows.now) size) × All (W.takes work.now) rows.now }
+    let mut passes = passes;
+    let Some(pass) = passes.pop() else {
+        return Ok(Vec::new(alloc));
+    };
+    if passes.is_empty() {
+        let answer = drawn(alloc, board, pass, rows, size, work, gate);
+        return behind(Ok(Vec::new(alloc)), answer);
+    }
+    let front = move || -> Result<(Pass, Vec<(usize, S)>), EvalFault>
+        requires { IsSync T.row × IsSend S.row × IsSync W.row × IsSync G.row × (pass ≡ fresh board.now pass.number) × (1 ≤ size) × (board.now.pieces ≡ div_ceil (length rows.now) size) × All (W.takes work.now) rows.now }
         ensures { Drew (W.stands_for work.entry.now) (W.overflows work.entry.now) rows.entry.now size board.entry.now pass.number result }
     { drawn(alloc, board, pass, rows, size, work, gate) };
-    match thread::map_vec(rt, passes, &one) {
-        Ok(answers) => Ok(answers),
+    let back = move || -> Result<Vec<Result<(Pass, Vec<(usize, S)>), EvalFault>>, EvalFault>
+        requires { IsSync R.row × IsSync T.row × IsSend S.row × IsSync W.row × IsSync G.row × NoneDrew board.now passes.items × (1 ≤ size) × (board.now.pieces ≡ div_ceil (length rows.now) size) × All (W.takes work.now) rows.now }
+        ensures { MatchResult result (λ v. (length v.items ≡ length passes.items) × AllDrew (W.stands_for work.entry.now) (W.overflows work.entry.now) rows.entry.now size board.entry.now 0 v.items) (λ f. f ≡ fault.NoMemory) }
+    { all_drawn(rt, alloc, board, passes, rows, size, work, gate) };
+    let (answer, answers) = join(rt, front, back);
+    behind(answers, answer)
+}
+
+// What one worker gives, behind what the others give.
+fn behind<X: Drop>(answers: Result<Vec<X>, EvalFault>, answer: X) -> Result<Vec<X>, EvalFault>
+    ensures { Behind answers answer result }
+{
+    let mut answers = answers?;
+    match answers.push(answer) {
+        Ok(()) => Ok(answers),
         Err(_) => Err(EvalFault::NoMemory),
     }
 }

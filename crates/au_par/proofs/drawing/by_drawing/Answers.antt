@@ -14,14 +14,14 @@ in_order-states-requires-clause-passes g c =
     let all = c.in-Ok-collected.ensures in
     let drew = c.in_ok-answers.ensures in
     subst (AreOf c.in-Ok.board) (sym all.0)
-    (passes_of (g.W.Partial.stands_for c.args.work.now) (g.W.Partial.overflows c.args.work.now) c.args.rows.now c.args.piece c.in-Ok.board c.in_ok-answers.answers.items drew.1 all.2 drew.0)
+    (passes_of (g.W.Partial.stands_for c.args.work.now) (g.W.Partial.overflows c.args.work.now) c.args.rows.now c.args.piece c.in-Ok.board c.in_ok-answers.answers.items drew.1 all.2 (drew.0 ∙ c.in-Ok.ensures.passes.all))
 
 pub in_order-states-requires-clause-ended : goal.in_order-states-requires-clause-ended
 in_order-states-requires-clause-ended g c =
     let all = c.in-Ok-collected.ensures in
     let drew = c.in_ok-answers.ensures in
     let ended = ap number_ended all.0 ∙ all_ended (g.W.Partial.stands_for c.args.work.now) (g.W.Partial.overflows c.args.work.now) c.args.rows.now c.args.piece c.in-Ok.board 0 c.in_ok-answers.answers.items drew.1 all.2 in
-    let count = drew.0 in
+    let count = drew.0 ∙ c.in-Ok.ensures.passes.all in
     let workers = c.in-Ok.ensures.board.1 in
     omega arith
 

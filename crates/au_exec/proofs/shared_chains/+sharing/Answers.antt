@@ -2,7 +2,7 @@
 use Rattle.std.proofs.Common.{rules}
 use denote.Param.Send.{sendable}
 use Rattle.au_exec.proofs.HalvedRows.{can_halves, together}
-use Rattle.au_exec.proofs.shared_chains.+halving.Goals as goal
+use Rattle.au_exec.proofs.shared_chains.+sharing.Goals as goal
 
 pub join-a-requires-after_bounds : goal.join-a-requires-after_bounds
 join-a-requires-after_bounds g t c κs within =

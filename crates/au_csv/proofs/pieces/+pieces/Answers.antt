@@ -1,6 +1,6 @@
 -- The records of two pieces put together are those of the text.
 use Rattle.au_csv.proofs.Cuts.{text_records-together}
-use Rattle.au_csv.proofs.pieces.+halves.Goals as goal
+use Rattle.au_csv.proofs.pieces.+pieces.Goals as goal
 
 pub returns : goal.returns
 returns g t c =
