@@ -13,8 +13,10 @@ pub mod HalvedRows
 pub mod Overlays
 pub mod Pulling
 pub mod RangeOrder
+pub mod Rises
 pub mod KeyedRows
 pub mod RangeIndex
+pub mod Counted
 pub mod Matches
 pub mod Probing
 pub mod PairSteps

@@ -15,6 +15,7 @@ pub mod Tables
 pub mod Merging
 pub mod Ranged
 pub mod Keyed
+pub mod EndsApart
 pub mod Hashed
 pub mod Rights
 pub mod Chains

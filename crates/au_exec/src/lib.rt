@@ -3,9 +3,9 @@
 //! A [`Run`] gives the rows of a plan in the order of its meaning: [`Run::next_batch`] up to 256 at once, and [`Run::all`]
 //! all that are left. The overflow of its numbers is the only refusal beside wanting memory. Operators that work row by
 //! row are worked one after the other on each row, which moves; a join keeps its right rows, and a grouping a state for
-//! each key. Several workers share the left rows of a join that has a table or an index, the rows of a table that are
-//! grouped, and many rows of one on which operators work row by row; the plan's rows are the same for each number of
-//! workers.
+//! each key. Several workers share the left rows of a join that has a table or an index, the copying of the ends that the
+//! index holds, the rows of a table that are grouped, and many rows of one on which operators work row by row; the plan's
+//! rows are the same for each number of workers.
 //!
 //! ```text
 //! let scan = Box::new(alloc, Physical::Scan(0, 2))?;
@@ -55,6 +55,7 @@ mod pair_rows;
 mod partners;
 mod probe;
 mod pull;
+mod range_ends;
 mod right;
 mod room;
 mod rows;

@@ -109,7 +109,7 @@ fn open<R: Threads + Sync, G: Gate + Sync>(
         Physical::Overlap(bounds, e, left, right) => {
             let left = ready(rt, alloc, workers, gate, left)?;
             let right = ready(rt, alloc, workers, gate, right)?;
-            overlapping(alloc, *bounds, e, left, right)
+            overlapping(rt, alloc, workers, *bounds, e, left, right)
         }
         Physical::Union(left, right) => {
             let left = ready(rt, alloc, workers, gate, left)?;
