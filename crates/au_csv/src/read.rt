@@ -9,6 +9,9 @@ use crate::rec::Rec;
 use csv::{ByteRecord, Error, ErrorKind, ReaderBuilder, StringRecord};
 use std::alloc::Global;
 
+// Records take no fewer bytes than these mostly, so that the room that is held for them stays in proportion to the text.
+const SHORT: usize = 16;
+
 /// The records of a text: its fields stand between commas, and a field in double quotes may hold commas, ends of lines
 /// and doubled quotes. One byte order mark at the start is dropped. Records may differ in length, no record is a header,
 /// and blanks are kept.
@@ -18,12 +21,12 @@ pub fn records(alloc: Global, bytes: &[u8]) -> Result<Vec<Rec>, CsvFault>
     ensures records { IfOk result (λ rs. text_records bytes.now ≡ Ok rs.items) }
     ensures fault { IfErr result (λ e. (e ≡ CsvFault.NoMemory) ⊎ (text_records bytes.now ≡ Err e)) }
 {
+    let mut records = Vec::with_capacity(alloc, room_for(bytes))?;
     let mut reader = ReaderBuilder::new()
         .has_headers(false)
         .flexible(true)
         .from_reader(alloc, bytes);
     let mut row = ByteRecord::new(alloc);
-    let mut records = Vec::new(alloc);
     // There is at most one record more than there are bytes, and then the end.
     let turns = bytes.len() as u128 + 2;
     for _ in 0..turns {
@@ -37,6 +40,22 @@ pub fn records(alloc: Global, bytes: &[u8]) -> Result<Vec<Rec>, CsvFault>
         }
     }
     unreachable!()
+}
+
+// For how many records there should be room at once: a list that grows moves, and all threads wait for that.
+fn room_for(bytes: &[u8]) -> usize {
+    line_feeds(bytes).min(bytes.len() / SHORT).saturating_add(1)
+}
+
+// How many line feeds there are.
+fn line_feeds(bytes: &[u8]) -> usize {
+    let mut count = 0usize;
+    for byte in bytes {
+        if *byte == b'\n' {
+            count = count.wrapping_add(1);
+        }
+    }
+    count
 }
 
 // The record of these fields, which has this number.

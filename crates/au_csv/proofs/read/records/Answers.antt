@@ -42,14 +42,14 @@ loop-init c =
       ready = inr (inr (rw (f, e) at fr.has_headers, fr.headers));
       config = rw (f, e) at fr.config ∙ c.new.ensures.config;
       flexible = rw f at fr.flexible;
-      turns = rw c.new-records.ensures.items refl;
-      reached = (strip_bom c.args.bytes.now, fr.source, rw c.new-records.ensures.items (sym fr.state, refl));
-      text = rw c.new-records.ensures.items refl;
+      turns = rw c.in_ok-records.ensures.items refl;
+      reached = (strip_bom c.args.bytes.now, fr.source, rw c.in_ok-records.ensures.items (sym fr.state, refl));
+      text = rw c.in_ok-records.ensures.items refl;
     }
 
 pub returns-in_err-text_record-in-Ok-true-clause-fault : goal.returns-in_err-text_record-in-Ok-true-clause-fault
 returns-in_err-text_record-in-Ok-true-clause-fault c =
-    let p = err_from_is_err_and c.from_residual.result c.from_residual.ensures.1 in
+    let p = err_from_is_err_and c.from_residual-in_err-text_record-in-Ok-true.result c.from_residual-in_err-text_record-in-Ok-true.ensures.1 in
     let inv = c.loop.invariant in
     let read = rw c.in-Ok-true.field-0-test at (c.in-Ok-true.ensures.reads inv.trim inv.ready) in
     let row = fields_of c.read_byte_record.new.row in

@@ -1,5 +1,5 @@
 -- One field more, and no field more.
-use Rattle.std.proofs.Common.{◌≡◌, ◌∙◌, refl, sym, ap, Some, None}
+use Rattle.std.proofs.Common.{◌≡◌, ◌∙◌, sym, ap, Some, None}
 use Rattle.csv.specs.Records.{Row, field_at, fields_of}
 use Rattle.au_csv.proofs.Fields.{take-field_at, take-field_at_end}
 use Rattle.au_csv.proofs.rec.words.Goals as goal
