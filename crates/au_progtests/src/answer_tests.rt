@@ -112,8 +112,10 @@ fn agree<R: Abort + Threads + Sync>(
     Ok(())
 }
 
-// A query over two files, and one that groups a file.
+// A query over two files, of which one is small, over two large ones, and one that groups a file.
 const JOIN: &str = "SELECT a.id FROM a, b WHERE a.id = b.id|a=slices.csv|b=made.csv";
+
+const LARGE_JOIN: &str = "SELECT a.id FROM a, b WHERE a.id = b.id|a=slices.csv|b=slices.csv";
 
 const GROUPS: &str =
     "SELECT grp, COUNT(*) AS n, SUM(amount) AS total FROM t GROUP BY grp|t=slices.csv";
@@ -160,5 +162,6 @@ fn one_answer_over_slices(rt: HostRuntime) -> Result<(), Fail> {
 #[test]
 fn one_answer_by_all_workers(rt: HostRuntime) -> Result<(), Fail> {
     share(&rt, rt.alloc(), JOIN)?;
+    share(&rt, rt.alloc(), LARGE_JOIN)?;
     share(&rt, rt.alloc(), GROUPS)
 }
