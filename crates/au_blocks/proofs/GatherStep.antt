@@ -59,7 +59,7 @@ module _ (G H : Text → Gathered) (l : Text) (keeps : (m : Text) → bytes_eq l
       ]
 
 -- no record has a label that is none of theirs
-labelled-absent : (l : Text) (rows : List Record) → list_any (bytes_eq l) (map label_of rows) ≡ false → labelled l rows ≡ []
+pub labelled-absent : (l : Text) (rows : List Record) → list_any (bytes_eq l) (map label_of rows) ≡ false → labelled l rows ≡ []
 labelled-absent l [] absent = refl
 labelled-absent l (r ∷ rows) absent =
     elim (cases_Bool (bytes_eq l (label_of r))) [
@@ -69,6 +69,13 @@ labelled-absent l (r ∷ rows) absent =
           rw here (labelled-absent l rows later)
     ]
 
+-- the records of a label, one record more: of another label, and of this one
+pub labelled-other : (l : Text) (rows : List Record) (r : Record) → bytes_eq l (label_of r) ≡ false → labelled l (rows ++ r ∷ []) ≡ labelled l rows
+labelled-other l rows r other = rw other at (filter-append (λ (x : Record). bytes_eq l (label_of x)) rows (r ∷ [])) ∙ append-nil (labelled l rows)
+
+pub labelled-own : (rows : List Record) (r : Record) → labelled (label_of r) (rows ++ r ∷ []) ≡ labelled (label_of r) rows ++ r ∷ []
+labelled-own rows r = rw (itself (label_of r)) at (filter-append (λ (x : Record). bytes_eq (label_of r) (label_of x)) rows (r ∷ []))
+
 -- what is gathered under a label
 abbrev pub under : Format → List Kind → List Record → Text → Gathered
 under f kinds rows label = gathered kinds (entries_of f (labelled label rows))
@@ -76,19 +83,14 @@ under f kinds rows label = gathered kinds (entries_of f (labelled label rows))
 under-same : (f : Format) (kinds : List Kind) (rows : List Record) (r : Record) (e : BlockEntry) → block_entry_of f r ≡ Some e
     → under f kinds (rows ++ r ∷ []) (label_of r) ≡ with_entry kinds (under f kinds rows (label_of r)) e
 under-same f kinds rows r e is =
-    let records : labelled (label_of r) (rows ++ r ∷ []) ≡ labelled (label_of r) rows ++ r ∷ [] =
-    rw (itself (label_of r)) at (filter-append (λ (x : Record). bytes_eq (label_of r) (label_of x)) rows (r ∷ [])) in
     let entries : entries_of f (labelled (label_of r) (rows ++ r ∷ [])) ≡ entries_of f (labelled (label_of r) rows) ++ e ∷ [] =
-    ap (entries_of f) records ∙ filter_map-append (block_entry_of f) (labelled (label_of r) rows) (r ∷ []) ∙ ap (λ o. entries_of f (labelled (label_of r) rows) ++ cons_option o []) is in
+    ap (entries_of f) (labelled-own rows r) ∙ filter_map-append (block_entry_of f) (labelled (label_of r) rows) (r ∷ []) ∙ ap (λ o. entries_of f (labelled (label_of r) rows) ++ cons_option o []) is in
     ap (gathered kinds) entries ∙ gathered-push kinds (entries_of f (labelled (label_of r) rows)) e
 
 under-other : (f : Format) (kinds : List Kind) (rows : List Record) (r : Record) (m : Text) → bytes_eq (label_of r) m ≡ false
     → under f kinds (rows ++ r ∷ []) m ≡ under f kinds rows m
 under-other f kinds rows r m apart =
-    let no : bytes_eq m (label_of r) ≡ false = turned m (label_of r) ∙ apart in
-    let records : labelled m (rows ++ r ∷ []) ≡ labelled m rows =
-    rw no at (filter-append (λ (x : Record). bytes_eq m (label_of x)) rows (r ∷ [])) ∙ append-nil (labelled m rows) in
-    ap (λ rs. gathered kinds (entries_of f rs)) records
+    ap (λ rs. gathered kinds (entries_of f rs)) (labelled-other m rows r (turned m (label_of r) ∙ apart))
 
 -- the labels of the records so far, and what is gathered under each
 abbrev pub labels : List Record → List Text

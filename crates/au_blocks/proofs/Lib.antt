@@ -10,11 +10,14 @@ pub mod Gathering
 pub mod InferredKinds
 pub mod Judged
 pub mod LabelKeys
+mod LabelOrder
+mod LabelRuns
 pub mod MadeEntries
 pub mod MarkedColumns
 mod NearLabels
 pub mod Places
 pub mod ReadTables
 pub mod RowValues
+mod RunEntries
 pub mod TableParts
 pub mod WellFormed

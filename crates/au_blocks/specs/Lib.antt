@@ -15,3 +15,4 @@ pub mod Gathered
 pub mod Labels
 pub mod Marks
 pub mod Pieces
+pub mod Runs

@@ -17,6 +17,8 @@ use crate::fields::field;
 use crate::format::Format;
 use crate::role::Role;
 use crate::row_faults::role;
+use crate::run_pieces::runs_by;
+use crate::runs::runs;
 use au_csv::Rec;
 use au_value::{NoMemory, Word};
 use indexmap::IndexSet;
@@ -48,8 +50,28 @@ pub(crate) fn gather(
     Ok(builders)
 }
 
-// The same, where so many workers make the alternatives.
+// The same by so many workers: they make whole blocks where no label descends, and else the alternatives.
 pub(crate) fn gather_by<R: Threads + Sync>(
+    rt: &R,
+    alloc: Global,
+    workers: usize,
+    format: Format,
+    columns: &[Column],
+    rows: &[Rec],
+) -> Result<Vec<BlockBuilder>, NoMemory>
+    requires workers { 1 ≤ workers }
+    requires blocks { has_blocks format ≡ true }
+    requires roles { list_all has_role rows.now ≡ true }
+    ensures { IfOk result (λ bs. bs.items ≡ map (gathered (map (λ c. c.kind) columns.now)) (entry_blocks format rows.now)) }
+{
+    if let Some(found) = runs(alloc, rows)? {
+        return runs_by(rt, alloc, workers, format, columns, &found);
+    }
+    gather_scattered(rt, alloc, workers, format, columns, rows)
+}
+
+// The same, where the records of a label may stand anywhere: the workers make the alternatives, and one thread the blocks.
+fn gather_scattered<R: Threads + Sync>(
     rt: &R,
     alloc: Global,
     workers: usize,
@@ -152,7 +174,7 @@ fn lent_stands_at(labels: &IndexSet<&str>, label: &str, place: usize) -> bool
     }
 }
 
-// The place of the block with this label, without a guess.
+// The place of the block with this label, by its hash.
 fn place_of<K: Eq + Hash + Drop>(
     alloc: Global,
     labels: &mut IndexSet<K>,
@@ -171,7 +193,7 @@ fn place_of<K: Eq + Hash + Drop>(
 }
 
 // One entry more of a block: of a record with this role.
-fn add_entry(
+pub(crate) fn add_entry(
     alloc: Global,
     format: Format,
     columns: &[Column],

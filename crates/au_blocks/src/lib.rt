@@ -36,6 +36,8 @@ mod plain_pieces;
 mod read;
 mod role;
 mod row_faults;
+mod run_pieces;
+mod runs;
 mod schema;
 mod seen;
 mod spellings;

@@ -3,7 +3,7 @@ use Rattle.std.specs.Vec.Iter.{into_iter_items}
 use Rattle.au_blocks.specs.Labels.{lent_labels}
 use Rattle.au_blocks.specs.Pieces.{entries_in}
 use Rattle.au_blocks.proofs.GatherStep.{labels, builders}
-use Rattle.au_blocks.proofs.gather.gather_by.Given as goal
+use Rattle.au_blocks.proofs.gather.gather_scattered.Given as goal
 
 -- what the records to come add, the labels of the records so far, and what is gathered under each
 abbrev pub invariant-loop-number : goal.invariant-loop-number
