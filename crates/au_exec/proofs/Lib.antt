@@ -1,3 +1,4 @@
+pub mod CutRows
 pub mod Lists
 pub mod Handed
 pub mod Parts
@@ -9,7 +10,6 @@ pub mod NearPlaces
 pub mod Members
 pub mod NarrowSteps
 pub mod ChainSteps
-pub mod HalvedRows
 pub mod Overlays
 pub mod Pulling
 pub mod RangeOrder

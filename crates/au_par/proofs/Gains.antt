@@ -20,13 +20,6 @@ module _ {T S : Type 0} (stands : S → List T → Type 0) (overflows : List T �
   abbrev Ds : ℕ → List (Gain S) → Type 0
   Ds = AllDrew stands overflows rows size board
 
-  pub one_by_one : (k : ℕ) (answers : List (Gain S)) → ((i : ℕ) (d : Gain S) → i < length answers → D (k + i) (get_or answers i d)) → Ds k answers
-  one_by_one k [] each = tt
-  one_by_one k (answer ∷ answers) each = (
-    subst (λ (n : ℕ). D n answer) (omega arith) (each zero answer (omega arith)),
-    one_by_one (k + 1) answers (λ i d below. subst (λ (n : ℕ). D n (get_or answers i d)) (omega arith) (each (suc i) d (omega arith))),
-  )
-
   drew_push : (k : ℕ) (answers : List (Gain S)) (answer : Gain S) → Ds k answers → D (k + length answers) answer → Ds k (answers ++ answer ∷ [])
   drew_push k [] answer all drew = (subst (λ (n : ℕ). D n answer) (omega arith) drew, tt)
   drew_push k (a ∷ answers) answer all drew = (all.0, drew_push (k + 1) answers answer all.1 (subst (λ (n : ℕ). D n answer) (omega arith) drew))

@@ -1,12 +1,12 @@
--- Each half can be worked, by fewer workers, and the two answers put together are that of all rows.
+-- Each part can be worked, by fewer workers, and the two answers put together are that of all rows.
 use Rattle.std.proofs.Common.{rules}
 use denote.Param.Send.{sendable}
-use Rattle.au_exec.proofs.HalvedRows.{can_halves, together}
+use Rattle.au_exec.proofs.CutRows.{can_parts, together}
 use Rattle.au_exec.proofs.shared_chains.+sharing.Goals as goal
 
 pub join-a-requires-after_bounds : goal.join-a-requires-after_bounds
 join-a-requires-after_bounds g t c κs within =
-    let can = can_halves c.args.operators.now c.args.rows.items c.in_ok-first.first.items c.in_ok-first.second.items c.in_ok-first.ensures c.requires.rows in
+    let can = can_parts c.args.operators.now c.args.rows.items c.in_ok-first.first.items c.in_ok-first.second.items c.in_ok-first.ensures c.requires.rows in
     let left = can.0 in
     let right = can.1 in
     search (rules, sendable) depth 20

@@ -1,4 +1,4 @@
--- Rows that are halved and worked: what holds of each half, and what the two answers give, put together.
+-- Rows that are cut in two and worked: what holds of each part, and what the two answers give, put together.
 use Rattle.std.proofs.Common.{◌≡◌, ⊎_elim, Bool, true, false, ◌++◌, Result, Ok, Err, Vec, Global, sym, ap, subst, ◌∙◌, refl}
 use Rattle.std.specs.Prelude.{List, ◌&&◌}
 use Rattle.std.proofs.lemmas.List.{map-append}
@@ -21,8 +21,8 @@ module _ (os : List Operator) (rows first second : List Row) (parts : rows ≡ f
   both : cells rows ≡ cells first ++ cells second
   both = ap cells parts ∙ map-append (λ (row : Row). row.items) first second
 
-  pub can_halves : CanChain os (cells rows) → CanChain os (cells first) × CanChain os (cells second)
-  can_halves can = chain_can_apart os (cells first) (cells second) (subst (CanChain os) both can)
+  pub can_parts : CanChain os (cells rows) → CanChain os (cells first) × CanChain os (cells second)
+  can_parts can = chain_can_apart os (cells first) (cells second) (subst (CanChain os) both can)
 
   fits : chain_fit os (cells rows) ≡ chain_fit os (cells first) && chain_fit os (cells second)
   fits = ap (chain_fit os) both ∙ chain_fit_apart os (cells first) (cells second)
