@@ -1,7 +1,5 @@
 -- Each operator, over a node that stands for the operator below it.
-use Rattle.std.specs.Prelude.{◌≡◌, Bool, true, false, ◌&&◌, ℕ, ℤ, List, ◌++◌, flat_map, map, Box, Result, Vec}
-use Rattle.std.specs.Vec.Iter.{into_iter_items}
-use Rattle.std.specs.declared.vec.IntoIter.{IntoIter}
+use Rattle.std.specs.Prelude.{◌≡◌, Bool, true, false, ◌&&◌, ℕ, ℤ, List, ◌++◌, flat_map, Box, Result, Vec}
 use Rattle.std.specs.declared.alloc.Global.{Global}
 use Rattle.std.proofs.Common.{refl, sym, ◌∙◌, ap, subst}
 use Rattle.std.proofs.lemmas.List.Folds.{list_all-append}
@@ -48,11 +46,11 @@ with_true false b h = refl
 
 -- the rows of groups that were made
 pub group_stands :
-    (keys : List ℕ) (aggs : List PAgg) (of : Node) (groups : Vec Row Global) (it : IntoIter Row Global) → into_iter_items it ≡ groups.items → rows_of groups ≡ plain_group keys aggs (rows_left of)
+    (keys : List ℕ) (aggs : List PAgg) (of : Node) (groups : Vec Row Global) → rows_of groups ≡ plain_group keys aggs (rows_left of)
     → fits_left of ≡ true → Fit (group_numbers keys aggs (rows_left of))
-    → Stands (plain_group keys aggs (rows_left of)) (fits_left of && fit (group_numbers keys aggs (rows_left of))) (code.Source it)
-group_stands keys aggs of groups it held rows fits numbers = record {
-  rows = ap (map (λ (row : Row). row.items)) held ∙ rows;
+    → Stands (plain_group keys aggs (rows_left of)) (fits_left of && fit (group_numbers keys aggs (rows_left of))) (code.Held groups)
+group_stands keys aggs of groups rows fits numbers = record {
+  rows = rows;
   fits = both_true (fits_left of) (fit (group_numbers keys aggs (rows_left of))) fits numbers;
   can = tt;
 }

@@ -12,6 +12,7 @@ use Rattle.au_expr.specs.declared.fault.EvalFault.TheVariants as fault
 use Rattle.au_algebra.specs.Ordinary.{Rows}
 use Rattle.au_plain.specs.PTerms.{pterm}
 use Rattle.au_exec.specs.Chains.{CanChain, chain_fit, chain_rows}
+use Rattle.au_exec.specs.Outcomes.{rows_of}
 use Rattle.au_exec.specs.Rights.{CanMatch, joined_numbers, joined_rows}
 use Rattle.au_exec.specs.declared.node.Node.{Node}
 use Rattle.au_exec.specs.declared.node.Node.TheVariants as code
@@ -24,6 +25,7 @@ left_rows waiting rows = map (λ row. row.items) (into_iter_items waiting) ++ ro
 
 -- the rows that are still to come
 abbrev pub rows_left : Node → Rows
+rows_left (code.Held rows) = rows_of rows
 rows_left (code.Source rows) = map (λ row. row.items) (into_iter_items rows)
 rows_left (code.Chain' operators p n) = chain_rows operators.items (rows_left n)
 rows_left (code.Join' e right waiting p n) = joined_rows (pterm e) right (left_rows waiting (rows_left n))
@@ -31,6 +33,7 @@ rows_left (code.Union' p a q b) = rows_left a ++ rows_left b
 
 -- whether the numbers that are still to be evaluated lie in the range
 abbrev pub fits_left : Node → Bool
+fits_left (code.Held rows) = true
 fits_left (code.Source rows) = true
 fits_left (code.Chain' operators p n) = fits_left n && chain_fit operators.items (rows_left n)
 fits_left (code.Join' e right waiting p n) = fits_left n && fit (joined_numbers (pterm e) right (left_rows waiting (rows_left n)))
@@ -38,6 +41,7 @@ fits_left (code.Union' p a q b) = fits_left a && fits_left b
 
 -- how often it can be pulled at most
 abbrev pub work : Node → ℕ
+work (code.Held rows) = length rows.items
 work (code.Source rows) = length (into_iter_items rows)
 work (code.Chain' operators p n) = work n
 work (code.Join' e right waiting p n) = (length (into_iter_items waiting) + length (rows_left n)) + work n
@@ -45,6 +49,7 @@ work (code.Union' p a q b) = work a + work b
 
 -- each operator fits the rows that it is given
 abbrev pub CanPull : Node → Type 0
+CanPull (code.Held rows) = Unit {0}
 CanPull (code.Source rows) = Unit {0}
 CanPull (code.Chain' operators p n) = CanPull n × CanChain operators.items (rows_left n)
 CanPull (code.Join' e right waiting p n) = CanPull n × AllByRecursion (CanMatch (pterm e) right) (left_rows waiting (rows_left n))

@@ -5,7 +5,7 @@ ghost use Rattle.au_exec.specs.ChainLaws.{cells};
 ghost use Rattle.au_exec.specs.Copies.{copies_apart};
 ghost use Rattle.au_exec.specs.Outcomes.{rows_of};
 
-use crate::pair::{Pair, push_pairs, rows_within};
+use crate::pair::{Pair, pairs_of, rows_within};
 use au_expr::EvalFault;
 use au_par::{NoGate, Piece, by_left_rows};
 use au_plain::{PRow, copy_rows};
@@ -61,7 +61,5 @@ fn copied_pairs(alloc: Global, rows: &[PRow]) -> Result<Vec<Pair>, NoMemory>
     ensures { IfOk result (λ v. v.items ≡ map (λ row. row.items) rows.now) }
 {
     let copied = copy_rows(alloc, rows)?;
-    let mut pairs = Vec::with_capacity(alloc, copied.len())?;
-    push_pairs(&mut pairs, copied)?;
-    Ok(pairs)
+    pairs_of(alloc, copied)
 }

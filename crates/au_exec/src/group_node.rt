@@ -44,7 +44,7 @@ pub(crate) fn grouped_node<R: Threads + Sync, G: Gate + Sync>(
     let groups = node_groups(rt, alloc, workers, gate, keys, aggs, &mut of)?;
     let_go(rt, workers, of);
     let rows = finished(alloc, groups)?;
-    Ok(boxed(alloc, Node::Source(rows.into_iter()))?)
+    Ok(boxed(alloc, Node::Held(rows))?)
 }
 
 // The groups of all rows of a node. The left rows of a join that is probed are there at once, and the workers share them;
@@ -78,15 +78,15 @@ fn node_groups<R: Threads + Sync, G: Gate + Sync>(
 // Whether all rows of the node are there, perhaps below operators that work row by row.
 fn is_there(node: &Node) -> bool {
     match node {
-        Node::Chain(_, of) => is_source(of),
-        _ => is_source(node),
+        Node::Chain(_, of) => is_held(of),
+        _ => is_held(node),
     }
 }
 
-// Whether its own rows are there.
-fn is_source(node: &Node) -> bool {
+// Whether its own rows are there, of which none was pulled yet.
+fn is_held(node: &Node) -> bool {
     match node {
-        Node::Source(_) => true,
+        Node::Held(_) => true,
         _ => false,
     }
 }

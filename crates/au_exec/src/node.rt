@@ -7,7 +7,9 @@ use std::vec::IntoIter;
 /// A tree of operators, whose rows are pulled from the root. Its leaves are rows that are there.
 #[derive(Drop)]
 pub(crate) enum Node {
-    /// Rows that are there.
+    /// Rows that are there, of which none was pulled yet.
+    Held(Vec<PRow>),
+    /// Rows that are there, of which some were pulled.
     Source(IntoIter<PRow>),
     /// What operators that work row by row leave, the first of them working first.
     Chain(Vec<Operator>, Box<Node>),

@@ -82,7 +82,7 @@ fn open<R: Threads + Sync, G: Gate + Sync>(
         Physical::Scan(_, _) => unreachable!(),
         Physical::Rows(_, rows) => {
             let rows = mem::replace(rows, Vec::new(alloc));
-            Ok(boxed(alloc, Node::Source(rows.into_iter()))?)
+            Ok(boxed(alloc, Node::Held(rows))?)
         }
         Physical::Extend(e, of) => chained(
             rt,
