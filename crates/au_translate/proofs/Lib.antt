@@ -10,3 +10,5 @@ pub mod BoundedAnswer
 pub mod ShownCells
 mod Misread
 mod BlockPieces
+mod PlaceValues
+mod FitNumbers

@@ -27,11 +27,34 @@ pub(crate) fn ends<'a>(block: &'a Block, at: usize, cell: &'a Cell) -> (&'a Valu
     ensures least { result.0.now ≡ least_of (map (low_at at) block.now.alternatives) }
     ensures greatest { result.1.now ≡ greatest_of (map (high_at at) block.now.alternatives) }
 {
+    (least_end(block, at, cell), greatest_end(block, at, cell))
+}
+
+/// The first of them.
+pub(crate) fn least_end<'a>(block: &'a Block, at: usize, cell: &'a Cell) -> &'a Value
+    requires wide { AllByRecursion (λ a. at < length a.cells) block.now.alternatives }
+    requires cell { cell.now ≡ candidate_cell at (shown_of block.now) }
+    ensures { result.now ≡ least_of (map (low_at at) block.now.alternatives) }
+{
     let alternatives = block.alternatives();
     if alternatives.len() == 1 {
-        (cell.lo(), cell.hi())
+        cell.lo()
     } else {
-        (least(alternatives, at), greatest(alternatives, at))
+        least(alternatives, at)
+    }
+}
+
+/// The second of them.
+pub(crate) fn greatest_end<'a>(block: &'a Block, at: usize, cell: &'a Cell) -> &'a Value
+    requires wide { AllByRecursion (λ a. at < length a.cells) block.now.alternatives }
+    requires cell { cell.now ≡ candidate_cell at (shown_of block.now) }
+    ensures { result.now ≡ greatest_of (map (high_at at) block.now.alternatives) }
+{
+    let alternatives = block.alternatives();
+    if alternatives.len() == 1 {
+        cell.hi()
+    } else {
+        greatest(alternatives, at)
     }
 }
 

@@ -127,7 +127,7 @@ fn piece_rows(
 }
 
 // The rows, moved: each tells that its numbers lie in the range.
-fn fitting_rows(alloc: Global, rows: Vec<PRow>) -> Result<Vec<EncodedRow>, NoMemory>
+pub(crate) fn fitting_rows(alloc: Global, rows: Vec<PRow>) -> Result<Vec<EncodedRow>, NoMemory>
     requires { FitRows (map (λ row. row.items) rows.items) }
     ensures { IfOk result (λ v. v.items ≡ map (λ row. row.items) rows.items) }
 {
@@ -139,7 +139,7 @@ fn fitting_rows(alloc: Global, rows: Vec<PRow>) -> Result<Vec<EncodedRow>, NoMem
 }
 
 // The rows, moved.
-fn plain_rows(alloc: Global, made: Vec<EncodedRow>) -> Result<Vec<PRow>, NoMemory>
+pub(crate) fn plain_rows(alloc: Global, made: Vec<EncodedRow>) -> Result<Vec<PRow>, NoMemory>
     ensures rows { IfOk result (λ rows. map (λ row. row.items) rows.items ≡ made.items) }
     ensures fit { IfOk result (λ rows. FitRows (map (λ row. row.items) rows.items)) }
 {

@@ -1,0 +1,13 @@
+-- What is kept so far, with that of the blocks that are left, is that of all blocks, and the numbers lie in the range.
+use Rattle.std.proofs.Common.{◌≡◌, ◌++◌, drop, map}
+use Rattle.au_plain.specs.Meaning.{kept}
+use Rattle.au_plain.specs.PlanKinds.{FitRows}
+use Rattle.au_encode.specs.Encode.{encode}
+use Rattle.au_translate.specs.Translate.{bounded_blocks}
+use Rattle.au_translate.proofs.kept_places.kept_blocks.Given as goal
+
+abbrev pub invariant-loop-block : goal.invariant-loop-block
+invariant-loop-block l = record {
+  rows : map (λ row. row.items) l.rows.items ++ map (kept l.places) (encode (bounded_blocks (drop l.block-index l.blocks))) ≡ map (kept l.places) (encode (bounded_blocks l.blocks));
+  fit : FitRows (map (λ row. row.items) l.rows.items);
+}

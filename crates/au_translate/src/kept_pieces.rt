@@ -1,0 +1,108 @@
+//! The values in some places of the encoded rows of a table's blocks, made by several workers.
+ghost use Rattle.std.specs.Prelude.{◌≡◌, ◌≤◌, ◌∷◌, [], false, map, IfOk, MatchResult};
+ghost use Rattle.std.specs.List.{All};
+ghost use Rattle.std.proofs.Common.{refl};
+ghost use Rattle.au_expr.specs.declared.fault.EvalFault.TheVariants as fault;
+ghost use Rattle.au_blocks.specs.Tables.{IsBlockTable, table as table_of};
+ghost use Rattle.au_plain.specs.Meaning.{kept};
+ghost use Rattle.au_plain.specs.PlanKinds.{FitRows};
+ghost use Rattle.au_encode.specs.Encode.{encode};
+ghost use Rattle.au_translate.specs.Translate.{bounded_blocks};
+ghost use Rattle.au_translate.specs.EncodingPieces.{kept_apart};
+
+use crate::encoding_pieces::{EncodedRow, fitting_rows, plain_rows};
+use crate::kept_places::kept_blocks;
+use au_blocks::{Block, Column};
+use au_expr::EvalFault;
+use au_par::{NoGate, Piece, by_left_rows};
+use au_plain::PRow;
+use au_value::NoMemory;
+use std::alloc::Global;
+use std::thread::Threads;
+
+// What is done with each block of a table of these columns, where these places are kept.
+#[derive(Clone, Copy)]
+pub(crate) struct Keeping<'a> {
+    columns: &'a [Column],
+    places: &'a [usize],
+}
+
+impl<'a> Piece<Block, EncodedRow> for Keeping<'a> {
+    ghost takes = { λ w block. IsBlockTable (table_of w.columns.now (block ∷ [])) };
+
+    ghost results = { λ w blocks. map (kept w.places.now) (encode (bounded_blocks blocks)) };
+
+    ghost overflows = { λ _ _. false };
+
+    fn work(&self, alloc: Global, blocks: &[Block]) -> Result<Vec<EncodedRow>, EvalFault> {
+        kept_piece(alloc, self.columns, blocks, self.places)
+    }
+
+    ghost results_join = { λ w xs ys _ _. kept_apart w.places.now xs ys };
+
+    ghost overflows_join = { λ _ _ _ _ _. refl };
+
+    ghost empty_fits = { λ _. refl };
+}
+
+/// Of the encoded row of each of some blocks of a table of these columns the values in these places, in this order, in
+/// block order, made by so many workers: what is kept of the rows of [`encoded_by`](crate::encoded_by), which are not
+/// made. A column has three places, for its least value, its guess and its greatest value, and the three counts stand
+/// behind all columns; a place past them has the value 0. The pieces are told to no gate.
+///
+/// It copies each value once, and of a column of which no place is kept it reads nothing.
+pub fn encoded_places_by<R: Threads + Sync>(
+    rt: &R,
+    alloc: Global,
+    workers: usize,
+    columns: &[Column],
+    blocks: &[Block],
+    places: &[usize],
+) -> Result<Vec<PRow>, NoMemory>
+    requires workers { 1 ≤ workers }
+    requires table { IsBlockTable (table_of columns.now blocks.now) }
+    ensures rows { IfOk result (λ rows. map (λ row. row.items) rows.items ≡ map (kept places.now) (encode (bounded_blocks blocks.now))) }
+    ensures fit { IfOk result (λ rows. FitRows (map (λ row. row.items) rows.items)) }
+{
+    if workers == 1 {
+        return kept_blocks(alloc, columns, blocks, places);
+    }
+    let work = Keeping { columns, places };
+    match by_left_rows(rt, alloc, blocks, workers, &work, &NoGate) {
+        Ok(made) => plain_rows(alloc, made),
+        Err(_) => Err(NoMemory),
+    }
+}
+
+// What is kept of the encoded rows of the blocks of one piece.
+fn kept_piece(
+    alloc: Global,
+    columns: &[Column],
+    blocks: &[Block],
+    places: &[usize],
+) -> Result<Vec<EncodedRow>, EvalFault>
+    requires { All (λ block. IsBlockTable (table_of columns.now (block ∷ []))) blocks.now }
+    ensures { MatchResult result (λ v. v.items ≡ map (kept places.now) (encode (bounded_blocks blocks.now))) (λ f. f ≡ fault.NoMemory) }
+{
+    if blocks.is_empty() {
+        return Ok(Vec::new(alloc));
+    }
+    match piece_rows(alloc, columns, blocks, places) {
+        Ok(made) => Ok(made),
+        Err(NoMemory) => Err(EvalFault::NoMemory),
+    }
+}
+
+// The same of blocks of a table.
+fn piece_rows(
+    alloc: Global,
+    columns: &[Column],
+    blocks: &[Block],
+    places: &[usize],
+) -> Result<Vec<EncodedRow>, NoMemory>
+    requires { IsBlockTable (table_of columns.now blocks.now) }
+    ensures { IfOk result (λ v. v.items ≡ map (kept places.now) (encode (bounded_blocks blocks.now))) }
+{
+    let rows = kept_blocks(alloc, columns, blocks, places)?;
+    fitting_rows(alloc, rows)
+}

@@ -1,0 +1,132 @@
+//! The values in some places of the encoded rows of a block table. The rows themselves are not made.
+ghost use Rattle.std.specs.Prelude.{◌≡◌, ◌<◌, ◌++◌, ◌∷◌, [], IsTrue, IfOk, OnOk, List, Some, length, map, slice_get, true, unwrap_or};
+ghost use Rattle.std.specs.List.{AllByRecursion, list_all};
+ghost use Rattle.au_value.specs.declared.kinds.Kind.{Kind};
+ghost use Rattle.au_expr.specs.Figures.{fit};
+ghost use Rattle.au_expr.specs.Numbers.{number_if_any};
+ghost use Rattle.au_blocks.specs.Tables.{IsBlockTable, fits_kinds, table};
+ghost use Rattle.au_algebra.specs.Entries.{entry};
+ghost use Rattle.au_algebra.specs.Lists.{value_at};
+ghost use Rattle.au_plain.specs.Meaning.{kept};
+ghost use Rattle.au_plain.specs.PlanKinds.{FitRows, row_fits};
+ghost use Rattle.au_encode.specs.Encode.{encode, encode_cells, encode_counts, encode_row};
+ghost use Rattle.au_translate.specs.Translate.{bounded_blocks, candidate_cell, ranges_of, shown as shown_of, span_in};
+
+use crate::bounds::{greatest_end, least_end, shown, triple};
+use au_annot::{Annot, Count, Triple};
+use au_blocks::{Block, Cell, Column};
+use au_plain::PRow;
+use au_value::{NoMemory, Value, copy};
+use std::alloc::Global;
+
+/// The values in these places of the encoded rows of some blocks of a table of these columns, in block order.
+///
+/// It copies each value once, and of a column of which no place is kept it reads nothing.
+pub(crate) fn kept_blocks(
+    alloc: Global,
+    columns: &[Column],
+    blocks: &[Block],
+    places: &[usize],
+) -> Result<Vec<PRow>, NoMemory>
+    requires { IsBlockTable (table columns.now blocks.now) }
+    ensures rows { IfOk result (λ rows. map (λ row. row.items) rows.items ≡ map (kept places.now) (encode (bounded_blocks blocks.now))) }
+    ensures fit { IfOk result (λ rows. FitRows (map (λ row. row.items) rows.items)) }
+{
+    let mut rows = Vec::with_capacity(alloc, blocks.len())?;
+    for block in blocks {
+        push_kept(alloc, &mut rows, block, places)?;
+    }
+    Ok(rows)
+}
+
+// What is kept of a block's row behind the others, unless it has no copies in any world.
+fn push_kept(
+    alloc: Global,
+    rows: &mut Vec<PRow>,
+    block: &Block,
+    places: &[usize],
+) -> Result<(), NoMemory>
+    requires { (ks : List Kind) × IsTrue (list_all (λ a. fits_kinds ks a.cells) block.now.alternatives) }
+    ensures rows { OnOk result (map (λ row. row.items) rows.new.items ≡ map (λ row. row.items) rows.old.items ++ map (kept places.now) (encode (bounded_blocks (block.now ∷ [])))) }
+    ensures fit { OnOk result (FitRows (map (λ row. row.items) rows.old.items) → FitRows (map (λ row. row.items) rows.new.items)) }
+{
+    let triple = triple(block);
+    if triple.most().get() == 0 {
+        return Ok(());
+    }
+    rows.push(kept_row(alloc, block, triple, places)?)?;
+    Ok(())
+}
+
+// The values in these places of the encoded row of a block's ranges with a triple.
+fn kept_row(
+    alloc: Global,
+    block: &Block,
+    triple: Triple,
+    places: &[usize],
+) -> Result<PRow, NoMemory>
+    requires { (ks : List Kind) × IsTrue (list_all (λ a. fits_kinds ks a.cells) block.now.alternatives) }
+    ensures row { IfOk result (λ row. row.items ≡ kept places.now (encode_row (entry (ranges_of block.now) triple))) }
+    ensures fits { IfOk result (λ row. row_fits row.items ≡ true) }
+{
+    let cells = shown(block);
+    let mut row = Vec::with_capacity(alloc, places.len())?;
+    for place in places {
+        row.push_reserved(value_in(block, cells, triple, *place)?);
+    }
+    Ok(row)
+}
+
+// The value in a place of that row, of which these cells are shown: three for each cell, then the counts, and 0 past them.
+fn value_in(block: &Block, cells: &[Cell], triple: Triple, place: usize) -> Result<Value, NoMemory>
+    requires kinds { (ks : List Kind) × IsTrue (list_all (λ a. fits_kinds ks a.cells) block.now.alternatives) }
+    requires cells { cells.now ≡ (shown_of block.now).cells }
+    requires place { slice_get block.now.alternatives (unwrap_or block.now.guess 0) ≡ Some (shown_of block.now) }
+    ensures value { IfOk result (λ v. v ≡ value_at (encode_row (entry (ranges_of block.now) triple)) place) }
+    ensures fits { IfOk result (λ v. fit (number_if_any v) ≡ true) }
+{
+    let at = place / 3;
+    if at < cells.len() {
+        return copied(part(block, at, &cells[at], place % 3));
+    }
+    Ok(count_at(triple, place - 3 * cells.len()))
+}
+
+// The least value, the guess or the greatest value in a column of a block, of which the row that is shown has this cell.
+fn part<'a>(block: &'a Block, at: usize, cell: &'a Cell, number: usize) -> &'a Value
+    requires wide { AllByRecursion (λ a. at < length a.cells) block.now.alternatives }
+    requires cell { cell.now ≡ candidate_cell at (shown_of block.now) }
+    requires number { number < 3 }
+    ensures { result.now ≡ value_at (encode_cells (span_in block.now.alternatives at cell.now.sg ∷ [])) number }
+{
+    match number {
+        0 => least_end(block, at, cell),
+        1 => cell.sg(),
+        _ => greatest_end(block, at, cell),
+    }
+}
+
+// The least count, the guess or the most of a triple, and 0 past them.
+fn count_at(triple: Triple, number: usize) -> Value
+    ensures value { result ≡ value_at (encode_counts triple) number }
+    ensures fits { fit (number_if_any result) ≡ true }
+{
+    let count = match number {
+        0 => triple.least(),
+        1 => triple.guess(),
+        2 => triple.most(),
+        _ => Count::zero(),
+    };
+    Value::Int(count.get() as i128)
+}
+
+// A copy of a value. Its number, if it is one, lies in the range of its type.
+fn copied(value: &Value) -> Result<Value, NoMemory>
+    ensures value { IfOk result (λ v. v ≡ value.now) }
+    ensures fits { IfOk result (λ v. fit (number_if_any v) ≡ true) }
+{
+    match value {
+        Value::Int(n) => Ok(Value::Int(*n)),
+        Value::Text(_) | Value::Flag(_) => copy(value),
+    }
+}
