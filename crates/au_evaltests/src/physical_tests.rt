@@ -13,7 +13,7 @@ use au_exec::{Batch, Run};
 use au_expr::EvalFault;
 use au_par::NoGate;
 use au_plain::{PRow, Plan};
-use au_plan::{Physical, improve};
+use au_plan::{Physical, improve, narrow_scans};
 use au_sqltext::read_plan;
 use au_value::NoMemory;
 use std::alloc::{AllocError, Global};
@@ -74,6 +74,23 @@ impl Call for Chosen {
         let chosen = improve(alloc, read_plan(alloc, given)?)?;
         let mut text = String::new(alloc);
         push_operators(alloc, &mut text, &chosen)?;
+        Ok(text)
+    }
+}
+
+// The places that are kept of table 0, and the plan that scans it so.
+struct Narrowed;
+
+impl Call for Narrowed {
+    fn outcome(
+        _rt: &(impl Abort + Threads + Sync),
+        alloc: Global,
+        given: &str,
+    ) -> Result<String, Fail> {
+        let mut plan = improve(alloc, read_plan(alloc, given)?)?;
+        let places = narrow_scans(alloc, &mut plan, 0)?;
+        let mut text = format!(in alloc; "{places:?} ")?;
+        push_operators(alloc, &mut text, &plan)?;
         Ok(text)
     }
 }
@@ -212,6 +229,16 @@ SELECT * FROM (SELECT x.c0 AS c0, x.c1 AS c1, x.c2 AS c2, x.c3 AS c3, x.c4 AS c4
 SELECT c0 AS c0, SUM(c1) AS c1 FROM (SELECT c0, c1 FROM t0) x GROUP BY c0 -> group [0] [Sum(1)](t0)
 SELECT * FROM (VALUES (5, TRUE), (-3, FALSE)) x(c0, c1) -> rows";
 
+// All Scans of table 0 stand below a Keep of the same places, or else they stay.
+const NARROWED: &str =
+    "SELECT c2 AS c0, c0 AS c1 FROM (SELECT c0, c1, c2 FROM t0) x -> Some([2, 0]) t0
+SELECT c0, c1, c2 FROM t0 -> None t0
+SELECT c2 AS c0 FROM (SELECT c0, c1, c2 FROM t1) x -> None keep [2](t1)
+(SELECT c1 AS c0 FROM (SELECT c0, c1 FROM t0) x) UNION ALL (SELECT c1 AS c0 FROM (SELECT c0, c1 FROM t0) x) -> Some([1]) union(t0, t0)
+(SELECT c0 AS c0 FROM (SELECT c0, c1 FROM t0) x) UNION ALL (SELECT c1 AS c0 FROM (SELECT c0, c1 FROM t0) x) -> None union(keep [0](t0), keep [1](t0))
+(SELECT c0 AS c0 FROM (SELECT c0 FROM t1) x) UNION ALL (SELECT c1 AS c0 FROM (SELECT c0, c1 FROM t0) x) -> Some([1]) union(t1, t0)
+(SELECT c1 AS c0 FROM (SELECT c0, c1 FROM t0) x) UNION ALL (SELECT c0 FROM t0) -> None union(keep [1](t0), t0)";
+
 // Joins by equal columns, with what is left of the condition; by ranges that overlap; and of each pair.
 pub(crate) const JOINS: &str =
     "SELECT x.c0 AS c0, x.c1 AS c1, x.c2 AS c2, y.c0 AS c3, y.c1 AS c4, y.c2 AS c5 FROM (SELECT c0, c1, c2 FROM t0) x, (SELECT c0, c1, c2 FROM t0) y WHERE (x.c0 = y.c0) |  -> 
@@ -328,6 +355,11 @@ SELECT x.c0 AS c0, x.c1 AS c1, x.c2 AS c2, y.c0 AS c3, y.c1 AS c4, y.c2 AS c5 FR
 #[test]
 fn chosen_operators(rt: HostRuntime) -> Result<(), Fail> {
     judge::<Chosen>(&rt, rt.alloc(), CHOSEN)
+}
+
+#[test]
+fn scans_of_kept_columns(rt: HostRuntime) -> Result<(), Fail> {
+    judge::<Narrowed>(&rt, rt.alloc(), NARROWED)
 }
 
 #[test]

@@ -6,4 +6,6 @@ pub mod Separations
 pub mod Joining
 pub mod Passes
 pub mod Making
+pub mod KeptKinds
+pub mod NarrowedScans
 mod Literal
