@@ -18,9 +18,7 @@ use Rattle.au_algebra.specs.Laws.{IsRangeRow, IsRelation}
 use Rattle.au_algebra.specs.Lists.{copies}
 use Rattle.au_algebra.specs.Ordinary.{Rows}
 use Rattle.au_algebra.proofs.Occurring.{same_map}
-use Rattle.au_plain.specs.PlanKinds.{FitRows}
 use Rattle.au_plain.specs.Plans.{PlanTree, Scan}
-use Rattle.au_plain.proofs.Held.{RowFits}
 use Rattle.au_plan.proofs.UpToOrder.{all_same, same_filter}
 use Rattle.au_encode.specs.Encode.{AreEncoded, IsEncoded, decode, decode_row, encode, encode_row}
 use Rattle.au_encode.proofs.Decoded.{rows_back, rows_encoded}
@@ -47,12 +45,12 @@ found_encoded held p c found can finds =
     let rows = can.1.0 in
     let ns = can.1.1.0 in
     let a = can.1.1.1 in
-    let relation = adds_relation held p c ks rows ns a in
-    all_same (IsEncoded c) found (encode rows) (finds ks rows ns a).0 (rows_encoded ks c rows relation (have_columns ks c rows a.columns relation))
+    let relation = adds_relation held p c ks rows ns a finds.0 in
+    all_same (IsEncoded c) found (encode rows) (finds.1 ks rows ns a) (rows_encoded ks c rows relation (have_columns ks c rows a.columns relation))
 
 -- and decode to the relation
 pub decodes : (held : List Rows) (p : PlanTree) (c : ℕ) (found : Rows) (rel : Bounded) → rel ≡ decode c found → FindsRows held p c found → Decodes held p c rel
-decodes held p c found rel is finds ks rows ns a = (found, (is, (finds ks rows ns a).0))
+decodes held p c found rel is finds = (finds.0, λ ks rows ns a. (found, (is, finds.1 ks rows ns a)))
 
 -- ---- a relation whose rows are those of another one
 
@@ -117,12 +115,12 @@ module _ (c : ℕ) (rel rows : Bounded) (ks : List Kind) (long : length ks ≡ c
 
 -- the Scan of its encoded rows
 pub relation_adds :
-    (rel : Bounded) (c : ℕ) (held : Rows) (old new : List Rows) (p : PlanTree) (d : ℕ) → held ≡ encode rel → FitRows held → new ≡ old ++ held ∷ [] → d ≡ c → p ≡ Scan (length old) (3 * c + 3) →
+    (rel : Bounded) (c : ℕ) (held : Rows) (old new : List Rows) (p : PlanTree) (d : ℕ) → held ≡ encode rel → new ≡ old ++ held ∷ [] → d ≡ c → p ≡ Scan (length old) (3 * c + 3) →
     AddsRelation rel c old new p d
-relation_adds rel c held old new p d is fits behind wide scan ks rows long relation same =
+relation_adds rel c held old new p d is behind wide scan ks rows long relation same =
     let from_held : SameRows held (encode rows) = λ v. ap (copies v) is ∙ same v in
     subst (λ n. Adds old new p n ks rows []) (sym wide)
-    (scan_adds old new held behind c ks rows long relation (all_same RowFits (encode rows) held (λ v. sym (from_held v)) fits) from_held p scan [])
+    (scan_adds old new held behind c ks rows long relation from_held p scan [])
 
 -- the pairs of two
 pub pairs_adds :
@@ -220,10 +218,10 @@ module _ (lefts : List Rows) (p : PlanTree) (m : ℕ) (rights : List Rows) (q : 
   sides ks js xs ys ms ns a b = record {
     left_columns = a.columns;
     right_columns = b.columns;
-    left_relation = adds_relation lefts p m ks xs ms a;
-    right_relation = adds_relation rights q n js ys ns b;
-    left_rows = of_left ks xs ms a;
-    right_rows = of_right js ys ns b;
+    left_relation = adds_relation lefts p m ks xs ms a of_left.0;
+    right_relation = adds_relation rights q n js ys ns b of_right.0;
+    left_rows = of_left.1 ks xs ms a;
+    right_rows = of_right.1 js ys ns b;
   }
 
   pub have_sides : CanRunPlan lefts p m → CanRunPlan rights q n → HaveSides left m right n

@@ -11,6 +11,7 @@ mod OrderedRows
 mod OtherTables
 pub mod PairTables
 mod PlainRuns
+mod ReadRows
 mod PlanRuns
 mod PlanSteps
 mod PositiveTrees

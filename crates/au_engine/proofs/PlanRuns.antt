@@ -70,8 +70,8 @@ module _ (how : Option ℕ) (combined : Bool) (ts : List Named) (q : Tree) (type
         record {
           kinds = k.0;
           columns = a.columns;
-          relation = adds_relation held p d k.0 (shown_rows combined rows) own a;
-          same = (finds k.0 (shown_rows combined rows) own a).0;
+          relation = adds_relation held p d k.0 (shown_rows combined rows) own a finds.0;
+          same = finds.1 k.0 (shown_rows combined rows) own a;
         }
 
     pub shown_leaves : LeavesRange held p d → tree_asked_fits how combined ts q ≡ false

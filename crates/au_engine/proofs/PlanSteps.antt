@@ -61,7 +61,7 @@ module _ (how : Option ℕ) (ts : List BlockTable) where
   pub moved_adds :
       (q : Tree) (held : List Rows) (p : PlanTree) (c : ℕ) (old new : List Rows) (r : PlanTree) (d : ℕ) → AddsTree how ts q [] held p c → Materializes held p c old new r d →
       AddsTree how ts q old new r d
-  moved_adds q held p c old new r d part moves ks e = moves ks (tree_rows how q here) (tree_numbers how q here) (part ks e)
+  moved_adds q held p c old new r d part moves ks e = moves.1 ks (tree_rows how q here) (tree_numbers how q here) (part ks e)
 
   -- what is grouped, and the left side of a difference, is typed
   pub grouped_typed : (keys : ℕ) (aggs : List Agg) (q : Tree) → IsTyped kinds (Group keys aggs q) → IsTyped kinds q
@@ -121,7 +121,7 @@ module _ (how : Option ℕ) (ts : List BlockTable) where
         let xs = tree_rows how a here in
         let ms = tree_numbers how a here in
         difference_part how kinds here a b (Adds old mid) (Adds mid new) (Adds old new) (counts_adds old mid) (counts_adds mid new) (two_more old mid new) left right made m n d of_right
-        (λ ks e. let first = of_left ks e in (moves ks xs ms first, adds_relation held of c ks xs ms first))
+        (λ ks e. let first = of_left ks e in (moves.1 ks xs ms first, adds_relation held of c ks xs ms first moves.0))
         wide step
 
 -- all pairs of two sides

@@ -37,8 +37,8 @@ module _ (q : Tree) (t : BlockTable) (typed : IsTyped (column_kinds t ∷ []) (o
   slice_found rel decodes =
       let k = typed_kinds (column_kinds t ∷ []) (over_one q) typed in
       let a = part k.0 k.1 in
-      let d = decodes k.0 rows (slice_numbers q t.blocks) a in
-      let relation = adds_relation held p c k.0 rows (slice_numbers q t.blocks) a in
+      let d = decodes.1 k.0 rows (slice_numbers q t.blocks) a in
+      let relation = adds_relation held p c k.0 rows (slice_numbers q t.blocks) a decodes.0 in
       ap normal d.1.0
       ∙ normal_same c d.0 (encode rows) d.1.1
       ∙ ap normal (rows_back c rows (have_columns k.0 c rows a.columns relation))

@@ -21,6 +21,7 @@ use Rattle.au_physical.specs.Physicals.{PhysicalTree}
 use Rattle.au_plan.proofs.UpToOrder.{all_same}
 use Rattle.au_encode.specs.Encode.{encode, encoded_kinds}
 use Rattle.au_encode.specs.Gives.{Gives}
+use Rattle.au_engine.specs.Inputs.{StandsReady}
 use Rattle.au_engine.specs.Stages.{Adds, CanRunPlan, FindsRows, GivesOver, LeavesRange, SameRows}
 use Rattle.au_engine.proofs.HeldRows.{physical_fit}
 use Rattle.au_engine.proofs.OtherTables.{numbers_fit, rows_same}
@@ -36,65 +37,72 @@ same_kinds (ks ∷ kinds) [] (t ∷ tables) s h = elim s [ ]
 same_kinds (ks ∷ kinds) (x ∷ held) [] s h = elim s [ ]
 same_kinds (ks ∷ kinds) (x ∷ held) (t ∷ tables) s h = (all_same (λ row. map kind_of row ≡ ks) x t s.0 h.0, same_kinds kinds held tables s.1 h.1)
 
-same_fits : (held tables : List Rows) → AllZip SameRows held tables → FitTables tables → FitTables held
+same_fits : (held tables : List Rows) → AllZip SameRows held tables → FitTables held → FitTables tables
 same_fits [] [] s h = tt
 same_fits [] (t ∷ tables) s h = elim s [ ]
 same_fits (x ∷ held) [] s h = elim s [ ]
-same_fits (x ∷ held) (t ∷ tables) s h = (all_same RowFits x t s.0 h.0, same_fits held tables s.1 h.1)
+same_fits (x ∷ held) (t ∷ tables) s h = (all_same RowFits t x (λ v. sym (s.0 v)) h.0, same_fits held tables s.1 h.1)
 
 module _ (held : List Rows) (p : PlanTree) (c : ℕ) (ks : List Kind) (rows : Bounded) (ns : List ℤ) (a : Adds [] held p c ks rows ns) where
   -- over all its tables
   own : GivesOver 0 held p ks rows ns
   own = subst (λ hs. GivesOver 0 hs p ks rows ns) (sym a.behind) a.over
 
-  here : Gives own.kinds own.tables p ks rows ns
-  here =
-      let t : own.tables ++ [] ≡ own.tables = append-nil own.tables in
-      let k : own.kinds ++ [] ≡ own.kinds = append-nil own.kinds in
-      subst (λ tk. Gives tk own.tables p ks rows ns) k
-      (subst (λ ts. Gives (own.kinds ++ []) ts p ks rows ns) t (own.gives [] [] [] [] refl refl (subst FitTables (sym t) own.fit)))
-
-  -- it gives a relation
-  pub adds_relation : IsRelation ks rows
-  adds_relation = here.relation
-
   held_kinds : AllZip HaveKinds own.kinds held
   held_kinds = same_kinds own.kinds held own.tables own.same own.typed
 
-  held_fit : FitTables held
-  held_fit = same_fits held own.tables own.same own.fit
+  module _ (held_fit : FitTables held) where
+    here : Gives own.kinds own.tables p ks rows ns
+    here =
+        let t : own.tables ++ [] ≡ own.tables = append-nil own.tables in
+        let k : own.kinds ++ [] ≡ own.kinds = append-nil own.kinds in
+        subst (λ tk. Gives tk own.tables p ks rows ns) k
+        (subst (λ ts. Gives (own.kinds ++ []) ts p ks rows ns) t (own.gives [] [] [] [] refl refl (subst FitTables (sym t) (same_fits held own.tables own.same held_fit))))
 
-  typed_for : IsTypedFor held p
-  typed_for = record { kinds = own.kinds; tables = held_kinds; typed = ap is_some here.typed }
+    -- it gives a relation
+    pub adds_relation : IsRelation ks rows
+    adds_relation = here.relation
 
-  module _ (q : PhysicalTree) (stands : Implements p q) where
-    -- the physical plan can be run
-    pub can_start : IsPhysicalFor held q
-    can_start = record { kinds = own.kinds; tables = held_kinds; typed = ap is_some (stands.typed own.kinds (encoded_kinds ks) here.typed) }
+    typed_for : IsTypedFor held p
+    typed_for = record { kinds = own.kinds; tables = held_kinds; typed = ap is_some here.typed }
 
-    -- its rows are those of the relation
-    pub same_found : SameRows (physical_rows q held) (encode rows)
-    same_found v = stands.rows held typed_for v ∙ rows_same held own.tables own.same p v ∙ ap (copies v) here.encoded
+    module _ (q : PhysicalTree) (stands : Implements p q) where
+      -- the physical plan can be run
+      can_start : IsPhysicalFor held q
+      can_start = record { kinds = own.kinds; tables = held_kinds; typed = ap is_some (stands.typed own.kinds (encoded_kinds ks) here.typed) }
 
-    -- it leaves the range only where a number of the relation does
-    pub run_fits : Fit ns → Fit (physical_numbers q held)
-    run_fits f = stands.numbers held held_fit typed_for (numbers_fit held own.tables own.same p (here.fit f))
+      -- its rows are those of the relation
+      same_found : SameRows (physical_rows q held) (encode rows)
+      same_found v = stands.rows held typed_for v ∙ rows_same held own.tables own.same p v ∙ ap (copies v) here.encoded
 
-    -- the numbers of rows that were found lie in the range
-    pub found_fit : Fit (physical_numbers q held) → FitRows (encode rows)
-    found_fit f =
-        all_same RowFits (encode rows) (physical_rows q held) (λ v. sym (same_found v))
-        (physical_fit own.kinds held held_fit (encoded_kinds ks) q (stands.typed own.kinds (encoded_kinds ks) here.typed) f)
+      -- it leaves the range only where a number of the relation does
+      run_fits : Fit ns → Fit (physical_numbers q held)
+      run_fits f = stands.numbers held held_fit typed_for (numbers_fit held own.tables own.same p (here.fit f))
 
-module _ (held : List Rows) (p : PlanTree) (c : ℕ) (q : PhysicalTree) (stands : Implements p q) where
-  pub startable : CanRunPlan held p c → IsPhysicalFor held q
-  startable can = can_start held p c can.0 can.1.0 can.1.1.0 can.1.1.1 q stands
+      -- the numbers of rows that were found lie in the range
+      found_fit : Fit (physical_numbers q held) → FitRows (physical_rows q held)
+      found_fit f = physical_fit own.kinds held held_fit (encoded_kinds ks) q (stands.typed own.kinds (encoded_kinds ks) here.typed) f
 
-  pub finds : (found : Rows) → found ≡ physical_rows q held → fit (physical_numbers q held) ≡ true → FindsRows held p c found
-  finds found is f ks rows ns a = (
-    λ v. ap (copies v) is ∙ same_found held p c ks rows ns a q stands v,
-    found_fit held p c ks rows ns a q stands f,
+-- a plan that is ready to run over the rows that it reads
+module _ (held now : List Rows) (p : PlanTree) (c : ℕ) (q : PhysicalTree) (can : CanRunPlan held p c) (r : StandsReady held now p q) where
+  pub startable : IsPhysicalFor now q
+  startable = r.reads.typed (can_start held p c can.0 can.1.0 can.1.1.0 can.1.1.1 r.fit r.improved r.stands)
+
+  -- the numbers of the whole plan are those that are met
+  numbers : physical_numbers q now ≡ physical_numbers r.improved held
+  numbers = r.reads.numbers
+
+  pub finds : (found : Rows) → found ≡ physical_rows q now → FindsRows held p c found
+  finds found is = (
+    r.fit,
+    λ ks rows ns a v. ap (copies v) (is ∙ r.reads.rows) ∙ same_found held p c ks rows ns a r.fit r.improved r.stands v,
   )
 
-  pub leaves : fit (physical_numbers q held) ≡ false → LeavesRange held p c
-  leaves not ks rows ns a f = true≢false (sym (run_fits held p c ks rows ns a q stands f) ∙ not)
+  pub fits_found : (found : Rows) → found ≡ physical_rows q now → fit (physical_numbers q now) ≡ true → FitRows found
+  fits_found found is f =
+      subst FitRows (sym (is ∙ r.reads.rows))
+      (found_fit held p c can.0 can.1.0 can.1.1.0 can.1.1.1 r.fit r.improved r.stands (subst Fit numbers f))
+
+  pub leaves : fit (physical_numbers q now) ≡ false → LeavesRange held p c
+  leaves not ks rows ns a f =
+      true≢false (sym (subst Fit (sym numbers) (run_fits held p c ks rows ns a r.fit r.improved r.stands f)) ∙ not)

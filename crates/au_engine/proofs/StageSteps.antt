@@ -7,8 +7,7 @@ use Rattle.au_value.specs.declared.kinds.Kind.{Kind}
 use Rattle.au_algebra.specs.Bounded.{Bounded}
 use Rattle.au_algebra.specs.Laws.{IsRelation}
 use Rattle.au_algebra.specs.Ordinary.{Rows}
-use Rattle.au_algebra.proofs.Each.{all_append}
-use Rattle.au_plain.specs.PlanKinds.{FitRows, FitTables, HaveKinds}
+use Rattle.au_plain.specs.PlanKinds.{FitTables, HaveKinds}
 use Rattle.au_plain.specs.Plans.{PlanTree, Scan}
 use Rattle.au_encode.specs.Encode.{encode, encoded_kinds}
 use Rattle.au_encode.specs.Gives.{Gives}
@@ -52,7 +51,7 @@ moved : (p : PlanTree) (ks : List Kind) (rows : Bounded) (ns : List ℤ) (tk uk 
 moved p ks rows ns tk uk ts us e f g = subst (λ hs. Gives uk hs p ks rows ns) f (subst (λ hs. Gives hs ts p ks rows ns) e g)
 
 -- the Scan of rows that were put behind others
-module _ (old new : List Rows) (found : Rows) (behind : new ≡ old ++ found ∷ []) (c : ℕ) (ks : List Kind) (rows : Bounded) (long : length ks ≡ c) (relation : IsRelation ks rows) (fits : FitRows (encode rows)) (same : SameRows found (encode rows)) where
+module _ (old new : List Rows) (found : Rows) (behind : new ≡ old ++ found ∷ []) (c : ℕ) (ks : List Kind) (rows : Bounded) (long : length ks ≡ c) (relation : IsRelation ks rows) (same : SameRows found (encode rows)) where
   scan_gives :
       (ns : List ℤ) (front back : List (List Kind)) (before after : List Rows) → length front ≡ length old → length before ≡ length old →
       Gives ((front ++ encoded_kinds ks ∷ []) ++ back) ((before ++ encode rows ∷ []) ++ after) (Scan (length old) (3 * length ks + 3)) ks rows ns
@@ -74,7 +73,6 @@ module _ (old new : List Rows) (found : Rows) (behind : new ≡ old ++ found ∷
           kinds = encoded_kinds ks ∷ [];
           tables = encode rows ∷ [];
           typed = (rows_have_kinds ks rows relation, tt);
-          fit = (fits, tt);
           same = (same, tt);
           gives = λ front back before after fn bn ft.
               subst (λ q. Gives ((front ++ encoded_kinds ks ∷ []) ++ back) ((before ++ encode rows ∷ []) ++ after) q ks rows ns) (sym scan)
@@ -95,7 +93,6 @@ one_adds old new of made c d ks js rows out ms ns long step a = record {
     kinds = a.over.kinds;
     tables = a.over.tables;
     typed = a.over.typed;
-    fit = a.over.fit;
     same = a.over.same;
     gives = λ front back before after fn bn ft.
         step ((front ++ a.over.kinds) ++ back) ((before ++ a.over.tables) ++ after) ft (a.over.gives front back before after fn bn ft);
@@ -109,7 +106,6 @@ module _ (left right made : PlanTree) (ks js hs : List Kind) (xs ys zs : Bounded
     kinds = g.kinds ++ h.kinds;
     tables = g.tables ++ h.tables;
     typed = zip_append HaveKinds g.kinds h.kinds g.tables h.tables g.typed h.typed;
-    fit = all_append FitRows g.tables h.tables g.fit h.fit;
     same = zip_append SameRows L R g.tables h.tables g.same h.same;
     gives = λ front back before after fn bn ft.
         let ka = left_group front g.kinds h.kinds back in

@@ -8,6 +8,8 @@ pub mod Exchange
 pub mod PlanAnswers
 pub mod EncodedTables
 -- What the contracts of inner calls and the proofs speak of.
+pub mod InputRows
+pub mod Inputs
 pub mod Scans
 pub mod Slicing
 pub mod Stages

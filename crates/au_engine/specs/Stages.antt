@@ -14,7 +14,7 @@ use Rattle.au_blocks.specs.Tables.{BlockTable, column_kinds}
 use Rattle.au_translate.specs.Translate.{bounded_table}
 use Rattle.au_compress.specs.CompressedFits.{product_numbers}
 use Rattle.au_compress.specs.Splitting.{compressed_product}
-use Rattle.au_plain.specs.PlanKinds.{FitRows, FitTables, HaveKinds}
+use Rattle.au_plain.specs.PlanKinds.{FitTables, HaveKinds}
 use Rattle.au_plain.specs.Plans.{PlanTree}
 use Rattle.au_combine.specs.Gives.{Combines}
 use Rattle.au_encode.specs.Encode.{decode, encode}
@@ -26,12 +26,12 @@ abbrev pub SameRows : Rows → Rows → Type 0
 SameRows xs ys = SameUpToOrder same_row xs ys
 
 -- A plan gives a relation over tables that stand behind `n` others, whatever these are and whatever stands behind: the
--- tables are held up to the order of their rows, which have kinds, and numbers in the range.
+-- tables are held up to the order of their rows, which have kinds. That no number of them leaves the range is known when
+-- their rows are made.
 pub record GivesOver (n : ℕ) (held : List Rows) (p : PlanTree) (ks : List Kind) (rows : Bounded) (ns : List ℤ) : Type 0 where
   pub kinds : List (List Kind)
   pub tables : List Rows
   pub typed : AllZip HaveKinds kinds tables
-  pub fit : FitTables tables
   pub same : AllZip SameRows held tables
   pub gives :
       (front back : List (List Kind)) (before after : List Rows) → length front ≡ n → length before ≡ n → FitTables ((before ++ tables) ++ after) →
@@ -58,25 +58,27 @@ AddsTree how ts q old new p c =
 abbrev pub CanRunPlan : List Rows → PlanTree → ℕ → Type 0
 CanRunPlan held p c = (ks : List Kind) × ((rows : Bounded) × ((ns : List ℤ) × Adds [] held p c ks rows ns))
 
--- the rows that its run found are those of the relation, up to order, and their numbers lie in the range
+-- no number of the tables leaves the range, and the rows that its run found are those of the relation, up to order
 abbrev pub FindsRows : List Rows → PlanTree → ℕ → Rows → Type 0
 FindsRows held p c found =
-    (ks : List Kind) (rows : Bounded) (ns : List ℤ) → Adds [] held p c ks rows ns → SameRows found (encode rows) × FitRows (encode rows)
+    FitTables held × ((ks : List Kind) (rows : Bounded) (ns : List ℤ) → Adds [] held p c ks rows ns → SameRows found (encode rows))
 
 -- no relation that the plan gives has numbers that all lie in the range
 abbrev pub LeavesRange : List Rows → PlanTree → ℕ → Type 0
 LeavesRange held p c = (ks : List Kind) (rows : Bounded) (ns : List ℤ) → Adds [] held p c ks rows ns → ¬ (Fit ns)
 
--- one plan over the tables `held` gives whatever another gives over tables that were put behind `old`
+-- no number of the tables `held` leaves the range, and a plan over tables that were put behind `old` gives whatever another
+-- gives over these
 abbrev pub Materializes : List Rows → PlanTree → ℕ → List Rows → List Rows → PlanTree → ℕ → Type 0
 Materializes held p c old new q d =
-    (ks : List Kind) (rows : Bounded) (ns : List ℤ) → Adds [] held p c ks rows ns → Adds old new q d ks rows ns
+    FitTables held × ((ks : List Kind) (rows : Bounded) (ns : List ℤ) → Adds [] held p c ks rows ns → Adds old new q d ks rows ns)
 
 -- the same of the combined relation
 abbrev pub MaterializesCombined : List Rows → PlanTree → ℕ → List Rows → List Rows → PlanTree → ℕ → Type 0
 MaterializesCombined held p c old new q d =
-    (ks : List Kind) (rows : Bounded) (ns : List ℤ) → Adds [] held p c ks rows ns →
-    Adds old new q d ks (combine rows) (ns ++ triple_numbers (combine rows))
+    FitTables held
+    × ((ks : List Kind) (rows : Bounded) (ns : List ℤ) → Adds [] held p c ks rows ns →
+    Adds old new q d ks (combine rows) (ns ++ triple_numbers (combine rows)))
 
 abbrev pub LeavesRangeCombined : List Rows → PlanTree → ℕ → Type 0
 LeavesRangeCombined held p c =
@@ -107,9 +109,10 @@ pub record AreRowsOf (how : Option ℕ) (combined : Bool) (ts : List BlockTable)
 abbrev pub HasRows : ℕ → Bounded → Bounded → Type 0
 HasRows c rel rows = (found : Rows) × ((rel ≡ decode c found) × SameRows found (encode rows))
 
--- it is the relation that a plan gives over all its tables
+-- no number of the tables leaves the range, and it is the relation that a plan gives over all of them
 abbrev pub Decodes : List Rows → PlanTree → ℕ → Bounded → Type 0
-Decodes held p c rel = (ks : List Kind) (rows : Bounded) (ns : List ℤ) → Adds [] held p c ks rows ns → HasRows c rel rows
+Decodes held p c rel =
+    FitTables held × ((ks : List Kind) (rows : Bounded) (ns : List ℤ) → Adds [] held p c ks rows ns → HasRows c rel rows)
 
 -- the Scan of the encoded rows of a relation of `c` columns
 abbrev pub AddsRelation : Bounded → ℕ → List Rows → List Rows → PlanTree → ℕ → Type 0

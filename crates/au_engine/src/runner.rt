@@ -7,22 +7,29 @@ ghost use Rattle.au_physical.specs.PhysicalMeaning.{physical_rows};
 ghost use Rattle.au_physical.specs.PhysicalNumbers.{physical_numbers};
 ghost use Rattle.au_physical.specs.Physicals.{physical_tree};
 ghost use Rattle.au_blocks.specs.Tables.{IsBlockTable, table as table_of};
+ghost use Rattle.au_plain.specs.Meaning.{kept};
 ghost use Rattle.au_plain.specs.PlanKinds.{FitRows};
-ghost use Rattle.au_encode.specs.Encode.{encode};
+ghost use Rattle.au_encode.specs.Encode.{AreEncoded, decode as decode_of, encode};
 ghost use Rattle.au_translate.specs.Translate.{bounded_blocks};
 ghost use Rattle.au_exec.specs.Outcomes.{rows_of};
 
+use au_algebra::Rel;
+use au_annot::Triple;
 use au_blocks::{Block, Column};
+use au_encode::{decode, decode_rows};
 use au_exec::Run;
 use au_expr::EvalFault;
-use au_par::Gate;
+use au_par::{Gate, let_go};
 use au_physical::Physical;
 use au_plain::PRow;
-use au_translate::encoded_by;
-use au_value::NoMemory;
+use au_translate::{encoded_by, encoded_places_by};
+use au_value::{NoMemory, Range};
 use std::alloc::Global;
 use std::marker::Model;
 use std::thread::Threads;
+
+// Fewer blocks or rows are worked by one worker: a thread costs more than what it saves on them.
+const FEW: usize = 8192;
 
 /// So many workers, 1 to 64, with the gate that is told of each piece of their work.
 #[derive(Drop)]
@@ -85,6 +92,48 @@ impl<'a, R: Threads + Sync, G: Gate + Sync> Runner<'a, R, G> {
         ensures rows { IfOk result (λ rows. rows_of rows ≡ encode (bounded_blocks blocks.now)) }
         ensures fit { IfOk result (λ rows. FitRows (rows_of rows)) }
     {
-        encoded_by(self.rt, alloc, self.workers, columns, blocks)
+        let workers = self.workers_for(blocks.len());
+        encoded_by(self.rt, alloc, workers, columns, blocks)
+    }
+
+    /// Of these rows the values in some places.
+    pub(crate) fn encoded_places(
+        &self,
+        alloc: Global,
+        columns: &[Column],
+        blocks: &[Block],
+        places: &[usize],
+    ) -> Result<Vec<PRow>, NoMemory>
+        requires table { IsBlockTable (table_of columns.now blocks.now) }
+        ensures { IfOk result (λ rows. rows_of rows ≡ map (kept places.now) (encode (bounded_blocks blocks.now))) }
+    {
+        let workers = self.workers_for(blocks.len());
+        encoded_places_by(self.rt, alloc, workers, columns, blocks, places)
+    }
+
+    /// The relation that the rows encode, each with so many columns, in their order. Several threads copy the values of many
+    /// rows, which are given back beside what comes next; else the values are moved.
+    pub(crate) fn decoded(
+        &self,
+        alloc: Global,
+        rows: Vec<PRow>,
+        columns: usize,
+    ) -> Result<Rel<Range, Triple>, NoMemory>
+        requires rows { AreEncoded columns (rows_of rows) }
+        ensures { IfOk result (λ rel. rel ≡ decode_of columns (rows_of rows)) }
+    {
+        if self.workers_for(rows.len()) == 1 {
+            return decode(alloc, rows, columns);
+        }
+        let relation = decode_rows(self.rt, alloc, &rows, columns);
+        let_go(self.rt, self.workers, rows);
+        relation
+    }
+
+    // How many workers share so many rows or blocks.
+    fn workers_for(&self, count: usize) -> usize
+        ensures { 1 ≤ result }
+    {
+        if count < FEW { 1 } else { self.workers }
     }
 }

@@ -19,7 +19,6 @@ use crate::steps::{Planned, combined_of};
 use au_algebra::{Query, Rel};
 use au_annot::Triple;
 use au_blocks::Table;
-use au_encode::decode;
 use au_expr::EvalFault;
 use au_par::Gate;
 use au_plain::PRow;
@@ -52,8 +51,8 @@ fn encoded_rows<R: Threads + Sync, G: Gate + Sync>(
     ensures rows { IfOk result (λ r. AreRowsOf options.compress options.combine (blocks_of tables.now) (tree query.now) r.1 (rows_of r.0)) }
     ensures overflow { result ≡ Err EvalFault.Overflow → tree_asked_fits options.compress options.combine tables.now (tree query.now) ≡ false }
 {
-    let mut held = Vec::new(alloc);
-    let planned = match staged(runner, alloc, query, tables, options.compress, &mut held) {
+    let mut inputs = Vec::new(alloc);
+    let planned = match staged(runner, alloc, query, tables, options.compress, &mut inputs) {
         Ok(planned) => planned,
         Err(fault) => return Err(fault),
     };
@@ -62,7 +61,7 @@ fn encoded_rows<R: Threads + Sync, G: Gate + Sync>(
         Err(NoMemory) => return Err(EvalFault::NoMemory),
     };
     let columns = planned.layout.columns;
-    match run(runner, alloc, planned, held) {
+    match run(runner, alloc, planned, inputs) {
         Ok(rows) => Ok((rows, columns)),
         Err(fault) => Err(fault),
     }
@@ -85,7 +84,7 @@ fn evaluated_at_once<R: Threads + Sync, G: Gate + Sync>(
         Ok(found) => found,
         Err(fault) => return Err(fault),
     };
-    match decode(alloc, rows, columns) {
+    match runner.decoded(alloc, rows, columns) {
         Ok(relation) => Ok(relation),
         Err(NoMemory) => Err(EvalFault::NoMemory),
     }

@@ -8,7 +8,6 @@ ghost use Rattle.au_algebra.specs.Trees.{Table as scan, tree};
 ghost use Rattle.au_algebra.specs.Typing.{IsTyped};
 ghost use Rattle.au_blocks.specs.Tables.{IsBlockTable, column_kinds, table as table_of};
 ghost use Rattle.au_plain.specs.Plans.{plan_tree};
-ghost use Rattle.au_exec.specs.Outcomes.{rows_of};
 ghost use Rattle.au_engine.specs.Answers.{blocks_of};
 ghost use Rattle.au_engine.specs.Scans.{IsScan, columns_from};
 ghost use Rattle.au_engine.specs.Slicing.{WorksByRow, gathered_numbers, over_one, row_table as row_table_of, slice_numbers, slice_rows};
@@ -16,6 +15,7 @@ ghost use Rattle.au_engine.specs.Stages.{AddsTree};
 
 use crate::compressing::side_of;
 use crate::encoded::scanned_blocks;
+use crate::input::Input;
 use crate::runner::Runner;
 use crate::steps::{Planned, project_of, select_of};
 use au_algebra::{Gathered, Query, Rel, normal};
@@ -23,7 +23,6 @@ use au_annot::Triple;
 use au_blocks::{Block, Column, Table};
 use au_expr::{EvalFault, Expr};
 use au_par::Gate;
-use au_plain::PRow;
 use au_translate::bounded_rows;
 use au_value::{NoMemory, Range, Word};
 use std::alloc::Global;
@@ -62,26 +61,26 @@ pub(crate) fn table_by_row<'a>(query: &Query, tables: &'a [(Word, Table)]) -> Op
     }
 }
 
-// The plan of such a tree over the encoded rows of a slice, which are put behind other tables.
-fn planned_slice(
+// The plan of such a tree over a slice, which is put behind other inputs.
+fn planned_slice<'a>(
     alloc: Global,
     query: &Query,
-    columns: &[Column],
-    blocks: &[Block],
-    tables: &mut Vec<Vec<PRow>>,
+    columns: &'a [Column],
+    blocks: &'a [Block],
+    inputs: &mut Vec<Input<'a>>,
 ) -> Result<Planned, NoMemory>
     requires by_row { WorksByRow (tree query.now) }
     requires slice { IsBlockTable (table_of columns.now blocks.now) }
-    ensures { IfOk result (λ p. AddsTree None (table_of columns.now blocks.now ∷ []) (over_one (tree query.now)) (map rows_of tables.old.items) (map rows_of tables.new.items) (plan_tree p.plan) p.layout.columns) }
+    ensures { IfOk result (λ p. AddsTree None (table_of columns.now blocks.now ∷ []) (over_one (tree query.now)) inputs.old.items inputs.new.items (plan_tree p.plan) p.layout.columns) }
 {
     match query {
-        Query::Table(_) => scanned_blocks(alloc, columns, blocks, tables),
+        Query::Table(_) => scanned_blocks(columns, blocks, inputs),
         Query::Select(condition, of) => {
-            let of = planned_slice(alloc, of, columns, blocks, tables)?;
+            let of = planned_slice(alloc, of, columns, blocks, inputs)?;
             select_of(alloc, condition, of)
         }
         Query::Project(items, of) => {
-            let of = planned_slice(alloc, of, columns, blocks, tables)?;
+            let of = planned_slice(alloc, of, columns, blocks, inputs)?;
             project_of(alloc, items.as_slice(), of)
         }
         Query::Product(_, _)

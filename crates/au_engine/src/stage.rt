@@ -1,35 +1,42 @@
-//! Plans that are run, and their rows as tables for other plans.
+//! Plans that are run, and their rows as inputs of other plans.
 ghost use Rattle.std.specs.Prelude.{◌≡◌, ◌++◌, ◌+◌, ◌*◌, ◌∷◌, [], IfOk, length, map};
+ghost use Rattle.au_physical.specs.Physicals.{physical_tree};
+ghost use Rattle.au_plain.specs.PlanKinds.{FitRows};
 ghost use Rattle.au_plain.specs.Plans.{Scan, plan_tree};
 ghost use Rattle.au_exec.specs.Outcomes.{rows_of};
+ghost use Rattle.au_engine.specs.Inputs.{StandsReady};
 ghost use Rattle.au_engine.specs.Stages.{CanRunPlan, FindsRows, LeavesRange, LeavesRangeCombined, Materializes, MaterializesCombined};
 
+use crate::input::Input;
+use crate::reads::read_inputs;
 use crate::runner::Runner;
 use crate::steps::{Planned, combined_of};
 use au_expr::EvalFault;
 use au_par::Gate;
+use au_physical::Physical;
 use au_plain::{Layout, PRow, Plan};
 use au_plan::improve;
 use au_rwexpr::width_of;
-use au_value::NoMemory;
+use au_value::{NoMemory, beside};
 use std::alloc::Global;
 use std::thread::Threads;
 
-/// The rows of a plan over its tables, which are let go.
+/// The rows of a plan over its inputs, which are let go.
 ///
 /// `Overflow` comes only where a number of what the plan gives leaves 128 bits.
 pub(crate) fn run<R: Threads + Sync, G: Gate + Sync>(
     runner: &Runner<'_, R, G>,
     alloc: Global,
     planned: Planned,
-    tables: Vec<Vec<PRow>>,
+    inputs: Vec<Input<'_>>,
 ) -> Result<Vec<PRow>, EvalFault>
-    requires runs { CanRunPlan (map rows_of tables.items) (plan_tree planned.plan) planned.layout.columns }
-    ensures rows { IfOk result (λ found. FindsRows (map rows_of tables.items) (plan_tree planned.plan) planned.layout.columns (rows_of found)) }
-    ensures overflow { result ≡ Err EvalFault.Overflow → LeavesRange (map rows_of tables.items) (plan_tree planned.plan) planned.layout.columns }
+    requires runs { CanRunPlan inputs.items (plan_tree planned.plan) planned.layout.columns }
+    ensures rows { IfOk result (λ found. FindsRows inputs.entry.items (plan_tree planned.plan) planned.layout.columns (rows_of found)) }
+    ensures fit { IfOk result (λ found. FitRows (rows_of found)) }
+    ensures overflow { result ≡ Err EvalFault.Overflow → LeavesRange inputs.entry.items (plan_tree planned.plan) planned.layout.columns }
 {
-    let plan = match improve(alloc, planned.plan) {
-        Ok(plan) => plan,
+    let (plan, tables) = match ready(runner, alloc, planned.plan, inputs) {
+        Ok(both) => both,
         Err(NoMemory) => return Err(EvalFault::NoMemory),
     };
     match runner.all(alloc, plan, tables) {
@@ -38,48 +45,63 @@ pub(crate) fn run<R: Threads + Sync, G: Gate + Sync>(
     }
 }
 
-/// Puts rows, each of so many encoded columns, behind the tables, and gives their Scan. `NoMemory` comes also where a row
-/// cannot have so many columns.
-pub(crate) fn put(
-    rows: Vec<PRow>,
+// The physical plan of a plan, and the rows that it reads of its inputs.
+fn ready<R: Threads + Sync, G: Gate + Sync>(
+    runner: &Runner<'_, R, G>,
+    alloc: Global,
+    plan: Plan,
+    inputs: Vec<Input<'_>>,
+) -> Result<(Physical, Vec<Vec<PRow>>), NoMemory>
+    ensures { IfOk result (λ v. StandsReady inputs.entry.items (map rows_of v.1.items) (plan_tree plan) (physical_tree v.0)) }
+{
+    let mut physical = improve(alloc, plan)?;
+    let tables = read_inputs(runner, alloc, &mut physical, inputs);
+    let (tables, physical) = beside(tables, physical)?;
+    Ok((physical, tables))
+}
+
+/// Puts an input, whose rows have so many encoded columns, behind others, and gives its Scan. `NoMemory` comes also where a
+/// row cannot have so many columns.
+pub(crate) fn put<'a>(
+    input: Input<'a>,
     columns: usize,
-    tables: &mut Vec<Vec<PRow>>,
+    inputs: &mut Vec<Input<'a>>,
 ) -> Result<Planned, NoMemory>
     ensures columns { IfOk result (λ p. p.layout.columns ≡ columns) }
-    ensures tables { IfOk result (λ _. tables.new.items ≡ tables.old.items ++ rows ∷ []) }
-    ensures plan { IfOk result (λ p. plan_tree p.plan ≡ Scan (length tables.old.items) (3 * columns + 3)) }
+    ensures inputs { IfOk result (λ _. inputs.new.items ≡ inputs.old.items ++ input.entry ∷ []) }
+    ensures plan { IfOk result (λ p. plan_tree p.plan ≡ Scan (length inputs.old.items) (3 * columns + 3)) }
 {
     let layout = Layout { columns };
     let width = width_of(&layout)?;
-    let place = tables.len();
-    tables.push(rows)?;
+    let place = inputs.len();
+    inputs.push(input)?;
     Ok(Planned {
         plan: Plan::Scan(place, width),
         layout,
     })
 }
 
-/// Runs a plan over tables of its own, puts its rows behind other tables, and gives their Scan.
+/// Runs a plan over inputs of its own, puts its rows behind other inputs, and gives their Scan.
 ///
 /// `Overflow` comes only where a number of what the plan gives leaves 128 bits.
 pub(crate) fn materialized<R: Threads + Sync, G: Gate + Sync>(
     runner: &Runner<'_, R, G>,
     alloc: Global,
     planned: Planned,
-    own: Vec<Vec<PRow>>,
-    tables: &mut Vec<Vec<PRow>>,
+    own: Vec<Input<'_>>,
+    inputs: &mut Vec<Input<'_>>,
 ) -> Result<Planned, EvalFault>
-    requires runs { CanRunPlan (map rows_of own.items) (plan_tree planned.plan) planned.layout.columns }
+    requires runs { CanRunPlan own.items (plan_tree planned.plan) planned.layout.columns }
     ensures columns { IfOk result (λ p. p.layout.columns ≡ planned.layout.columns) }
-    ensures plan { IfOk result (λ p. Materializes (map rows_of own.items) (plan_tree planned.plan) planned.layout.columns (map rows_of tables.old.items) (map rows_of tables.new.items) (plan_tree p.plan) p.layout.columns) }
-    ensures overflow { result ≡ Err EvalFault.Overflow → LeavesRange (map rows_of own.items) (plan_tree planned.plan) planned.layout.columns }
+    ensures plan { IfOk result (λ p. Materializes own.entry.items (plan_tree planned.plan) planned.layout.columns inputs.old.items inputs.new.items (plan_tree p.plan) p.layout.columns) }
+    ensures overflow { result ≡ Err EvalFault.Overflow → LeavesRange own.entry.items (plan_tree planned.plan) planned.layout.columns }
 {
     let columns = planned.layout.columns;
     let rows = match run(runner, alloc, planned, own) {
         Ok(rows) => rows,
         Err(fault) => return Err(fault),
     };
-    match put(rows, columns, tables) {
+    match put(Input::of_rows(rows), columns, inputs) {
         Ok(scan) => Ok(scan),
         Err(NoMemory) => Err(EvalFault::NoMemory),
     }
@@ -90,19 +112,19 @@ pub(crate) fn materialized_combined<R: Threads + Sync, G: Gate + Sync>(
     runner: &Runner<'_, R, G>,
     alloc: Global,
     planned: Planned,
-    own: Vec<Vec<PRow>>,
-    tables: &mut Vec<Vec<PRow>>,
+    own: Vec<Input<'_>>,
+    inputs: &mut Vec<Input<'_>>,
 ) -> Result<Planned, EvalFault>
-    requires runs { CanRunPlan (map rows_of own.items) (plan_tree planned.plan) planned.layout.columns }
+    requires runs { CanRunPlan own.items (plan_tree planned.plan) planned.layout.columns }
     ensures columns { IfOk result (λ p. p.layout.columns ≡ planned.layout.columns) }
-    ensures plan { IfOk result (λ p. MaterializesCombined (map rows_of own.items) (plan_tree planned.plan) planned.layout.columns (map rows_of tables.old.items) (map rows_of tables.new.items) (plan_tree p.plan) p.layout.columns) }
-    ensures overflow { result ≡ Err EvalFault.Overflow → LeavesRangeCombined (map rows_of own.items) (plan_tree planned.plan) planned.layout.columns }
+    ensures plan { IfOk result (λ p. MaterializesCombined own.entry.items (plan_tree planned.plan) planned.layout.columns inputs.old.items inputs.new.items (plan_tree p.plan) p.layout.columns) }
+    ensures overflow { result ≡ Err EvalFault.Overflow → LeavesRangeCombined own.entry.items (plan_tree planned.plan) planned.layout.columns }
 {
     let combined = match combined_of(alloc, planned) {
         Ok(combined) => combined,
         Err(NoMemory) => return Err(EvalFault::NoMemory),
     };
-    match materialized(runner, alloc, combined, own, tables) {
+    match materialized(runner, alloc, combined, own, inputs) {
         Ok(scan) => Ok(scan),
         Err(fault) => Err(fault),
     }

@@ -9,13 +9,13 @@ ghost use Rattle.au_algebra.specs.Typing.{IsTyped};
 ghost use Rattle.au_blocks.specs.Tables.{column_kinds};
 ghost use Rattle.au_translate.specs.Translate.{bounded_table};
 ghost use Rattle.au_plain.specs.Plans.{plan_tree};
-ghost use Rattle.au_exec.specs.Outcomes.{rows_of};
 ghost use Rattle.au_engine.specs.Answers.{blocks_of};
 ghost use Rattle.au_engine.specs.Compressing.{IsCompression, tree_numbers};
 ghost use Rattle.au_engine.specs.Stages.{AddsTree};
 
 use crate::compressing::compressed_product_of;
 use crate::encoded::scanned;
+use crate::input::Input;
 use crate::runner::Runner;
 use crate::stage::{materialized, materialized_combined};
 use crate::steps::{
@@ -26,78 +26,77 @@ use au_algebra::Query;
 use au_blocks::Table;
 use au_expr::EvalFault;
 use au_par::Gate;
-use au_plain::PRow;
 use au_value::{Word, beside};
 use std::alloc::Global;
 use std::thread::Threads;
 
-/// The plan of a tree that is typed for block tables, over encoded tables that it puts behind others. Where products are
+/// The plan of a tree that is typed for block tables, over inputs that it puts behind others. Where products are
 /// to be compressed, their sides are run first, too.
 ///
 /// `NoMemory` comes also where a row cannot have so many columns, and `Overflow` only where a number of the tree leaves
 /// 128 bits.
 #[cycle(stages)]
-pub(crate) fn staged<R: Threads + Sync, G: Gate + Sync>(
+pub(crate) fn staged<'a, R: Threads + Sync, G: Gate + Sync>(
     runner: &Runner<'_, R, G>,
     alloc: Global,
     query: &Query,
-    blocks: &[(Word, Table)],
+    blocks: &'a [(Word, Table)],
     compress: Option<u32>,
-    tables: &mut Vec<Vec<PRow>>,
+    inputs: &mut Vec<Input<'a>>,
 ) -> Result<Planned, EvalFault>
     requires typed { IsTyped (map column_kinds (blocks_of blocks.now)) (tree query.now) }
     requires compression { IsCompression compress }
-    ensures plan { IfOk result (λ p. AddsTree compress (blocks_of blocks.now) (tree query.now) (map rows_of tables.old.items) (map rows_of tables.new.items) (plan_tree p.plan) p.layout.columns) }
+    ensures plan { IfOk result (λ p. AddsTree compress (blocks_of blocks.now) (tree query.now) inputs.old.items inputs.new.items (plan_tree p.plan) p.layout.columns) }
     ensures overflow { result ≡ Err EvalFault.Overflow → ¬ (Fit (tree_numbers compress (tree query.now) (map bounded_table (blocks_of blocks.now)))) }
 {
     match query {
         Query::Table(i) => match blocks.get(*i) {
-            Some(table) => Ok(scanned(runner, alloc, &table.1, tables)?),
+            Some(table) => Ok(scanned(&table.1, inputs)?),
             None => unreachable!(),
         },
         Query::Select(condition, of) => {
-            let of = staged(runner, alloc, of, blocks, compress, tables)?;
+            let of = staged(runner, alloc, of, blocks, compress, inputs)?;
             Ok(select_of(alloc, condition, of)?)
         }
         Query::Project(items, of) => {
-            let of = staged(runner, alloc, of, blocks, compress, tables)?;
+            let of = staged(runner, alloc, of, blocks, compress, inputs)?;
             Ok(project_of(alloc, items.as_slice(), of)?)
         }
         Query::Product(left, right) => {
-            paired(runner, alloc, left, right, blocks, compress, tables)
+            paired(runner, alloc, left, right, blocks, compress, inputs)
         }
-        Query::Union(left, right) => united(runner, alloc, left, right, blocks, compress, tables),
+        Query::Union(left, right) => united(runner, alloc, left, right, blocks, compress, inputs),
         Query::Difference(left, right) => {
-            lessened(runner, alloc, left, right, blocks, compress, tables)
+            lessened(runner, alloc, left, right, blocks, compress, inputs)
         }
         Query::Distinct(of) => {
-            let of = staged(runner, alloc, of, blocks, compress, tables)?;
+            let of = staged(runner, alloc, of, blocks, compress, inputs)?;
             Ok(distinct_of(alloc, of)?)
         }
         Query::Group(keys, aggs, of) => {
             let first = apart(runner, alloc, of, blocks, compress)?;
-            let of = materialized(runner, alloc, first.0, first.1, tables)?;
+            let of = materialized(runner, alloc, first.0, first.1, inputs)?;
             Ok(group_of(alloc, *keys, aggs.as_slice(), of)?)
         }
         Query::Total(aggs, of) => {
-            let of = staged(runner, alloc, of, blocks, compress, tables)?;
+            let of = staged(runner, alloc, of, blocks, compress, inputs)?;
             Ok(total_of(alloc, aggs.as_slice(), of)?)
         }
     }
 }
 
-// The same over tables of its own.
+// The same over inputs of its own.
 #[cycle(stages)]
-fn apart<R: Threads + Sync, G: Gate + Sync>(
+fn apart<'a, R: Threads + Sync, G: Gate + Sync>(
     runner: &Runner<'_, R, G>,
     alloc: Global,
     query: &Query,
-    blocks: &[(Word, Table)],
+    blocks: &'a [(Word, Table)],
     compress: Option<u32>,
-) -> Result<(Planned, Vec<Vec<PRow>>), EvalFault>
+) -> Result<(Planned, Vec<Input<'a>>), EvalFault>
     requires typed { IsTyped (map column_kinds (blocks_of blocks.now)) (tree query.now) }
     requires compression { IsCompression compress }
-    ensures plan { IfOk result (λ p. AddsTree compress (blocks_of blocks.now) (tree query.now) [] (map rows_of p.1.items) (plan_tree p.0.plan) p.0.layout.columns) }
+    ensures plan { IfOk result (λ p. AddsTree compress (blocks_of blocks.now) (tree query.now) [] p.1.items (plan_tree p.0.plan) p.0.layout.columns) }
     ensures overflow { result ≡ Err EvalFault.Overflow → ¬ (Fit (tree_numbers compress (tree query.now) (map bounded_table (blocks_of blocks.now)))) }
 {
     let mut own = Vec::new(alloc);
@@ -108,24 +107,24 @@ fn apart<R: Threads + Sync, G: Gate + Sync>(
 
 // Each pair of rows of two trees.
 #[cycle(stages)]
-fn paired<R: Threads + Sync, G: Gate + Sync>(
+fn paired<'a, R: Threads + Sync, G: Gate + Sync>(
     runner: &Runner<'_, R, G>,
     alloc: Global,
     left: &Query,
     right: &Query,
-    blocks: &[(Word, Table)],
+    blocks: &'a [(Word, Table)],
     compress: Option<u32>,
-    tables: &mut Vec<Vec<PRow>>,
+    inputs: &mut Vec<Input<'a>>,
 ) -> Result<Planned, EvalFault>
     requires typed { IsTyped (map column_kinds (blocks_of blocks.now)) (Product (tree left.now) (tree right.now)) }
     requires compression { IsCompression compress }
-    ensures plan { IfOk result (λ p. AddsTree compress (blocks_of blocks.now) (Product (tree left.now) (tree right.now)) (map rows_of tables.old.items) (map rows_of tables.new.items) (plan_tree p.plan) p.layout.columns) }
+    ensures plan { IfOk result (λ p. AddsTree compress (blocks_of blocks.now) (Product (tree left.now) (tree right.now)) inputs.old.items inputs.new.items (plan_tree p.plan) p.layout.columns) }
     ensures overflow { result ≡ Err EvalFault.Overflow → ¬ (Fit (tree_numbers compress (Product (tree left.now) (tree right.now)) (map bounded_table (blocks_of blocks.now)))) }
 {
     match compress {
         None => {
-            let first = staged(runner, alloc, left, blocks, compress, tables)?;
-            let second = staged(runner, alloc, right, blocks, compress, tables);
+            let first = staged(runner, alloc, left, blocks, compress, inputs)?;
+            let second = staged(runner, alloc, right, blocks, compress, inputs);
             let sides = beside(second, first)?;
             Ok(product_of(alloc, sides.1, sides.0)?)
         }
@@ -133,52 +132,52 @@ fn paired<R: Threads + Sync, G: Gate + Sync>(
             let first = apart(runner, alloc, left, blocks, compress)?;
             let second = apart(runner, alloc, right, blocks, compress);
             let sides = beside(second, first)?;
-            compressed_product_of(runner, alloc, sides.1, sides.0, n, tables)
+            compressed_product_of(runner, alloc, sides.1, sides.0, n, inputs)
         }
     }
 }
 
 // The rows of two trees.
 #[cycle(stages)]
-fn united<R: Threads + Sync, G: Gate + Sync>(
+fn united<'a, R: Threads + Sync, G: Gate + Sync>(
     runner: &Runner<'_, R, G>,
     alloc: Global,
     left: &Query,
     right: &Query,
-    blocks: &[(Word, Table)],
+    blocks: &'a [(Word, Table)],
     compress: Option<u32>,
-    tables: &mut Vec<Vec<PRow>>,
+    inputs: &mut Vec<Input<'a>>,
 ) -> Result<Planned, EvalFault>
     requires typed { IsTyped (map column_kinds (blocks_of blocks.now)) (Union (tree left.now) (tree right.now)) }
     requires compression { IsCompression compress }
-    ensures plan { IfOk result (λ p. AddsTree compress (blocks_of blocks.now) (Union (tree left.now) (tree right.now)) (map rows_of tables.old.items) (map rows_of tables.new.items) (plan_tree p.plan) p.layout.columns) }
+    ensures plan { IfOk result (λ p. AddsTree compress (blocks_of blocks.now) (Union (tree left.now) (tree right.now)) inputs.old.items inputs.new.items (plan_tree p.plan) p.layout.columns) }
     ensures overflow { result ≡ Err EvalFault.Overflow → ¬ (Fit (tree_numbers compress (Union (tree left.now) (tree right.now)) (map bounded_table (blocks_of blocks.now)))) }
 {
-    let first = staged(runner, alloc, left, blocks, compress, tables)?;
-    let second = staged(runner, alloc, right, blocks, compress, tables);
+    let first = staged(runner, alloc, left, blocks, compress, inputs)?;
+    let second = staged(runner, alloc, right, blocks, compress, inputs);
     let sides = beside(second, first)?;
     Ok(union_of(alloc, sides.1, sides.0)?)
 }
 
 // The rows of a tree, each less those of another one.
 #[cycle(stages)]
-fn lessened<R: Threads + Sync, G: Gate + Sync>(
+fn lessened<'a, R: Threads + Sync, G: Gate + Sync>(
     runner: &Runner<'_, R, G>,
     alloc: Global,
     left: &Query,
     right: &Query,
-    blocks: &[(Word, Table)],
+    blocks: &'a [(Word, Table)],
     compress: Option<u32>,
-    tables: &mut Vec<Vec<PRow>>,
+    inputs: &mut Vec<Input<'a>>,
 ) -> Result<Planned, EvalFault>
     requires typed { IsTyped (map column_kinds (blocks_of blocks.now)) (Difference (tree left.now) (tree right.now)) }
     requires compression { IsCompression compress }
-    ensures plan { IfOk result (λ p. AddsTree compress (blocks_of blocks.now) (Difference (tree left.now) (tree right.now)) (map rows_of tables.old.items) (map rows_of tables.new.items) (plan_tree p.plan) p.layout.columns) }
+    ensures plan { IfOk result (λ p. AddsTree compress (blocks_of blocks.now) (Difference (tree left.now) (tree right.now)) inputs.old.items inputs.new.items (plan_tree p.plan) p.layout.columns) }
     ensures overflow { result ≡ Err EvalFault.Overflow → ¬ (Fit (tree_numbers compress (Difference (tree left.now) (tree right.now)) (map bounded_table (blocks_of blocks.now)))) }
 {
     let of = apart(runner, alloc, left, blocks, compress)?;
-    let first = materialized_combined(runner, alloc, of.0, of.1, tables)?;
-    let second = staged(runner, alloc, right, blocks, compress, tables);
+    let first = materialized_combined(runner, alloc, of.0, of.1, inputs)?;
+    let second = staged(runner, alloc, right, blocks, compress, inputs);
     let sides = beside(second, first)?;
     Ok(difference_of(alloc, sides.1, sides.0)?)
 }

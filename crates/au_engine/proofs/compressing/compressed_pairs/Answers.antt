@@ -1,8 +1,7 @@
 -- The pairs of the guesses, followed by those of what is possible.
-use Rattle.std.proofs.Common.{◌<◌, ◌∙◌, Err, ap, arith, map, sym}
+use Rattle.std.proofs.Common.{◌<◌, ◌∙◌, Err, ap, arith, sym}
 use Rattle.au_compress.specs.Splitting.{compressed, guess_part}
 use Rattle.au_plain.specs.Plans.{plan_tree}
-use Rattle.au_exec.specs.Outcomes.{rows_of}
 use Rattle.au_engine.specs.Stages.{AddsPairs}
 use Rattle.au_engine.proofs.Together.{at_equal, at_ok}
 use Rattle.au_engine.proofs.CompressedPairs.{compressed_pairs_adds, left_kinds_held, parts_leave, right_kinds_held}
@@ -31,9 +30,9 @@ returns-in-Ok-union_of-clause-plan c =
     let first = c.in-Ok.guesses in
     let guesses = c.in_ok-possible.guesses in
     let possible = c.in_ok-possible.possible in
-    let old = map rows_of c.args.tables.now.items in
-    let mid = map rows_of c.guess_pairs.new.tables.items in
-    let new = map rows_of c.possible_pairs-second.new.tables.items in
+    let old = c.args.inputs.now.items in
+    let mid = c.guess_pairs.new.inputs.items in
+    let new = c.possible_pairs-second.new.inputs.items in
     let of_guesses =
     at_equal first guesses (sym c.in_ok-possible.ensures.values.1) (λ x. AddsPairs (guess_part l.rel) l.columns (guess_part r.rel) r.columns old mid (plan_tree x.plan) x.layout.columns) c.in-Ok.ensures.plan in
     let of_possible =

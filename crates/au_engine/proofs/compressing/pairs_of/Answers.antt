@@ -1,7 +1,6 @@
 -- The pairs of both Scans.
-use Rattle.std.proofs.Common.{map, sym}
+use Rattle.std.proofs.Common.{sym}
 use Rattle.au_plain.specs.Plans.{plan_tree}
-use Rattle.au_exec.specs.Outcomes.{rows_of}
 use Rattle.au_engine.specs.Stages.{AddsRelation}
 use Rattle.au_engine.proofs.Together.{at_equal, at_ok}
 use Rattle.au_engine.proofs.CompressedPairs.{pairs_adds}
@@ -12,9 +11,9 @@ returns-in-Ok-clause-plan c =
     let first = c.in_ok-left.left in
     let left = c.in_ok-right.left in
     let right = c.in_ok-right.right in
-    let old = map rows_of c.args.tables.now.items in
-    let mid = map rows_of c.scan_of.new.tables.items in
-    let new = map rows_of c.scan_of-second.new.tables.items in
+    let old = c.args.inputs.now.items in
+    let mid = c.scan_of.new.inputs.items in
+    let new = c.scan_of-second.new.inputs.items in
     let of_left =
     at_equal first left (sym c.in_ok-right.ensures.values.1) (λ x. AddsRelation c.args.left.now.rel c.args.left.now.columns old mid (plan_tree x.plan) x.layout.columns) c.in_ok-left.ensures.plan in
     let of_right =

@@ -1,8 +1,6 @@
 -- The pairs are those of what is possible.
-use Rattle.std.proofs.Common.{map}
 use Rattle.au_compress.specs.Splitting.{compressed}
 use Rattle.au_plain.specs.Plans.{plan_tree}
-use Rattle.au_exec.specs.Outcomes.{rows_of}
 use Rattle.au_engine.proofs.CompressedPairs.{pairs_as}
 use Rattle.au_engine.proofs.compressing.possible_pairs.Goals as goal
 
@@ -13,5 +11,5 @@ returns-in-Ok-pairs_of-clause-plan c =
     let p = c.in-Ok-pairs_of.pairs in
     let n = c.args.n in
     pairs_as left.rel (compressed n c.args.left.now.rel) left.columns c.args.left.now.columns right.rel (compressed n c.args.right.now.rel) right.columns c.args.right.now.columns
-    (map rows_of c.args.tables.now.items) (map rows_of c.pairs_of.new.tables.items) (plan_tree p.plan) p.layout.columns
+    c.args.inputs.now.items c.pairs_of.new.inputs.items (plan_tree p.plan) p.layout.columns
     c.in-Ok.ensures.rows c.in-Ok.ensures.columns c.in-Ok-possible_of.ensures.rows c.in-Ok-possible_of.ensures.columns c.in-Ok-pairs_of.ensures.plan

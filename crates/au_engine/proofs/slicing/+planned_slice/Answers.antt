@@ -6,7 +6,6 @@ use Rattle.au_expr.specs.Terms.{term}
 use Rattle.au_algebra.specs.Trees.{Project, tree}
 use Rattle.au_blocks.specs.Tables.{table}
 use Rattle.au_plain.specs.Plans.{plan_tree}
-use Rattle.au_exec.specs.Outcomes.{rows_of}
 use Rattle.au_engine.specs.Slicing.{over_one}
 use Rattle.au_engine.specs.Stages.{AddsTree}
 use Rattle.au_engine.proofs.PlanSteps.{project_adds, select_adds, table_adds}
@@ -18,15 +17,15 @@ returns-in-Table t c =
     let slice = table c.args.columns.now c.args.blocks.now in
     rw c.in-Table.is
     (IfOk-weaker c.scanned_blocks.result _ _
-    (λ p step. table_adds None (slice ∷ []) 0 slice (map rows_of c.args.tables.now.items) (map rows_of c.scanned_blocks.new.tables.items) (plan_tree p.plan) p.layout.columns refl step)
+    (λ p step. table_adds None (slice ∷ []) 0 slice c.args.inputs.now.items c.scanned_blocks.new.inputs.items (plan_tree p.plan) p.layout.columns refl step)
     c.scanned_blocks.ensures)
 
 pub returns-in_ok-of-in-Select : goal.returns-in_ok-of-in-Select
 returns-in_ok-of-in-Select t c =
     let slice = table c.args.columns.now c.args.blocks.now in
     let of = c.in_ok-of-in-Select.of in
-    let old = map rows_of c.args.tables.now.items in
-    let new = map rows_of c.planned_slice.new.tables.items in
+    let old = c.args.inputs.now.items in
+    let new = c.planned_slice.new.inputs.items in
     let part = subst (λ m. AddsTree None (slice ∷ []) (over_one (tree m)) old new (plan_tree of.plan) of.layout.columns) c.deref.ensures c.in_ok-of-in-Select.ensures in
     rw c.in-Select.is
     (from_two c.select_of.result _ _ _
@@ -38,8 +37,8 @@ returns-in_ok-of-in-Project t c =
     let slice = table c.args.columns.now c.args.blocks.now in
     let of = c.in_ok-of-in-Project.of in
     let q = over_one (tree c.in-Project.of.value) in
-    let old = map rows_of c.args.tables.now.items in
-    let new = map rows_of c.planned_slice-in-Project.new.tables.items in
+    let old = c.args.inputs.now.items in
+    let new = c.planned_slice-in-Project.new.inputs.items in
     let part = subst (λ m. AddsTree None (slice ∷ []) (over_one (tree m)) old new (plan_tree of.plan) of.layout.columns) c.deref-in-Project.ensures c.in_ok-of-in-Project.ensures in
     rw c.in-Project.is
     (from_two c.project_of.result _ _ _

@@ -9,7 +9,6 @@ use Rattle.au_algebra.specs.Typing.{IsTyped}
 use Rattle.au_blocks.specs.Tables.{column_kinds}
 use Rattle.au_translate.specs.Translate.{bounded_table}
 use Rattle.au_plain.specs.Plans.{plan_tree}
-use Rattle.au_exec.specs.Outcomes.{rows_of}
 use Rattle.au_engine.specs.Answers.{blocks_of}
 use Rattle.au_engine.specs.Compressing.{tree_numbers}
 use Rattle.au_engine.specs.Stages.{AddsTree, MaterializesCombined}
@@ -23,7 +22,7 @@ pub staged-returns-in_ok-scanned-in-Some-clause-plan : goal.staged-returns-in_ok
 staged-returns-in_ok-scanned-in-Some-clause-plan g t c =
     let p = c.in_ok-scanned-in-Some.field-0 in
     rw c.in-Table.is
-    (table_adds c.args.compress (blocks_of c.args.blocks.now) c.in-Table.i c.in-Some.table.now.1 (map rows_of c.args.tables.now.items) (map rows_of c.scanned.new.tables.items) (plan_tree p.plan) p.layout.columns
+    (table_adds c.args.compress (blocks_of c.args.blocks.now) c.in-Table.i c.in-Some.table.now.1 c.args.inputs.now.items c.scanned.new.inputs.items (plan_tree p.plan) p.layout.columns
     (table_at c.args.blocks.now c.in-Table.i c.in-Some.table.now c.in-Some.ensures.lookup.3.0 c.in-Some.ensures.lookup.1) c.in_ok-scanned-in-Some.ensures)
 
 pub staged-returns-in_ok-select_of-in-Select-clause-plan : goal.staged-returns-in_ok-select_of-in-Select-clause-plan
@@ -31,8 +30,8 @@ staged-returns-in_ok-select_of-in-Select-clause-plan g t c =
     let ts = blocks_of c.args.blocks.now in
     let of = c.in_ok-of-in-Select.of in
     let p = c.in_ok-select_of-in-Select.field-0 in
-    let old = map rows_of c.args.tables.now.items in
-    let new = map rows_of c.staged.new.tables.items in
+    let old = c.args.inputs.now.items in
+    let new = c.staged.new.inputs.items in
     let part = subst (λ m. AddsTree c.args.compress ts (tree m) old new (plan_tree of.plan) of.layout.columns) c.deref.ensures c.in_ok-of-in-Select.ensures.plan in
     rw c.in-Select.is (select_adds c.args.compress ts (tree c.in-Select.of.value) old new (plan_tree of.plan) (plan_tree p.plan) of.layout.columns p.layout.columns part (term c.in-Select.condition) c.in_ok-select_of-in-Select.ensures.columns c.in_ok-select_of-in-Select.ensures.plan)
 
@@ -41,8 +40,8 @@ staged-returns-in_ok-project_of-in-Project-clause-plan g t c =
     let ts = blocks_of c.args.blocks.now in
     let of = c.in_ok-of-in-Project.of in
     let p = c.in_ok-project_of-in-Project.field-0 in
-    let old = map rows_of c.args.tables.now.items in
-    let new = map rows_of c.staged-in-Project.new.tables.items in
+    let old = c.args.inputs.now.items in
+    let new = c.staged-in-Project.new.inputs.items in
     let part = subst (λ m. AddsTree c.args.compress ts (tree m) old new (plan_tree of.plan) of.layout.columns) c.deref-in-Project.ensures c.in_ok-of-in-Project.ensures.plan in
     rw c.in-Project.is
     (subst (λ xs. AddsTree c.args.compress ts (Project (map term xs) (tree c.in-Project.of.value)) old new (plan_tree p.plan) p.layout.columns) c.as_slice.ensures.value
@@ -53,8 +52,8 @@ staged-returns-in_ok-distinct_of-in-Distinct-clause-plan g t c =
     let ts = blocks_of c.args.blocks.now in
     let of = c.in_ok-of-in-Distinct.of in
     let p = c.in_ok-distinct_of-in-Distinct.field-0 in
-    let old = map rows_of c.args.tables.now.items in
-    let new = map rows_of c.staged-in-Distinct.new.tables.items in
+    let old = c.args.inputs.now.items in
+    let new = c.staged-in-Distinct.new.inputs.items in
     let part = subst (λ m. AddsTree c.args.compress ts (tree m) old new (plan_tree of.plan) of.layout.columns) c.deref-in-Distinct.ensures c.in_ok-of-in-Distinct.ensures.plan in
     rw c.in-Distinct.is (distinct_adds c.args.compress ts (tree c.in-Distinct.of.value) old new (plan_tree of.plan) (plan_tree p.plan) of.layout.columns p.layout.columns part c.in_ok-distinct_of-in-Distinct.ensures.columns c.in_ok-distinct_of-in-Distinct.ensures.plan)
 
@@ -63,8 +62,8 @@ staged-returns-in_ok-total_of-in-Total-clause-plan g t c =
     let ts = blocks_of c.args.blocks.now in
     let of = c.in_ok-of-in-Total.of in
     let p = c.in_ok-total_of-in-Total.field-0 in
-    let old = map rows_of c.args.tables.now.items in
-    let new = map rows_of c.staged-in-Total.new.tables.items in
+    let old = c.args.inputs.now.items in
+    let new = c.staged-in-Total.new.inputs.items in
     let part = subst (λ m. AddsTree c.args.compress ts (tree m) old new (plan_tree of.plan) of.layout.columns) c.deref-in-Total.ensures c.in_ok-of-in-Total.ensures.plan in
     rw c.in-Total.is
     (subst (λ xs. AddsTree c.args.compress ts (Total xs (tree c.in-Total.of.value)) old new (plan_tree p.plan) p.layout.columns) c.as_slice-in-Total.ensures.value
@@ -75,7 +74,7 @@ staged-materialized-requires-clause-runs g t c κs within =
     let ts = blocks_of c.args.blocks.now in
     let q = tree c.in-Group.of.value in
     let own = c.in_ok-first-in-Group.first in
-    let held = map rows_of own.1.items in
+    let held = own.1.items in
     let part = subst (λ m. AddsTree c.args.compress ts (tree m) [] held (plan_tree own.0.plan) own.0.layout.columns) c.deref-in-Group.ensures c.in_ok-first-in-Group.ensures.plan in
     let typed = grouped_typed c.args.compress ts c.in-Group.keys c.in-Group.aggs.items q (subst (λ m. IsTyped (map column_kinds ts) (tree m)) c.in-Group.is c.requires.typed) in
     tree_runs c.args.compress ts q held (plan_tree own.0.plan) own.0.layout.columns typed part
@@ -85,7 +84,7 @@ staged-returns-in_err-of-in-Group-clause-overflow g t c e f =
     let ts = blocks_of c.args.blocks.now in
     let q = tree c.in-Group.of.value in
     let own = c.in_ok-first-in-Group.first in
-    let held = map rows_of own.1.items in
+    let held = own.1.items in
     let part = subst (λ m. AddsTree c.args.compress ts (tree m) [] held (plan_tree own.0.plan) own.0.layout.columns) c.deref-in-Group.ensures c.in_ok-first-in-Group.ensures.plan in
     let typed = grouped_typed c.args.compress ts c.in-Group.keys c.in-Group.aggs.items q (subst (λ m. IsTyped (map column_kinds ts) (tree m)) c.in-Group.is c.requires.typed) in
     let fault = rw e at c.from_residual-in_err-of-in-Group.ensures.1 in
@@ -97,12 +96,12 @@ staged-returns-in_ok-group_of-in-Group-clause-plan g t c =
     let ts = blocks_of c.args.blocks.now in
     let q = tree c.in-Group.of.value in
     let own = c.in_ok-first-in-Group.first in
-    let held = map rows_of own.1.items in
+    let held = own.1.items in
     let part = subst (λ m. AddsTree c.args.compress ts (tree m) [] held (plan_tree own.0.plan) own.0.layout.columns) c.deref-in-Group.ensures c.in_ok-first-in-Group.ensures.plan in
     let of = c.in_ok-of-in-Group.of in
     let p = c.in_ok-group_of-in-Group.field-0 in
-    let old = map rows_of c.args.tables.now.items in
-    let new = map rows_of c.materialized.new.tables.items in
+    let old = c.args.inputs.now.items in
+    let new = c.materialized.new.inputs.items in
     let moved = moved_adds c.args.compress ts q held (plan_tree own.0.plan) own.0.layout.columns old new (plan_tree of.plan) of.layout.columns part c.in_ok-of-in-Group.ensures.plan in
     rw c.in-Group.is
     (subst (λ xs. AddsTree c.args.compress ts (Group c.in-Group.keys xs q) old new (plan_tree p.plan) p.layout.columns) c.as_slice-in-Group.ensures.value
@@ -115,9 +114,9 @@ paired-returns-in_ok-product_of-in-None-clause-plan g t c =
     let b = tree c.args.right.now in
     let left = c.in_ok-sides-in-None.sides.1 in
     let right = c.in_ok-sides-in-None.sides.0 in
-    let old = map rows_of c.args.tables.now.items in
-    let mid = map rows_of c.staged.new.tables.items in
-    let new = map rows_of c.staged-second.new.tables.items in
+    let old = c.args.inputs.now.items in
+    let mid = c.staged.new.inputs.items in
+    let new = c.staged-second.new.inputs.items in
     let p = c.in_ok-product_of-in-None.field-0 in
     let of_left = at_equal c.in_ok-first-in-None.first left (sym c.in_ok-sides-in-None.ensures.values.1) (λ x. AddsTree c.args.compress ts a old mid (plan_tree x.plan) x.layout.columns) c.in_ok-first-in-None.ensures.plan in
     let of_right = at_ok c.staged-second.result right c.in_ok-sides-in-None.ensures.values.0 (λ x. AddsTree c.args.compress ts b mid new (plan_tree x.plan) x.layout.columns) c.staged-second.ensures.plan in
@@ -131,9 +130,9 @@ united-returns-clause-plan g t c =
     let b = tree c.args.right.now in
     let left = c.in_ok-sides.sides.1 in
     let right = c.in_ok-sides.sides.0 in
-    let old = map rows_of c.args.tables.now.items in
-    let mid = map rows_of c.staged.new.tables.items in
-    let new = map rows_of c.staged-second.new.tables.items in
+    let old = c.args.inputs.now.items in
+    let mid = c.staged.new.inputs.items in
+    let new = c.staged-second.new.inputs.items in
     let p = c.in_ok-union_of.field-0 in
     let of_left = at_equal c.in_ok-first.first left (sym c.in_ok-sides.ensures.values.1) (λ x. AddsTree c.args.compress ts a old mid (plan_tree x.plan) x.layout.columns) c.in_ok-first.ensures.plan in
     let of_right = at_ok c.staged-second.result right c.in_ok-sides.ensures.values.0 (λ x. AddsTree c.args.compress ts b mid new (plan_tree x.plan) x.layout.columns) c.staged-second.ensures.plan in
@@ -146,7 +145,7 @@ lessened-materialized_combined-requires-clause-runs g t c κs within =
     let a = tree c.args.left.now in
     let b = tree c.args.right.now in
     let own = c.in_ok-of.of in
-    let held = map rows_of own.1.items in
+    let held = own.1.items in
     let typed = left_typed c.args.compress ts a b c.requires.typed in
     tree_runs c.args.compress ts a held (plan_tree own.0.plan) own.0.layout.columns typed c.in_ok-of.ensures.plan
 
@@ -156,7 +155,7 @@ lessened-returns-in_err-first-clause-overflow g t c e f =
     let a = tree c.args.left.now in
     let b = tree c.args.right.now in
     let own = c.in_ok-of.of in
-    let held = map rows_of own.1.items in
+    let held = own.1.items in
     let typed = left_typed c.args.compress ts a b c.requires.typed in
     let fault = rw e at c.from_residual-in_err-first.ensures.1 in
     left_leaves c.args.compress ts a b held (plan_tree own.0.plan) own.0.layout.columns typed c.in_ok-of.ensures.plan (c.in_err-first.ensures.overflow (ap Err (sym fault))) f
@@ -168,11 +167,11 @@ lessened-returns-clause-plan g t c =
     let b = tree c.args.right.now in
     let left = c.in_ok-sides.sides.1 in
     let right = c.in_ok-sides.sides.0 in
-    let old = map rows_of c.args.tables.now.items in
-    let mid = map rows_of c.materialized_combined.new.tables.items in
-    let new = map rows_of c.staged-second.new.tables.items in
+    let old = c.args.inputs.now.items in
+    let mid = c.materialized_combined.new.inputs.items in
+    let new = c.staged-second.new.inputs.items in
     let own = c.in_ok-of.of in
-    let held = map rows_of own.1.items in
+    let held = own.1.items in
     let p = c.in_ok-difference_of.field-0 in
     let moves = at_equal c.in_ok-first.first left (sym c.in_ok-sides.ensures.values.1) (λ x. MaterializesCombined held (plan_tree own.0.plan) own.0.layout.columns old mid (plan_tree x.plan) x.layout.columns) c.in_ok-first.ensures.plan in
     let of_right = at_ok c.staged-second.result right c.in_ok-sides.ensures.values.0 (λ x. AddsTree c.args.compress ts b mid new (plan_tree x.plan) x.layout.columns) c.staged-second.ensures.plan in
@@ -187,9 +186,9 @@ paired-compressed_product_of-requires-clause-left g t c κs within =
     let b = tree c.args.right.now in
     let left = c.in_ok-sides-in-Some.sides.1 in
     let right = c.in_ok-sides-in-Some.sides.0 in
-    let part1 : AddsTree (Some n) ts a [] (map rows_of left.1.items) (plan_tree left.0.plan) left.0.layout.columns =
-    at_equal c.in_ok-first-in-Some.first left (sym c.in_ok-sides-in-Some.ensures.values.1) (λ x. AddsTree (Some n) ts a [] (map rows_of x.1.items) (plan_tree x.0.plan) x.0.layout.columns) c.in_ok-first-in-Some.ensures.plan in
-    tree_runs (Some n) ts a (map rows_of left.1.items) (plan_tree left.0.plan) left.0.layout.columns (first_typed (map column_kinds ts) a b c.requires.typed) part1
+    let part1 : AddsTree (Some n) ts a [] left.1.items (plan_tree left.0.plan) left.0.layout.columns =
+    at_equal c.in_ok-first-in-Some.first left (sym c.in_ok-sides-in-Some.ensures.values.1) (λ x. AddsTree (Some n) ts a [] x.1.items (plan_tree x.0.plan) x.0.layout.columns) c.in_ok-first-in-Some.ensures.plan in
+    tree_runs (Some n) ts a left.1.items (plan_tree left.0.plan) left.0.layout.columns (first_typed (map column_kinds ts) a b c.requires.typed) part1
 
 pub paired-compressed_product_of-requires-clause-right : goal.paired-compressed_product_of-requires-clause-right
 paired-compressed_product_of-requires-clause-right g t c κs within =
@@ -199,9 +198,9 @@ paired-compressed_product_of-requires-clause-right g t c κs within =
     let b = tree c.args.right.now in
     let left = c.in_ok-sides-in-Some.sides.1 in
     let right = c.in_ok-sides-in-Some.sides.0 in
-    let part2 : AddsTree (Some n) ts b [] (map rows_of right.1.items) (plan_tree right.0.plan) right.0.layout.columns =
-    at_ok c.apart-second.result right c.in_ok-sides-in-Some.ensures.values.0 (λ x. AddsTree (Some n) ts b [] (map rows_of x.1.items) (plan_tree x.0.plan) x.0.layout.columns) c.apart-second.ensures.plan in
-    tree_runs (Some n) ts b (map rows_of right.1.items) (plan_tree right.0.plan) right.0.layout.columns (second_typed (map column_kinds ts) a b c.requires.typed) part2
+    let part2 : AddsTree (Some n) ts b [] right.1.items (plan_tree right.0.plan) right.0.layout.columns =
+    at_ok c.apart-second.result right c.in_ok-sides-in-Some.ensures.values.0 (λ x. AddsTree (Some n) ts b [] x.1.items (plan_tree x.0.plan) x.0.layout.columns) c.apart-second.ensures.plan in
+    tree_runs (Some n) ts b right.1.items (plan_tree right.0.plan) right.0.layout.columns (second_typed (map column_kinds ts) a b c.requires.typed) part2
 
 pub paired-returns-in_ok-sides-in-Some-clause-plan : goal.paired-returns-in_ok-sides-in-Some-clause-plan
 paired-returns-in_ok-sides-in-Some-clause-plan g t c =
@@ -211,15 +210,15 @@ paired-returns-in_ok-sides-in-Some-clause-plan g t c =
     let b = tree c.args.right.now in
     let left = c.in_ok-sides-in-Some.sides.1 in
     let right = c.in_ok-sides-in-Some.sides.0 in
-    let old = map rows_of c.args.tables.now.items in
-    let new = map rows_of c.compressed_product_of.new.tables.items in
-    let part1 : AddsTree (Some n) ts a [] (map rows_of left.1.items) (plan_tree left.0.plan) left.0.layout.columns =
-    at_equal c.in_ok-first-in-Some.first left (sym c.in_ok-sides-in-Some.ensures.values.1) (λ x. AddsTree (Some n) ts a [] (map rows_of x.1.items) (plan_tree x.0.plan) x.0.layout.columns) c.in_ok-first-in-Some.ensures.plan in
-    let part2 : AddsTree (Some n) ts b [] (map rows_of right.1.items) (plan_tree right.0.plan) right.0.layout.columns =
-    at_ok c.apart-second.result right c.in_ok-sides-in-Some.ensures.values.0 (λ x. AddsTree (Some n) ts b [] (map rows_of x.1.items) (plan_tree x.0.plan) x.0.layout.columns) c.apart-second.ensures.plan in
+    let old = c.args.inputs.now.items in
+    let new = c.compressed_product_of.new.inputs.items in
+    let part1 : AddsTree (Some n) ts a [] left.1.items (plan_tree left.0.plan) left.0.layout.columns =
+    at_equal c.in_ok-first-in-Some.first left (sym c.in_ok-sides-in-Some.ensures.values.1) (λ x. AddsTree (Some n) ts a [] x.1.items (plan_tree x.0.plan) x.0.layout.columns) c.in_ok-first-in-Some.ensures.plan in
+    let part2 : AddsTree (Some n) ts b [] right.1.items (plan_tree right.0.plan) right.0.layout.columns =
+    at_ok c.apart-second.result right c.in_ok-sides-in-Some.ensures.values.0 (λ x. AddsTree (Some n) ts b [] x.1.items (plan_tree x.0.plan) x.0.layout.columns) c.apart-second.ensures.plan in
     from_two c.compressed_product_of.result _ _ _
     (λ p wide step. subst (λ h. AddsTree h ts (Product a b) old new (plan_tree p.plan) p.layout.columns) (sym c.in-Some.is)
-    (compressed_adds n ts a b (map rows_of left.1.items) (map rows_of right.1.items) (plan_tree left.0.plan) (plan_tree right.0.plan) left.0.layout.columns right.0.layout.columns part1 part2 old new (plan_tree p.plan) p.layout.columns step))
+    (compressed_adds n ts a b left.1.items right.1.items (plan_tree left.0.plan) (plan_tree right.0.plan) left.0.layout.columns right.0.layout.columns part1 part2 old new (plan_tree p.plan) p.layout.columns step))
     c.compressed_product_of.ensures.columns c.compressed_product_of.ensures.plan
 
 pub paired-returns-in_ok-sides-in-Some-clause-overflow : goal.paired-returns-in_ok-sides-in-Some-clause-overflow
@@ -230,20 +229,20 @@ paired-returns-in_ok-sides-in-Some-clause-overflow g t c e f =
     let b = tree c.args.right.now in
     let left = c.in_ok-sides-in-Some.sides.1 in
     let right = c.in_ok-sides-in-Some.sides.0 in
-    let part1 : AddsTree (Some n) ts a [] (map rows_of left.1.items) (plan_tree left.0.plan) left.0.layout.columns =
-    at_equal c.in_ok-first-in-Some.first left (sym c.in_ok-sides-in-Some.ensures.values.1) (λ x. AddsTree (Some n) ts a [] (map rows_of x.1.items) (plan_tree x.0.plan) x.0.layout.columns) c.in_ok-first-in-Some.ensures.plan in
-    let part2 : AddsTree (Some n) ts b [] (map rows_of right.1.items) (plan_tree right.0.plan) right.0.layout.columns =
-    at_ok c.apart-second.result right c.in_ok-sides-in-Some.ensures.values.0 (λ x. AddsTree (Some n) ts b [] (map rows_of x.1.items) (plan_tree x.0.plan) x.0.layout.columns) c.apart-second.ensures.plan in
-    compressed_leaves n ts a b (map rows_of left.1.items) (map rows_of right.1.items) (plan_tree left.0.plan) (plan_tree right.0.plan) left.0.layout.columns right.0.layout.columns part1 part2
+    let part1 : AddsTree (Some n) ts a [] left.1.items (plan_tree left.0.plan) left.0.layout.columns =
+    at_equal c.in_ok-first-in-Some.first left (sym c.in_ok-sides-in-Some.ensures.values.1) (λ x. AddsTree (Some n) ts a [] x.1.items (plan_tree x.0.plan) x.0.layout.columns) c.in_ok-first-in-Some.ensures.plan in
+    let part2 : AddsTree (Some n) ts b [] right.1.items (plan_tree right.0.plan) right.0.layout.columns =
+    at_ok c.apart-second.result right c.in_ok-sides-in-Some.ensures.values.0 (λ x. AddsTree (Some n) ts b [] x.1.items (plan_tree x.0.plan) x.0.layout.columns) c.apart-second.ensures.plan in
+    compressed_leaves n ts a b left.1.items right.1.items (plan_tree left.0.plan) (plan_tree right.0.plan) left.0.layout.columns right.0.layout.columns part1 part2
     c.requires.typed (c.compressed_product_of.ensures.overflow e) (subst (λ h. Fit (tree_numbers h (Product a b) (map bounded_table ts))) c.in-Some.is f)
 
 pub apart-returns-clause-plan : goal.apart-returns-clause-plan
 apart-returns-clause-plan g t c =
     let ts = blocks_of c.args.blocks.now in
     let q = tree c.args.query.now in
-    let held = map rows_of c.staged-first.new.tables.items in
+    let held = c.staged-first.new.inputs.items in
     let made = c.in_ok-made.made in
     let first =
-    at_equal c.new-own.result.items [] c.new-own.ensures.items (λ xs. IfOk c.staged-first.result (λ x. AddsTree c.args.compress ts q (map rows_of xs) held (plan_tree x.plan) x.layout.columns)) c.staged-first.ensures.plan in
+    at_equal c.new-own.result.items [] c.new-own.ensures.items (λ xs. IfOk c.staged-first.result (λ x. AddsTree c.args.compress ts q xs held (plan_tree x.plan) x.layout.columns)) c.staged-first.ensures.plan in
     let part = at_ok c.staged-first.result made.0 c.in_ok-made.ensures.values.0 (λ x. AddsTree c.args.compress ts q [] held (plan_tree x.plan) x.layout.columns) first in
-    at_equal c.staged-first.new.tables made.1 (sym c.in_ok-made.ensures.values.1) (λ own. AddsTree c.args.compress ts q [] (map rows_of own.items) (plan_tree made.0.plan) made.0.layout.columns) part
+    at_equal c.staged-first.new.inputs made.1 (sym c.in_ok-made.ensures.values.1) (λ own. AddsTree c.args.compress ts q [] own.items (plan_tree made.0.plan) made.0.layout.columns) part

@@ -1,0 +1,68 @@
+//! Tables that plans read.
+ghost use Rattle.std.specs.Prelude.{◌≡◌};
+ghost use Rattle.au_blocks.specs.Tables.{IsBlockTable, table};
+ghost use Rattle.au_encode.specs.Encode.{encode};
+ghost use Rattle.au_exec.specs.Outcomes.{rows_of};
+ghost use Rattle.au_plain.specs.PlanKinds.{FitRows};
+ghost use Rattle.au_translate.specs.Translate.{bounded_blocks};
+ghost use Rattle.au_engine.specs.InputRows.{content_rows, IsContent};
+
+use au_blocks::{Block, Column};
+use au_plain::PRow;
+use std::marker::Model;
+
+/// A table that plans read. Contracts see its rows, whether they are there or are still to be made.
+#[derive(Drop)]
+pub(crate) struct Input<'a> {
+    content: Content<'a>,
+}
+
+/// Rows that are there, or the columns and some blocks of a block table, whose encoded rows are made when a plan is run.
+#[derive(Drop)]
+pub(crate) enum Content<'a> {
+    Rows(Vec<PRow>),
+    Blocks(&'a [Column], &'a [Block]),
+}
+
+impl<'a> Model for Input<'a> {
+    ghost use Rattle.std.specs.Prelude.{List};
+    ghost use Rattle.au_value.specs.declared.value.Value.{Value as Cell};
+    ghost use Rattle.au_engine.specs.InputRows.{content_rows, IsContent};
+
+    ghost Value = { List (List Cell) };
+
+    ghost view = { λ i. content_rows i.content };
+
+    ghost invariant = { λ i. IsContent i.content };
+}
+
+impl<'a> Input<'a> {
+    /// Rows that are there.
+    pub(crate) fn of_rows(rows: Vec<PRow>) -> Input<'a>
+        requires { FitRows (rows_of rows) }
+        ensures { result ≡ rows_of rows }
+    {
+        Input {
+            content: Content::Rows(rows),
+        }
+    }
+
+    /// The encoded rows of some blocks of a table of these columns, in block order.
+    pub(crate) fn of_blocks(columns: &'a [Column], blocks: &'a [Block]) -> Input<'a>
+        requires { IsBlockTable (table columns.now blocks.now) }
+        ensures { result ≡ encode (bounded_blocks blocks.now) }
+    {
+        Input {
+            content: Content::Blocks(columns, blocks),
+        }
+    }
+
+    /// What there is of the rows.
+    pub(crate) fn into_content(self) -> Content<'a>
+        ensures rows { content_rows result ≡ self.entry }
+        ensures is { IsContent result }
+    {
+        let Input { content } = self;
+        content
+    }
+}

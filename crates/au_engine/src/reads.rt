@@ -1,0 +1,95 @@
+//! The rows that a plan reads of its inputs. Of blocks only the columns that the plan keeps are encoded.
+ghost use Rattle.std.specs.Prelude.{◌≡◌, IfOk, OnOk, map};
+ghost use Rattle.au_blocks.specs.Tables.{IsBlockTable, table as table_of};
+ghost use Rattle.au_encode.specs.Encode.{encode};
+ghost use Rattle.au_exec.specs.Outcomes.{rows_of};
+ghost use Rattle.au_physical.specs.Physicals.{physical_tree};
+ghost use Rattle.au_plain.specs.PlanKinds.{FitRows, FitTables};
+ghost use Rattle.au_translate.specs.Translate.{bounded_blocks};
+ghost use Rattle.au_engine.specs.Inputs.{ReadsNext, Reads, ReadsAll};
+
+use crate::input::{Content, Input};
+use crate::runner::Runner;
+use au_blocks::{Block, Column};
+use au_par::Gate;
+use au_physical::Physical;
+use au_plain::PRow;
+use au_plan::narrow_scans;
+use au_translate::read_numbers;
+use au_value::NoMemory;
+use std::alloc::Global;
+use std::thread::Threads;
+
+/// The rows that the plan reads of its inputs, with the plan changed to read them.
+pub(crate) fn read_inputs<R: Threads + Sync, G: Gate + Sync>(
+    runner: &Runner<'_, R, G>,
+    alloc: Global,
+    plan: &mut Physical,
+    inputs: Vec<Input<'_>>,
+) -> Result<Vec<Vec<PRow>>, NoMemory>
+    ensures reads { IfOk result (λ v. ReadsAll inputs.entry.items (map rows_of v.items) (physical_tree plan.old) (physical_tree plan.new)) }
+    ensures fit { OnOk result (FitTables inputs.entry.items) }
+{
+    let mut tables = Vec::with_capacity(alloc, inputs.len())?;
+    for input in inputs {
+        read_next(runner, alloc, plan, input, &mut tables)?;
+    }
+    Ok(tables)
+}
+
+// Puts the rows that the plan reads of the next input behind those of the inputs before it.
+fn read_next<R: Threads + Sync, G: Gate + Sync>(
+    runner: &Runner<'_, R, G>,
+    alloc: Global,
+    plan: &mut Physical,
+    input: Input<'_>,
+    tables: &mut Vec<Vec<PRow>>,
+) -> Result<(), NoMemory>
+    ensures reads { OnOk result (ReadsNext input.entry (map rows_of tables.old.items) (map rows_of tables.new.items) (physical_tree plan.old) (physical_tree plan.new)) }
+    ensures fit { OnOk result (FitRows input.entry) }
+{
+    let place = tables.len();
+    let rows = rows_read(runner, alloc, plan, place, input)?;
+    tables.push(rows)?;
+    Ok(())
+}
+
+// The rows that the plan reads of the input of this number.
+fn rows_read<R: Threads + Sync, G: Gate + Sync>(
+    runner: &Runner<'_, R, G>,
+    alloc: Global,
+    plan: &mut Physical,
+    number: usize,
+    input: Input<'_>,
+) -> Result<Vec<PRow>, NoMemory>
+    ensures reads { IfOk result (λ v. Reads number input.entry (rows_of v) (physical_tree plan.old) (physical_tree plan.new)) }
+    ensures fit { OnOk result (FitRows input.entry) }
+{
+    match input.into_content() {
+        Content::Rows(rows) => Ok(rows),
+        Content::Blocks(columns, blocks) => {
+            blocks_read(runner, alloc, plan, number, columns, blocks)
+        }
+    }
+}
+
+// The same of blocks: where the plan keeps the same columns wherever it reads them, these alone are encoded.
+fn blocks_read<R: Threads + Sync, G: Gate + Sync>(
+    runner: &Runner<'_, R, G>,
+    alloc: Global,
+    plan: &mut Physical,
+    number: usize,
+    columns: &[Column],
+    blocks: &[Block],
+) -> Result<Vec<PRow>, NoMemory>
+    requires { IsBlockTable (table_of columns.now blocks.now) }
+    ensures reads { IfOk result (λ v. Reads number (encode (bounded_blocks blocks.now)) (rows_of v) (physical_tree plan.old) (physical_tree plan.new)) }
+    ensures fit { OnOk result (FitRows (encode (bounded_blocks blocks.now))) }
+{
+    read_numbers(columns, blocks);
+    let kept = narrow_scans(alloc, plan, number)?;
+    match kept {
+        Some(places) => runner.encoded_places(alloc, columns, blocks, &places),
+        None => runner.encoded(alloc, columns, blocks),
+    }
+}
