@@ -62,6 +62,7 @@ pub mod Tallies
 pub mod Rising
 pub mod NormalRows
 pub mod Runs
+pub mod StrictRows
 pub mod TripleFits
 pub mod MergedRuns
 pub mod Gathering

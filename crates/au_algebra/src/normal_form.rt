@@ -1,5 +1,6 @@
 //! The normal form of a bounded relation.
 ghost use Rattle.std.specs.Prelude.{◌≡◌, ◌+◌, ◌^◌, ◌≤◌, ◌<◌, ◌++◌, ◌∷◌, [], false, true, IfOk, OnOk, OnErr, IsTrue, map, if◌then◌else◌};
+ghost use Rattle.std.specs.List.{AllByRecursion};
 ghost use Rattle.std.specs.List.Sorted.{IsPermutation, IsSortedBy};
 ghost use Rattle.std.specs.Ordering.{is_eq, is_lt};
 ghost use Rattle.au_annot.specs.Triples.{IsTriple, plus};
@@ -22,7 +23,7 @@ type Row = (Vec<Range>, Triple);
 
 /// The normal form: rows that are equal in all their values are one row, with the sum of their triples, and the rows
 /// are ordered by their guesses, then by their lower ends, then by their upper ends. It bounds each list that the rows
-/// bound, and guesses what they guess.
+/// bound, and guesses what they guess. Rows that are their own normal form are handed back where they lie.
 ///
 /// `Overflow` comes exactly where a component of such a sum passes 2^127-1.
 pub fn normal(alloc: Global, rel: Rel<Range, Triple>) -> Result<Rel<Range, Triple>, EvalFault>
@@ -32,9 +33,29 @@ pub fn normal(alloc: Global, rel: Rel<Range, Triple>) -> Result<Rel<Range, Tripl
     ensures fits { IfOk result (λ n. IsTrue (triples_fit (normal_of rel))) }
     ensures overflow { result ≡ Err EvalFault.Overflow → triples_fit (normal_of rel) ≡ false }
 {
+    if rise(&rel.rows) {
+        read(&rel.rows);
+        return Ok(rel);
+    }
     match sorted(rel.rows) {
         Ok(rows) => merged(alloc, rows),
         Err(NoMemory) => Err(EvalFault::NoMemory),
+    }
+}
+
+// Whether each row stands before the next. Such rows are their own normal form.
+fn rise(rows: &[Row]) -> bool
+    ensures { result ≡ true → normal_of (map (λ r. entry r.0.items r.1) rows.now) ≡ map (λ r. entry r.0.items r.1) rows.now }
+{
+    rows.is_sorted_by(|a, b| compare_ranges(&a.0, &b.0).is_lt())
+}
+
+// Nothing but that the triples lie in the range. That is known of a triple once it is read, so each one is.
+fn read(rows: &[Row])
+    ensures { AllByRecursion (λ r. IsTriple r.1 × r.1.most < 2 ^ 127) rows.now }
+{
+    for row in rows {
+        let _fits = row.1.most();
     }
 }
 

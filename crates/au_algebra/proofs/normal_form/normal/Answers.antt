@@ -11,6 +11,7 @@ use Rattle.au_algebra.specs.Fits.{triples_fit}
 use Rattle.au_algebra.specs.Laws.{Guesses}
 use Rattle.au_algebra.proofs.Forms.{normal_bounds, normal_guesses}
 use Rattle.au_algebra.proofs.Runs.{normal_shuffled}
+use Rattle.au_algebra.proofs.StrictRows.{strict_fits}
 use Rattle.au_algebra.proofs.normal_form.normal.Goals as goal
 
 abbrev row : Vec Range Global × Triple → RangeRow
@@ -41,3 +42,9 @@ returns-in-Ok-clause-fits c =
 
 pub returns-in-Ok-clause-overflow : goal.returns-in-Ok-clause-overflow
 returns-in-Ok-clause-overflow c h = ap triples_fit (sym (same c)) ∙ c.merged.ensures.overflow h
+
+-- rows that are handed back had their triples read
+pub returns-then-rise-clause-fits : goal.returns-then-rise-clause-fits
+returns-then-rise-clause-fits c =
+    subst (λ rows. IsTrue (triples_fit (normal rows))) c.rel.view_is
+    (strict_fits row c.rel.inside.rows.items c.deref.result.now c.deref-then-rise.result.now c.deref.ensures.value c.deref-then-rise.ensures.value (c.rise.ensures c.if-rise.true) c.read.ensures)
