@@ -10,7 +10,7 @@ use crate::format::Format;
 use crate::row_faults::{record_fault, row_fault};
 use au_csv::Rec;
 use au_expr::EvalFault;
-use au_par::{NoGate, Piece, by_left_rows};
+use au_par::{NoGate, Piece, by_drawn_pieces};
 use au_value::{Kind, NoMemory};
 use std::alloc::Global;
 use std::thread::Threads;
@@ -83,7 +83,7 @@ fn defects_by<R: Threads + Sync>(
         width,
         written,
     };
-    match by_left_rows(rt, alloc, rows, workers, &work, &NoGate) {
+    match by_drawn_pieces(rt, alloc, rows, workers, &work, &NoGate) {
         Ok(defects) => Ok(defects),
         Err(_) => Err(NoMemory),
     }

@@ -11,7 +11,7 @@ use crate::row_faults::{role, times_in};
 use crate::values::row;
 use au_csv::Rec;
 use au_expr::EvalFault;
-use au_par::{NoGate, Piece, by_left_rows};
+use au_par::{NoGate, Piece, by_drawn_pieces};
 use au_value::NoMemory;
 use std::alloc::Global;
 use std::thread::Threads;
@@ -57,7 +57,7 @@ pub(crate) fn entries_by<R: Threads + Sync>(
     ensures { IfOk result (λ es. es.items ≡ entries_in format (map (λ c. c.kind) columns.now) rows.now) }
 {
     let work = Entries { format, columns };
-    match by_left_rows(rt, alloc, rows, workers, &work, &NoGate) {
+    match by_drawn_pieces(rt, alloc, rows, workers, &work, &NoGate) {
         Ok(entries) => Ok(entries),
         Err(_) => Err(NoMemory),
     }

@@ -8,7 +8,7 @@ use crate::blocks::certain;
 use crate::column::Column;
 use au_csv::Rec;
 use au_expr::EvalFault;
-use au_par::{NoGate, Piece, by_left_rows};
+use au_par::{NoGate, Piece, by_drawn_pieces};
 use au_value::NoMemory;
 use std::alloc::Global;
 use std::thread::Threads;
@@ -52,7 +52,7 @@ pub(crate) fn plain_blocks_by<R: Threads + Sync>(
     ensures { IfOk result (λ bs. bs.items ≡ plain_blocks_of (map (λ c. c.kind) columns.now) rows.now) }
 {
     let work = Plain { columns };
-    match by_left_rows(rt, alloc, rows, workers, &work, &NoGate) {
+    match by_drawn_pieces(rt, alloc, rows, workers, &work, &NoGate) {
         Ok(blocks) => Ok(blocks),
         Err(_) => Err(NoMemory),
     }

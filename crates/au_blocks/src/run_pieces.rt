@@ -12,7 +12,7 @@ use crate::gather::add_entry;
 use crate::row_faults::role;
 use au_csv::Rec;
 use au_expr::EvalFault;
-use au_par::{NoGate, Piece, by_left_rows};
+use au_par::{NoGate, Piece, by_drawn_pieces};
 use au_value::NoMemory;
 use std::alloc::Global;
 use std::thread::Threads;
@@ -58,7 +58,7 @@ pub(crate) fn runs_by<R: Threads + Sync>(
     ensures { IfOk result (λ bs. bs.items ≡ gathered_runs format (map (λ c. c.kind) columns.now) runs.now) }
 {
     let work = Runs { format, columns };
-    match by_left_rows(rt, alloc, runs, workers, &work, &NoGate) {
+    match by_drawn_pieces(rt, alloc, runs, workers, &work, &NoGate) {
         Ok(builders) => Ok(builders),
         Err(_) => Err(NoMemory),
     }

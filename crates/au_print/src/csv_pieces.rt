@@ -11,7 +11,7 @@ use crate::fields::push_header;
 use crate::page::{finish, start, write};
 use au_annot::Triple;
 use au_expr::EvalFault;
-use au_par::{NoGate, Piece, by_left_rows};
+use au_par::{NoGate, Piece, by_drawn_pieces};
 use au_value::{Kind, NoMemory, Range, Word};
 use csv::ByteRecord;
 use std::alloc::Global;
@@ -90,7 +90,7 @@ fn records_by<R: Threads + Sync>(
     ensures { IfOk result (λ t. t.items ≡ flat_map (held_text kinds.now) rows.now) }
 {
     let work = Writing { kinds };
-    match by_left_rows(rt, alloc, rows, workers, &work, &NoGate) {
+    match by_drawn_pieces(rt, alloc, rows, workers, &work, &NoGate) {
         Ok(text) => Ok(text),
         Err(_) => Err(NoMemory),
     }

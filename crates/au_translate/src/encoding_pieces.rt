@@ -12,7 +12,7 @@ ghost use Rattle.au_translate.specs.EncodingPieces.{encoded_apart};
 use crate::encodings::encoded_blocks;
 use au_blocks::{Block, Column};
 use au_expr::EvalFault;
-use au_par::{NoGate, Piece, by_left_rows};
+use au_par::{NoGate, Piece, by_drawn_pieces};
 use au_plain::PRow;
 use au_value::NoMemory;
 use std::alloc::Global;
@@ -89,7 +89,7 @@ pub fn encoded_by<R: Threads + Sync>(
         return encoded_blocks(alloc, columns, blocks);
     }
     let work = Encoding { columns };
-    match by_left_rows(rt, alloc, blocks, workers, &work, &NoGate) {
+    match by_drawn_pieces(rt, alloc, blocks, workers, &work, &NoGate) {
         Ok(made) => plain_rows(alloc, made),
         Err(_) => Err(NoMemory),
     }

@@ -14,7 +14,7 @@ use crate::encoding_pieces::{EncodedRow, fitting_rows, plain_rows};
 use crate::kept_places::kept_blocks;
 use au_blocks::{Block, Column};
 use au_expr::EvalFault;
-use au_par::{NoGate, Piece, by_left_rows};
+use au_par::{NoGate, Piece, by_drawn_pieces};
 use au_plain::PRow;
 use au_value::NoMemory;
 use std::alloc::Global;
@@ -68,7 +68,7 @@ pub fn encoded_places_by<R: Threads + Sync>(
         return kept_blocks(alloc, columns, blocks, places);
     }
     let work = Keeping { columns, places };
-    match by_left_rows(rt, alloc, blocks, workers, &work, &NoGate) {
+    match by_drawn_pieces(rt, alloc, blocks, workers, &work, &NoGate) {
         Ok(made) => plain_rows(alloc, made),
         Err(_) => Err(NoMemory),
     }

@@ -2,5 +2,5 @@
 use Rattle.au_translate.proofs.BlockPieces.{each_alone}
 use Rattle.au_translate.proofs.encoding_pieces.encoded_by.Goals as goal
 
-pub by_left_rows-requires-clause-rows : goal.by_left_rows-requires-clause-rows
-by_left_rows-requires-clause-rows g c κs within = each_alone c.args.columns.now c.args.blocks.now c.requires.table
+pub by_drawn_pieces-requires-clause-rows : goal.by_drawn_pieces-requires-clause-rows
+by_drawn_pieces-requires-clause-rows g c κs within = each_alone c.args.columns.now c.args.blocks.now c.requires.table
