@@ -1,5 +1,6 @@
 mod AskedAnswers
 mod CompressedPairs
+mod DecodedParts
 pub mod EncodedPlans
 mod GuessRows
 mod GuessSizes
@@ -17,6 +18,7 @@ mod PlanSteps
 mod PositiveTrees
 mod ReadCauses
 mod Reordered
+mod SharedRows
 mod Shown
 mod SliceRows
 mod SliceRuns

@@ -1,4 +1,4 @@
--- What is shown of a tree, by the plan of its relation: the rows that its run finds decode to a relation of one normal form.
+-- What is shown of a tree, by the plan of its relation: what its run gives is a relation of one normal form.
 use Rattle.std.specs.Prelude.{◌≡◌, ℕ, Bool, false, true, List, [], ◌++◌, map, Option, Some, ℤ}
 use Rattle.std.proofs.Common.{refl, sym, ◌∙◌, ap, subst, append-nil}
 use Rattle.std.proofs.lemmas.Bool.{false_from_ne_true}
@@ -13,12 +13,11 @@ use Rattle.au_algebra.specs.Typing.{IsTyped, kinds_of}
 use Rattle.au_blocks.specs.Tables.{column_kinds}
 use Rattle.au_translate.specs.Translate.{bounded_table}
 use Rattle.au_plain.specs.Plans.{PlanTree}
-use Rattle.au_plan.proofs.UpToOrder.{all_same}
-use Rattle.au_encode.specs.Encode.{AreEncoded, IsEncoded, decode, encode}
-use Rattle.au_encode.proofs.Decoded.{rows_back, rows_encoded}
+use Rattle.au_encode.specs.Encode.{encode}
+use Rattle.au_encode.proofs.Decoded.{rows_back}
 use Rattle.au_engine.specs.Answers.{Named, blocks_of, tree_asked, tree_asked_fits}
 use Rattle.au_engine.specs.Compressing.{tree_numbers, tree_rows}
-use Rattle.au_engine.specs.Stages.{Adds, AddsTree, AreRowsOf, CanRunPlan, FindsRows, LeavesRange, Shows, own_numbers, shown_rows}
+use Rattle.au_engine.specs.Stages.{Adds, AddsTree, CanRunPlan, Decodes, LeavesRange, Shows, own_numbers, shown_rows}
 use Rattle.au_engine.proofs.AskedAnswers.{asked_is, parts_fit}
 use Rattle.au_engine.proofs.Materialized.{combined_adds}
 use Rattle.au_engine.proofs.Operators.{typed_kinds}
@@ -62,17 +61,17 @@ module _ (how : Option ℕ) (combined : Bool) (ts : List Named) (q : Tree) (type
         let k = typed_kinds (map column_kinds (blocks_of ts)) q typed in
         (k.0, (shown_rows combined rows, (ns ++ own_numbers combined rows, shown_adds k.0 k.1)))
 
-    pub shown_found : (found : Rows) → FindsRows held p d found → AreRowsOf how combined (blocks_of ts) q d found
-    shown_found found finds =
+    -- what the plan's run gives is of the answer's normal form
+    pub shown_decodes : (rel : Bounded) → Decodes held p d rel → normal rel ≡ tree_asked how combined ts q
+    shown_decodes rel decodes =
         let k = typed_kinds (map column_kinds (blocks_of ts)) q typed in
-        let a = shown_adds k.0 k.1 in
+        let shown = shown_rows combined rows in
         let own = ns ++ own_numbers combined rows in
-        record {
-          kinds = k.0;
-          columns = a.columns;
-          relation = adds_relation held p d k.0 (shown_rows combined rows) own a finds.0;
-          same = finds.1 k.0 (shown_rows combined rows) own a;
-        }
+        let a = shown_adds k.0 k.1 in
+        let relation = adds_relation held p d k.0 shown own a decodes.0 in
+        let found = decodes.1 k.0 shown own a in
+        ap normal found.1.0
+        ∙ (normal_same d found.0 (encode shown) found.1.1 ∙ (ap normal (rows_back d shown (have_columns k.0 d shown a.columns relation)) ∙ sym (asked_is how combined ts q)))
 
     pub shown_leaves : LeavesRange held p d → tree_asked_fits how combined ts q ≡ false
     shown_leaves leaves =
@@ -87,20 +86,3 @@ tree_leaves how combined ts q h =
     let tables = map bounded_table (blocks_of ts) in
     let rows = shown_rows combined (tree_rows how q tables) in
     false_from_ne_true (tree_asked_fits how combined ts q) (λ f. h (fit_parts (tree_numbers how q tables) (triple_numbers rows ++ triple_numbers (normal rows)) (parts_fit how combined ts q f)).0)
-
-module _ (how : Option ℕ) (combined : Bool) (ts : List Named) (q : Tree) (c : ℕ) (found : Rows) (are : AreRowsOf how combined (blocks_of ts) q c found) where
-  abbrev shown : Bounded
-  shown = shown_rows combined (tree_rows how q (map bounded_table (blocks_of ts)))
-
-  -- the rows can be decoded
-  pub decodable : AreEncoded c found
-  decodable =
-      all_same (IsEncoded c) found (encode shown) are.same
-      (rows_encoded are.kinds c shown are.relation (have_columns are.kinds c shown are.columns are.relation))
-
-  -- and give a relation of the answer's normal form
-  pub decoded : normal (decode c found) ≡ tree_asked how combined ts q
-  decoded =
-      normal_same c found (encode shown) are.same
-      ∙ ap normal (rows_back c shown (have_columns are.kinds c shown are.columns are.relation))
-      ∙ sym (asked_is how combined ts q)

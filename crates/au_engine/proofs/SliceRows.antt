@@ -168,10 +168,10 @@ module _ (q : Tree) (is : WorksByRow q) (all rest slice others : List Choices) (
   blocks_parted : bounded_blocks rest ≡ bounded_blocks slice ++ bounded_blocks others
   blocks_parted = ap bounded_blocks (sym parts) ∙ present_append block_row slice others
 
-  rows_parted : slice_rows q rest ≡ slice_rows q slice ++ slice_rows q others
+  pub rows_parted : slice_rows q rest ≡ slice_rows q slice ++ slice_rows q others
   rows_parted = ap (over q) blocks_parted ∙ rows_append q is (bounded_blocks slice) (bounded_blocks others)
 
-  parts_fit : Fit (slice_numbers q rest) → Fit (slice_numbers q slice) × Fit (slice_numbers q others)
+  pub parts_fit : Fit (slice_numbers q rest) → Fit (slice_numbers q slice) × Fit (slice_numbers q others)
   parts_fit f = numbers_fit q is (bounded_blocks slice) (bounded_blocks others) (subst (λ rows. Fit (numbers_over q rows)) blocks_parted f)
 
   module _ (before : Bounded) (so : normal (before ++ slice_rows q rest) ≡ normal (slice_rows q all)) where
@@ -199,14 +199,16 @@ module _ (q : Tree) (is : WorksByRow q) (all rest slice others : List Choices) (
           out (fit_both (slice_numbers q slice) (triple_numbers (normal (before ++ slice_rows q slice))) (parts_fit (left p.0)).0 sums)
 
 -- where no block is left the rows so far are those of all blocks
-pub all_gathered : (q : Tree) → WorksByRow q → (all rest : List Choices) (gathered rel : Bounded) → (length rest == 0) ≡ true → normal (gathered ++ slice_rows q rest) ≡ normal (slice_rows q all) → normal rel ≡ gathered → normal rel ≡ normal (slice_rows q all)
-all_gathered q is all rest gathered rel none so own =
-    sym (normal_twice rel)
-    ∙ ap normal own
-    ∙ ap normal (sym (append-nil gathered))
+pub all_gathered : (q : Tree) → WorksByRow q → (all rest : List Choices) (gathered : Bounded) → (length rest == 0) ≡ true → normal (gathered ++ slice_rows q rest) ≡ normal (slice_rows q all) → normal gathered ≡ normal (slice_rows q all)
+all_gathered q is all rest gathered none so =
+    ap normal (sym (append-nil gathered))
     ∙ ap (λ rows. normal (gathered ++ rows)) (sym (no_rows q is))
     ∙ ap (λ blocks. normal (gathered ++ slice_rows q blocks)) (sym (empty_list rest none))
     ∙ so
+
+-- rows whose normal form was gathered
+pub rows_gathered : (rel gathered rows : Bounded) → normal rel ≡ gathered → normal gathered ≡ normal rows → normal rel ≡ normal rows
+rows_gathered rel gathered rows own so = sym (normal_twice rel) ∙ ap normal own ∙ so
 
 -- ---- the slices are block tables
 

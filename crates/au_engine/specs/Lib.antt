@@ -12,4 +12,5 @@ pub mod InputRows
 pub mod Inputs
 pub mod Scans
 pub mod Slicing
+pub mod Shares
 pub mod Stages

@@ -96,13 +96,6 @@ abbrev pub Shows : Bool → ℕ → PlanTree → PlanTree → Type 0
 Shows true c of p = Combines c of p
 Shows false c of p = p ≡ of
 
--- rows of `c` encoded columns that are those of the relation that is shown of a tree over block tables, up to order
-pub record AreRowsOf (how : Option ℕ) (combined : Bool) (ts : List BlockTable) (q : Tree) (c : ℕ) (found : Rows) : Type 0 where
-  pub kinds : List Kind
-  pub columns : length kinds ≡ c
-  pub relation : IsRelation kinds (shown_rows combined (tree_rows how q (map bounded_table ts)))
-  pub same : SameRows found (encode (shown_rows combined (tree_rows how q (map bounded_table ts))))
-
 -- ---- products that are compressed
 
 -- a relation has the rows of another one, which has `c` columns, in some order

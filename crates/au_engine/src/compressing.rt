@@ -9,7 +9,7 @@ ghost use Rattle.au_engine.specs.Stages.{AddsCompressed, AddsPairs, AddsRelation
 
 use crate::input::Input;
 use crate::runner::Runner;
-use crate::stage::{put, run};
+use crate::stage::{put, run_decoded};
 use crate::steps::{Planned, product_of, union_of};
 use au_algebra::Rel;
 use au_annot::Triple;
@@ -43,13 +43,9 @@ pub(crate) fn side_of<R: Threads + Sync, G: Gate + Sync>(
     ensures overflow { result ≡ Err EvalFault.Overflow → LeavesRange own.entry.items (plan_tree planned.plan) planned.layout.columns }
 {
     let columns = planned.layout.columns;
-    let rows = match run(runner, alloc, planned, own) {
-        Ok(rows) => rows,
-        Err(fault) => return Err(fault),
-    };
-    match runner.decoded(alloc, rows, columns) {
+    match run_decoded(runner, alloc, planned, own) {
         Ok(rel) => Ok(Side { rel, columns }),
-        Err(NoMemory) => Err(EvalFault::NoMemory),
+        Err(fault) => Err(fault),
     }
 }
 

@@ -19,6 +19,7 @@
 mod answering;
 mod certainty;
 mod compressing;
+mod decoded;
 mod encoded;
 mod faults;
 mod guess_rows;

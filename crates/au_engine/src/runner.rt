@@ -13,6 +13,7 @@ ghost use Rattle.au_encode.specs.Encode.{AreEncoded, decode as decode_of, encode
 ghost use Rattle.au_translate.specs.Translate.{bounded_blocks};
 ghost use Rattle.au_exec.specs.Outcomes.{rows_of};
 
+use crate::decoded::{Decoding, put_together};
 use au_algebra::Rel;
 use au_annot::Triple;
 use au_blocks::{Block, Column};
@@ -81,6 +82,62 @@ impl<'a, R: Threads + Sync, G: Gate + Sync> Runner<'a, R, G> {
         }
     }
 
+    /// The relation that the rows of a plan encode, each with so many columns, in their order. The rows of a join are decoded
+    /// part by part as they are made.
+    ///
+    /// `Overflow` comes only where a number of the plan leaves 128 bits.
+    pub(crate) fn relation(
+        &self,
+        alloc: Global,
+        plan: Physical,
+        tables: Vec<Vec<PRow>>,
+        columns: usize,
+    ) -> Result<Rel<Range, Triple>, EvalFault>
+        requires plan { IsPhysicalFor (map rows_of tables.items) (physical_tree plan) }
+        requires rows { AreEncoded columns (physical_rows (physical_tree plan) (map rows_of tables.items)) }
+        ensures rows { IfOk result (λ rel. rel ≡ decode_of columns (physical_rows (physical_tree plan) (map rows_of tables.items))) }
+        ensures overflow { IfErr result (λ f. f ≡ fault.Overflow → fit (physical_numbers (physical_tree plan) (map rows_of tables.items)) ≡ false) }
+    {
+        if is_join(&plan) {
+            return self.relation_in_parts(alloc, plan, tables, columns);
+        }
+        let rows = match self.all(alloc, plan, tables) {
+            Ok(rows) => rows,
+            Err(fault) => return Err(fault),
+        };
+        match self.decoded(alloc, rows, columns) {
+            Ok(relation) => Ok(relation),
+            Err(NoMemory) => Err(EvalFault::NoMemory),
+        }
+    }
+
+    // The same, part by part.
+    fn relation_in_parts(
+        &self,
+        alloc: Global,
+        plan: Physical,
+        tables: Vec<Vec<PRow>>,
+        columns: usize,
+    ) -> Result<Rel<Range, Triple>, EvalFault>
+        requires plan { IsPhysicalFor (map rows_of tables.items) (physical_tree plan) }
+        requires rows { AreEncoded columns (physical_rows (physical_tree plan) (map rows_of tables.items)) }
+        ensures rows { IfOk result (λ rel. rel ≡ decode_of columns (physical_rows (physical_tree plan) (map rows_of tables.items))) }
+        ensures overflow { IfErr result (λ f. f ≡ fault.Overflow → fit (physical_numbers (physical_tree plan) (map rows_of tables.items)) ≡ false) }
+    {
+        let run = match Run::start(alloc, plan, tables, self.workers, self.gate) {
+            Ok(run) => run,
+            Err(NoMemory) => return Err(EvalFault::NoMemory),
+        };
+        let parts = match run.converted(self.rt, &Decoding { columns }) {
+            Ok(parts) => parts,
+            Err(fault) => return Err(fault),
+        };
+        match put_together(alloc, parts) {
+            Ok(relation) => Ok(relation),
+            Err(NoMemory) => Err(EvalFault::NoMemory),
+        }
+    }
+
     /// The encoded rows of some blocks of a table of these columns, in block order.
     pub(crate) fn encoded(
         &self,
@@ -111,9 +168,9 @@ impl<'a, R: Threads + Sync, G: Gate + Sync> Runner<'a, R, G> {
         encoded_places_by(self.rt, alloc, workers, columns, blocks, places)
     }
 
-    /// The relation that the rows encode, each with so many columns, in their order. Several threads copy the values of many
-    /// rows, which are given back beside what comes next; else the values are moved.
-    pub(crate) fn decoded(
+    // The relation that the rows encode, each with so many columns, in their order. Several threads copy the values of many
+    // rows, which are given back beside what comes next; else the values are moved.
+    fn decoded(
         &self,
         alloc: Global,
         rows: Vec<PRow>,
@@ -130,10 +187,28 @@ impl<'a, R: Threads + Sync, G: Gate + Sync> Runner<'a, R, G> {
         relation
     }
 
+    /// By what threads are started, and how many workers share so many rows or blocks.
+    pub(crate) fn sharing(&self, count: usize) -> (&'a R, usize)
+        ensures { 1 ≤ result.1 }
+    {
+        (self.rt, self.workers_for(count))
+    }
+
     // How many workers share so many rows or blocks.
     fn workers_for(&self, count: usize) -> usize
         ensures { 1 ≤ result }
     {
         if count < FEW { 1 } else { self.workers }
+    }
+}
+
+// Whether the rows of a plan are those of a join that is probed, perhaps worked row by row.
+fn is_join(plan: &Physical) -> bool {
+    match plan {
+        Physical::Hash(_, _, _, _) | Physical::Overlap(_, _, _, _) => true,
+        Physical::Extend(_, of) => is_join(of),
+        Physical::Keep(_, of) => is_join(of),
+        Physical::Filter(_, of) => is_join(of),
+        _ => false,
     }
 }

@@ -5,15 +5,14 @@ ghost use Rattle.au_algebra.specs.Trees.{tree};
 ghost use Rattle.au_algebra.specs.Typing.{IsTyped};
 ghost use Rattle.au_blocks.specs.Tables.{column_kinds};
 ghost use Rattle.au_plain.specs.Plans.{plan_tree};
-ghost use Rattle.au_exec.specs.Outcomes.{rows_of};
 ghost use Rattle.au_engine.specs.Answers.{blocks_of, tree_asked, tree_asked_fits};
 ghost use Rattle.au_engine.specs.Compressing.{IsCompression};
-ghost use Rattle.au_engine.specs.Stages.{AreRowsOf, Shows};
+ghost use Rattle.au_engine.specs.Stages.{Shows};
 
 use crate::options::Options;
 use crate::runner::Runner;
 use crate::slicing::{by_slices, table_by_row};
-use crate::stage::run;
+use crate::stage::run_decoded;
 use crate::staged::staged;
 use crate::steps::{Planned, combined_of};
 use au_algebra::{Query, Rel};
@@ -21,7 +20,6 @@ use au_annot::Triple;
 use au_blocks::Table;
 use au_expr::EvalFault;
 use au_par::Gate;
-use au_plain::PRow;
 use au_value::{NoMemory, Range, Word};
 use std::alloc::Global;
 use std::thread::Threads;
@@ -38,35 +36,6 @@ fn shown(alloc: Global, of: Planned, combined: bool) -> Result<Planned, NoMemory
     }
 }
 
-// The encoded rows of what is shown of the tree's relation, up to order, and how many columns they encode.
-fn encoded_rows<R: Threads + Sync, G: Gate + Sync>(
-    runner: &Runner<'_, R, G>,
-    alloc: Global,
-    query: &Query,
-    tables: &[(Word, Table)],
-    options: Options,
-) -> Result<(Vec<PRow>, usize), EvalFault>
-    requires typed { IsTyped (map column_kinds (blocks_of tables.now)) (tree query.now) }
-    requires compression { IsCompression options.compress }
-    ensures rows { IfOk result (λ r. AreRowsOf options.compress options.combine (blocks_of tables.now) (tree query.now) r.1 (rows_of r.0)) }
-    ensures overflow { result ≡ Err EvalFault.Overflow → tree_asked_fits options.compress options.combine tables.now (tree query.now) ≡ false }
-{
-    let mut inputs = Vec::new(alloc);
-    let planned = match staged(runner, alloc, query, tables, options.compress, &mut inputs) {
-        Ok(planned) => planned,
-        Err(fault) => return Err(fault),
-    };
-    let planned = match shown(alloc, planned, options.combine) {
-        Ok(planned) => planned,
-        Err(NoMemory) => return Err(EvalFault::NoMemory),
-    };
-    let columns = planned.layout.columns;
-    match run(runner, alloc, planned, inputs) {
-        Ok(rows) => Ok((rows, columns)),
-        Err(fault) => Err(fault),
-    }
-}
-
 // The relation that is shown of a tree, by its plans over the whole tables.
 fn evaluated_at_once<R: Threads + Sync, G: Gate + Sync>(
     runner: &Runner<'_, R, G>,
@@ -80,13 +49,18 @@ fn evaluated_at_once<R: Threads + Sync, G: Gate + Sync>(
     ensures rows { IfOk result (λ r. normal_of r ≡ tree_asked options.compress options.combine tables.now (tree query.now)) }
     ensures overflow { result ≡ Err EvalFault.Overflow → tree_asked_fits options.compress options.combine tables.now (tree query.now) ≡ false }
 {
-    let (rows, columns) = match encoded_rows(runner, alloc, query, tables, options) {
-        Ok(found) => found,
+    let mut inputs = Vec::new(alloc);
+    let planned = match staged(runner, alloc, query, tables, options.compress, &mut inputs) {
+        Ok(planned) => planned,
         Err(fault) => return Err(fault),
     };
-    match runner.decoded(alloc, rows, columns) {
+    let planned = match shown(alloc, planned, options.combine) {
+        Ok(planned) => planned,
+        Err(NoMemory) => return Err(EvalFault::NoMemory),
+    };
+    match run_decoded(runner, alloc, planned, inputs) {
         Ok(relation) => Ok(relation),
-        Err(NoMemory) => Err(EvalFault::NoMemory),
+        Err(fault) => Err(fault),
     }
 }
 

@@ -1,6 +1,6 @@
 //! Queries that work row by row over one table: they are answered slice by slice of the table's blocks, so that memory holds
-//! the rows of one slice beside the answer.
-ghost use Rattle.std.specs.Prelude.{◌≡◌, ◌<◌, ◌∷◌, ◌++◌, ℕ, [], Err, None, Some, IfOk, IfSome, length, map, slice_get, true};
+//! the rows of one slice for each worker beside the answer.
+ghost use Rattle.std.specs.Prelude.{◌≡◌, ◌<◌, ◌≤◌, ◌∷◌, ◌++◌, ℕ, [], Err, None, Some, IfOk, IfSome, length, map, slice_get, true};
 ghost use Rattle.au_expr.specs.Figures.{Fit};
 ghost use Rattle.au_expr.specs.Terms.{Column as column, term};
 ghost use Rattle.au_algebra.specs.Bounded.{normal as normal_of};
@@ -10,8 +10,10 @@ ghost use Rattle.au_blocks.specs.Tables.{IsBlockTable, column_kinds, table as ta
 ghost use Rattle.au_plain.specs.Plans.{plan_tree};
 ghost use Rattle.au_engine.specs.Answers.{blocks_of};
 ghost use Rattle.au_engine.specs.Scans.{IsScan, columns_from};
+ghost use Rattle.au_engine.specs.Shares.{Gathers, GathersBoth, WorksOver};
 ghost use Rattle.au_engine.specs.Slicing.{WorksByRow, gathered_numbers, over_one, row_table as row_table_of, slice_numbers, slice_rows};
 ghost use Rattle.au_engine.specs.Stages.{AddsTree};
+ghost use denote.Param.Send.{IsSync};
 
 use crate::compressing::side_of;
 use crate::encoded::scanned_blocks;
@@ -22,14 +24,18 @@ use au_algebra::{Gathered, Query, Rel, normal};
 use au_annot::Triple;
 use au_blocks::{Block, Column, Table};
 use au_expr::{EvalFault, Expr};
-use au_par::Gate;
+use au_par::{Gate, NoGate};
 use au_translate::bounded_rows;
 use au_value::{NoMemory, Range, Word};
 use std::alloc::Global;
-use std::thread::Threads;
+use std::thread::{Threads, join};
 
-// So many blocks are a slice, or fewer.
+// So many blocks are a slice for one worker, or fewer.
 const SLICE: usize = 4_096;
+
+// What has more nodes is planned by the thread that does all the work: a plan is as deep as its tree has nodes, each of which
+// takes some 25 KiB of the stack, and the threads of the workers have the stack that the system gives them.
+const FEW_NODES: usize = 8;
 
 // The place of the table of a tree of Select and Project alone.
 fn row_table(query: &Query) -> Option<usize>
@@ -215,13 +221,14 @@ fn settled_slice<R: Threads + Sync, G: Gate + Sync>(
     }
 }
 
-// The first blocks, at most a slice of them, and the others.
-fn first_slice(blocks: &[Block]) -> (&[Block], &[Block])
-    requires { 0 < length blocks.now }
+// The first blocks, at most so many, and the others.
+fn first_slice(blocks: &[Block], size: usize) -> (&[Block], &[Block])
+    requires blocks { 0 < length blocks.now }
+    requires size { 0 < size }
     ensures parts { result.0.now ++ result.1.now ≡ blocks.now }
     ensures others { length result.1.now < length blocks.now }
 {
-    blocks.split_at(blocks.len().min(SLICE))
+    blocks.split_at(blocks.len().min(size))
 }
 
 // What was gathered before a slice, and its rows.
@@ -249,8 +256,183 @@ fn with_slice<R: Threads + Sync, G: Gate + Sync>(
     }
 }
 
+// What is gathered of a tree that works row by row over some blocks, in slices of so many: the rows of each slice are let go
+// before those of the next are made.
+fn in_slices<R: Threads + Sync, G: Gate + Sync>(
+    runner: &Runner<'_, R, G>,
+    alloc: Global,
+    query: &Query,
+    columns: &[Column],
+    blocks: &[Block],
+    size: usize,
+) -> Result<Gathered, EvalFault>
+    requires works { WorksOver (tree query.now) columns.now blocks.now }
+    requires size { 0 < size }
+    ensures { Gathers (tree query.now) blocks.now result }
+{
+    let mut gathered = Gathered::new(alloc);
+    let mut rest = blocks;
+    while !rest.is_empty() {
+        let (slice, others) = first_slice(rest, size);
+        gathered = match with_slice(runner, alloc, query, columns, slice, gathered) {
+            Ok(gathered) => gathered,
+            Err(fault) => return Err(fault),
+        };
+        rest = others;
+    }
+    Ok(gathered)
+}
+
+// The same by one worker of several.
+fn share_of<R: Threads + Sync>(
+    rt: &R,
+    alloc: Global,
+    query: &Query,
+    columns: &[Column],
+    blocks: &[Block],
+) -> Result<Gathered, EvalFault>
+    requires works { WorksOver (tree query.now) columns.now blocks.now }
+    ensures { Gathers (tree query.now) blocks.now result }
+{
+    let runner = Runner::new(rt, 1, NoGate);
+    in_slices(&runner, alloc, query, columns, blocks, SLICE)
+}
+
+// The same by so many workers, each of which gathers a share of the blocks. The shares go to threads one after the other, the
+// first one excepted, and are put together in their order.
+#[cycle(shares)]
+fn by_shares<R: Threads + Sync>(
+    rt: &R,
+    alloc: Global,
+    query: &Query,
+    columns: &[Column],
+    blocks: &[Block],
+    workers: usize,
+) -> Result<Gathered, EvalFault>
+    requires workers { 1 ≤ workers }
+    requires works { WorksOver (tree query.now) columns.now blocks.now }
+    ensures { Gathers (tree query.now) blocks.now result }
+{
+    if workers == 1 {
+        return share_of(rt, alloc, query, columns, blocks);
+    }
+    let (others, share) = last_share(blocks, workers);
+    let left = workers - 1;
+    let back = move || -> Result<Gathered, EvalFault>
+        requires { IsSync R.row × WorksOver (tree query.now) columns.now share.now }
+        ensures { Gathers (tree query.entry.now) share.entry.now result }
+    { share_of(rt, alloc, query, columns, share) };
+    let front = move || -> Result<Gathered, EvalFault>
+        requires { IsSync R.row × (1 ≤ left) × WorksOver (tree query.now) columns.now others.now }
+        ensures { Gathers (tree query.entry.now) others.entry.now result }
+    { by_shares(rt, alloc, query, columns, others, left) };
+    let (last, before) = join(rt, back, front);
+    put_behind(alloc, before, last)
+}
+
+// The blocks of all workers but the last, and those of the last.
+fn last_share(blocks: &[Block], workers: usize) -> (&[Block], &[Block])
+    requires { 1 ≤ workers }
+    ensures { result.0.now ++ result.1.now ≡ blocks.now }
+{
+    let share = blocks.len() / workers;
+    blocks.split_at(blocks.len() - share)
+}
+
+// What was gathered first, and behind it what was gathered of the next blocks.
+fn put_behind(
+    alloc: Global,
+    first: Result<Gathered, EvalFault>,
+    second: Result<Gathered, EvalFault>,
+) -> Result<Gathered, EvalFault>
+    ensures { GathersBoth first second result }
+{
+    let first = first?;
+    let second = second?;
+    match first.put(alloc, second.into_rows()) {
+        Ok(both) => Ok(both),
+        Err(fault) => Err(fault),
+    }
+}
+
+// How many blocks are a slice: at most so many for each worker, and about as many as in the other slices.
+fn slice_size(blocks: usize, workers: usize) -> usize
+    requires { 1 ≤ workers }
+    ensures { 0 < result }
+{
+    let slices = blocks.div_ceil(SLICE.saturating_mul(workers)).max(1);
+    blocks.div_ceil(slices).max(1)
+}
+
+// How many nodes an expression has.
+fn nodes(expr: &Expr) -> usize {
+    match expr {
+        Expr::Column(_) | Expr::Literal(_) => 1,
+        Expr::Negate(a) | Expr::Not(a) => nodes(a).saturating_add(1),
+        Expr::Add(a, b)
+        | Expr::Subtract(a, b)
+        | Expr::Multiply(a, b)
+        | Expr::Compare(_, a, b)
+        | Expr::And(a, b)
+        | Expr::Or(a, b) => nodes(a).saturating_add(nodes(b)).saturating_add(1),
+        Expr::Case(a, b, c) => nodes(a)
+            .saturating_add(nodes(b))
+            .saturating_add(nodes(c))
+            .saturating_add(1),
+    }
+}
+
+// How many nodes a tree of Select and Project has, with its expressions.
+fn tree_nodes(query: &Query) -> usize {
+    match query {
+        Query::Select(condition, of) => tree_nodes(of)
+            .saturating_add(nodes(condition))
+            .saturating_add(1),
+        Query::Project(items, of) => {
+            let mut count = tree_nodes(of).saturating_add(1);
+            for item in items.as_slice() {
+                count = count.saturating_add(nodes(item));
+            }
+            count
+        }
+        Query::Table(_)
+        | Query::Product(_, _)
+        | Query::Union(_, _)
+        | Query::Difference(_, _)
+        | Query::Distinct(_)
+        | Query::Group(_, _, _)
+        | Query::Total(_, _) => 1,
+    }
+}
+
+// Whether such a tree can be worked on the stack of a thread that is started for a share.
+fn is_shallow(query: &Query, columns: usize) -> bool {
+    is_scan(query, columns) || tree_nodes(query) <= FEW_NODES
+}
+
+// What is gathered of such a tree. Of many blocks each worker gathers a share, where the tree has few nodes; else the workers
+// share the rows of each slice.
+fn gathered_by<R: Threads + Sync, G: Gate + Sync>(
+    runner: &Runner<'_, R, G>,
+    alloc: Global,
+    query: &Query,
+    columns: &[Column],
+    blocks: &[Block],
+) -> Result<Gathered, EvalFault>
+    requires works { WorksOver (tree query.now) columns.now blocks.now }
+    ensures { Gathers (tree query.now) blocks.now result }
+{
+    let (rt, workers) = runner.sharing(blocks.len());
+    if 1 < workers && is_shallow(query, columns.len()) {
+        return by_shares(rt, alloc, query, columns, blocks, workers);
+    }
+    let size = slice_size(blocks.len(), workers);
+    in_slices(runner, alloc, query, columns, blocks, size)
+}
+
 /// The relation of a tree that works row by row over a table, in some order. It is gathered slice by slice, and the rows of
-/// each slice are let go before those of the next are made.
+/// each slice are let go before those of the next are made. Of many blocks each worker gathers a share so, or all of them share
+/// the rows of each slice.
 ///
 /// `Overflow` comes only where a number of it or of its normal form leaves 128 bits.
 pub(crate) fn by_slices<R: Threads + Sync, G: Gate + Sync>(
@@ -265,12 +447,9 @@ pub(crate) fn by_slices<R: Threads + Sync, G: Gate + Sync>(
     ensures overflow { result ≡ Err EvalFault.Overflow → ¬ (Fit (gathered_numbers [] (tree query.now) table.now.blocks)) }
 {
     let columns = table.columns();
-    let mut gathered = Gathered::new(alloc);
-    let mut rest = table.blocks();
-    while !rest.is_empty() {
-        let (slice, others) = first_slice(rest);
-        gathered = with_slice(runner, alloc, query, columns, slice, gathered)?;
-        rest = others;
+    let blocks = table.blocks();
+    match gathered_by(runner, alloc, query, columns, blocks) {
+        Ok(gathered) => Ok(gathered.into_rows()),
+        Err(fault) => Err(fault),
     }
-    Ok(gathered.into_rows())
 }

@@ -5,19 +5,21 @@ ghost use Rattle.au_plain.specs.PlanKinds.{FitRows};
 ghost use Rattle.au_plain.specs.Plans.{Scan, plan_tree};
 ghost use Rattle.au_exec.specs.Outcomes.{rows_of};
 ghost use Rattle.au_engine.specs.Inputs.{StandsReady};
-ghost use Rattle.au_engine.specs.Stages.{CanRunPlan, FindsRows, LeavesRange, LeavesRangeCombined, Materializes, MaterializesCombined};
+ghost use Rattle.au_engine.specs.Stages.{CanRunPlan, Decodes, FindsRows, LeavesRange, LeavesRangeCombined, Materializes, MaterializesCombined};
 
 use crate::input::Input;
 use crate::reads::read_inputs;
 use crate::runner::Runner;
 use crate::steps::{Planned, combined_of};
+use au_algebra::Rel;
+use au_annot::Triple;
 use au_expr::EvalFault;
 use au_par::Gate;
 use au_physical::Physical;
 use au_plain::{Layout, PRow, Plan};
 use au_plan::improve;
 use au_rwexpr::width_of;
-use au_value::{NoMemory, beside};
+use au_value::{NoMemory, Range, beside};
 use std::alloc::Global;
 use std::thread::Threads;
 
@@ -41,6 +43,30 @@ pub(crate) fn run<R: Threads + Sync, G: Gate + Sync>(
     };
     match runner.all(alloc, plan, tables) {
         Ok(rows) => Ok(rows),
+        Err(fault) => Err(fault),
+    }
+}
+
+/// The relation that a plan gives over its inputs, which are let go, in some order.
+///
+/// `Overflow` comes only where a number of what the plan gives leaves 128 bits.
+pub(crate) fn run_decoded<R: Threads + Sync, G: Gate + Sync>(
+    runner: &Runner<'_, R, G>,
+    alloc: Global,
+    planned: Planned,
+    inputs: Vec<Input<'_>>,
+) -> Result<Rel<Range, Triple>, EvalFault>
+    requires runs { CanRunPlan inputs.items (plan_tree planned.plan) planned.layout.columns }
+    ensures rows { IfOk result (λ rel. Decodes inputs.entry.items (plan_tree planned.plan) planned.layout.columns rel) }
+    ensures overflow { result ≡ Err EvalFault.Overflow → LeavesRange inputs.entry.items (plan_tree planned.plan) planned.layout.columns }
+{
+    let columns = planned.layout.columns;
+    let (plan, tables) = match ready(runner, alloc, planned.plan, inputs) {
+        Ok(both) => both,
+        Err(NoMemory) => return Err(EvalFault::NoMemory),
+    };
+    match runner.relation(alloc, plan, tables, columns) {
+        Ok(relation) => Ok(relation),
         Err(fault) => Err(fault),
     }
 }

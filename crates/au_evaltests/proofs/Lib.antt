@@ -2,3 +2,4 @@ mod AnswerColumns
 mod Columns
 mod Held
 mod Probed
+mod Taken

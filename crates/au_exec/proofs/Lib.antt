@@ -25,6 +25,7 @@ pub mod PushSteps
 pub mod JoinPulls
 pub mod TypedPhysical
 pub mod Collected
+pub mod Converting
 pub mod CountedScans
 pub mod Filled
 pub mod Openings

@@ -101,7 +101,7 @@ module _ (e : PTerm) (right : Right) (os : List Operator) where
   pub probed_fit_none : probed_fit e right os [] ≡ true
   probed_fit_none = chain_fit_none os
 
-not_both : (a b : Bool) → not (a && b) ≡ (not a || not b)
+pub not_both : (a b : Bool) → not (a && b) ≡ (not a || not b)
 not_both true b = refl
 not_both false b = refl
 

@@ -21,6 +21,8 @@ pub mod Rights
 pub mod Chains
 pub mod Probed
 pub mod ChainLaws
+pub mod Converted
+pub mod ConvertedLaws
 pub mod Gathering
 pub mod Pieces
 pub mod PieceLaws

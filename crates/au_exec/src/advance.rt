@@ -1,14 +1,18 @@
 //! The next rows of a run, and all that are left.
 ghost use Rattle.std.specs.Prelude.{◌≡◌, ◌≤◌, false, true, IsTrue, MatchResult};
 ghost use Rattle.au_expr.specs.declared.fault.EvalFault.TheVariants as fault;
+ghost use Rattle.std.specs.List.{AllByRecursion};
+ghost use Rattle.au_exec.specs.Converted.{Converts};
 ghost use Rattle.au_exec.specs.Left.{CanPull, fits_left};
 ghost use Rattle.au_exec.specs.Outcomes.{rows_of};
 ghost use Rattle.au_exec.specs.Taken.{HasSize};
 ghost use Rattle.au_exec.specs.Runs.{Batched, CanGo, IsGoing, Same, Stepped, state_fits, state_rows};
 
 use crate::collect::{collect, drained};
+use crate::conversions::converted_node;
+use crate::convert::{Convert, one_part};
 use crate::node::Node;
-use crate::open::opened;
+use crate::open::{opened, opened_unworked};
 use crate::pull::pull;
 use crate::source::{CHUNK, take_rows};
 use crate::state::State;
@@ -58,6 +62,39 @@ pub(crate) fn rest<R: Threads + Sync, G: Gate + Sync>(
             collect(alloc, rows, node)
         }
         State::Waiting(_, _) => unreachable!(),
+    }
+}
+
+/// All rows that are left, converted.
+pub(crate) fn rest_converted<
+    R: Threads + Sync,
+    G: Gate + Sync,
+    U: Send + Drop,
+    C: Convert<U> + Sync,
+>(
+    rt: &R,
+    alloc: Global,
+    workers: usize,
+    gate: &G,
+    convert: &C,
+    state: &mut State,
+) -> Result<Vec<U>, EvalFault>
+    requires state { CanGo state.old }
+    requires workers { (1 ≤ workers) × (workers ≤ 64) }
+    requires rows { AllByRecursion (C.takes convert.now) (state_rows state.old) }
+    ensures { Converts (C.converted convert.now) (state_rows state.old) (state_fits state.old) result }
+{
+    match state {
+        State::Waiting(plan, tables) => {
+            let tables = mem::replace(tables, Vec::new(alloc));
+            let mut node = opened_unworked(rt, alloc, workers, gate, plan, tables)?;
+            converted_node(rt, alloc, workers, gate, convert, &mut node)
+        }
+        State::Going(ready, node) => {
+            let rows = drained(alloc, ready)?;
+            let rows = collect(alloc, rows, node)?;
+            one_part(alloc, convert, rows)
+        }
     }
 }
 

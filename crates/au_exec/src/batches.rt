@@ -1,5 +1,6 @@
 //! Plans that are run batch by batch.
 ghost use Rattle.std.specs.Prelude.{◌≡◌, ◌≤◌, ◌++◌, false, true, IfErr, IfOk, IfSome, map};
+ghost use Rattle.std.specs.List.{AllByRecursion};
 ghost use Rattle.au_expr.specs.Figures.{fit};
 ghost use Rattle.au_expr.specs.declared.fault.EvalFault.TheVariants as fault;
 ghost use Rattle.au_physical.specs.PhysicalKinds.{IsPhysicalFor};
@@ -7,9 +8,11 @@ ghost use Rattle.au_physical.specs.PhysicalMeaning.{physical_rows};
 ghost use Rattle.au_physical.specs.PhysicalNumbers.{physical_numbers};
 ghost use Rattle.au_physical.specs.Physicals.{physical_tree};
 ghost use Rattle.au_exec.specs.Advances.{Advances};
+ghost use Rattle.au_exec.specs.Converted.{InParts};
 ghost use Rattle.au_exec.specs.Outcomes.{rows_of};
 
-use crate::advance::{advance, rest};
+use crate::advance::{advance, rest, rest_converted};
+use crate::convert::Convert;
 use crate::state::State;
 use au_expr::EvalFault;
 use au_par::Gate;
@@ -100,6 +103,33 @@ impl<G: Gate + Sync> Run<G> {
                 self.refusal = Some(fault);
                 Err(fault)
             }
+        }
+    }
+
+    /// All rows that are left, converted part by part as they are made, in the pieces in which the workers make them.
+    pub fn converted<R: Threads + Sync, U: Send + Drop, C: Convert<U> + Sync>(
+        self,
+        rt: &R,
+        convert: &C,
+    ) -> Result<Vec<U>, EvalFault>
+        requires rows { AllByRecursion (C.takes convert.now) self.rows }
+        ensures parts { IfOk result (λ v. InParts (C.converted convert.now) self.rows v.items) }
+        ensures fits { IfOk result (λ _. self.fits ≡ true) }
+        ensures again { IfSome self.refusal (λ f. result ≡ Err f) }
+        ensures overflow { IfErr result (λ f. f ≡ fault.Overflow → self.fits ≡ false) }
+    {
+        let Run {
+            alloc,
+            workers,
+            gate,
+            mut state,
+            refusal,
+            plan: _,
+            tables: _,
+        } = self;
+        match refusal {
+            Some(fault) => Err(fault),
+            None => rest_converted(rt, alloc, workers, &gate, convert, &mut state),
         }
     }
 

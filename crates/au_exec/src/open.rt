@@ -43,6 +43,23 @@ pub(crate) fn opened<R: Threads + Sync, G: Gate + Sync>(
     ready(rt, alloc, workers, gate, plan)
 }
 
+/// The same, where the node may be a join that is still to be worked.
+pub(crate) fn opened_unworked<R: Threads + Sync, G: Gate + Sync>(
+    rt: &R,
+    alloc: Global,
+    workers: usize,
+    gate: &G,
+    plan: &mut Physical,
+    tables: Vec<Vec<PRow>>,
+) -> Result<Box<Node>, EvalFault>
+    requires workers { (1 ≤ workers) × (workers ≤ 64) }
+    requires plan { CanOpen (map rows_of tables.items) (physical_tree plan.old) }
+    ensures { Makes (physical_rows (physical_tree plan.old) (map rows_of tables.items)) (fit (physical_numbers (physical_tree plan.old) (map rows_of tables.items))) result }
+{
+    read_tables(rt, alloc, workers, plan, tables)?;
+    open(rt, alloc, workers, gate, plan)
+}
+
 // The node of a plan without Scans, whose rows are pulled one after the other: a join of it is worked by the workers.
 #[cycle(openings)]
 fn ready<R: Threads + Sync, G: Gate + Sync>(

@@ -1,15 +1,38 @@
--- The rows that were found decode to a relation of the answer's normal form.
-use Rattle.std.proofs.Common.{◌∙◌, ap}
-use Rattle.au_algebra.specs.Bounded.{normal}
+-- The plan of what is shown can be run, and what its run gives is of the answer's normal form.
+use Rattle.std.proofs.Common.{◌≡◌, Err, subst}
+use Rattle.au_expr.specs.declared.fault.EvalFault.TheVariants.{Overflow}
 use Rattle.au_algebra.specs.Trees.{tree}
-use Rattle.au_exec.specs.Outcomes.{rows_of}
-use Rattle.au_engine.proofs.PlanRuns.{decodable, decoded}
+use Rattle.au_plain.specs.Plans.{plan_tree}
+use Rattle.au_engine.specs.Answers.{blocks_of}
+use Rattle.au_engine.specs.Stages.{AddsTree}
+use Rattle.au_engine.proofs.PlanRuns.{shown_decodes, shown_leaves, shown_runs, tree_leaves}
 use Rattle.au_engine.proofs.running.evaluated_at_once.Goals as goal
 
-pub decoded-requires-clause-rows : goal.decoded-requires-clause-rows
-decoded-requires-clause-rows g c κs within = decodable c.args.options.compress c.args.options.combine c.args.tables.now (tree c.args.query.now) c.in-Ok.found.1 (rows_of c.in-Ok.found.0) c.in-Ok.ensures.rows
+pub returns-in-Err-clause-overflow : goal.returns-in-Err-clause-overflow
+returns-in-Err-clause-overflow g c e =
+    let is : c.in-Err.fault ≡ Overflow = cc in
+    tree_leaves c.args.options.compress c.args.options.combine c.args.tables.now (tree c.args.query.now) (c.in-Err.ensures.overflow (λ i. Err (is i)))
 
-pub returns-in-Ok-decoded-clause-rows : goal.returns-in-Ok-decoded-clause-rows
-returns-in-Ok-decoded-clause-rows g c =
-    ap normal c.in-Ok-decoded.ensures
-    ∙ decoded c.args.options.compress c.args.options.combine c.args.tables.now (tree c.args.query.now) c.in-Ok.found.1 (rows_of c.in-Ok.found.0) c.in-Ok.ensures.rows
+pub run_decoded-requires-clause-runs : goal.run_decoded-requires-clause-runs
+run_decoded-requires-clause-runs g c κs within =
+    shown_runs c.args.options.compress c.args.options.combine c.args.tables.now (tree c.args.query.now) c.requires.typed c.staged.new.inputs.items (plan_tree c.in-Ok.planned.plan) (plan_tree c.in-Ok-shown.planned.plan)
+    c.in-Ok.planned.layout.columns c.in-Ok-shown.planned.layout.columns c.in-Ok-shown.ensures.columns c.in-Ok-shown.ensures.plan
+    (subst (λ xs. AddsTree c.args.options.compress (blocks_of c.args.tables.now) (tree c.args.query.now) xs c.staged.new.inputs.items (plan_tree c.in-Ok.planned.plan) c.in-Ok.planned.layout.columns)
+    c.new-inputs.ensures.items c.in-Ok.ensures.plan)
+
+pub returns-in-Ok-run_decoded-clause-rows : goal.returns-in-Ok-run_decoded-clause-rows
+returns-in-Ok-run_decoded-clause-rows g c =
+    shown_decodes c.args.options.compress c.args.options.combine c.args.tables.now (tree c.args.query.now) c.requires.typed c.staged.new.inputs.items (plan_tree c.in-Ok.planned.plan) (plan_tree c.in-Ok-shown.planned.plan)
+    c.in-Ok.planned.layout.columns c.in-Ok-shown.planned.layout.columns c.in-Ok-shown.ensures.columns c.in-Ok-shown.ensures.plan
+    (subst (λ xs. AddsTree c.args.options.compress (blocks_of c.args.tables.now) (tree c.args.query.now) xs c.staged.new.inputs.items (plan_tree c.in-Ok.planned.plan) c.in-Ok.planned.layout.columns)
+    c.new-inputs.ensures.items c.in-Ok.ensures.plan)
+    c.in-Ok-run_decoded.relation c.in-Ok-run_decoded.ensures.rows
+
+pub returns-in-Err-run_decoded-clause-overflow : goal.returns-in-Err-run_decoded-clause-overflow
+returns-in-Err-run_decoded-clause-overflow g c e =
+    let is : c.in-Err-run_decoded.fault ≡ Overflow = cc in
+    shown_leaves c.args.options.compress c.args.options.combine c.args.tables.now (tree c.args.query.now) c.requires.typed c.staged.new.inputs.items (plan_tree c.in-Ok.planned.plan) (plan_tree c.in-Ok-shown.planned.plan)
+    c.in-Ok.planned.layout.columns c.in-Ok-shown.planned.layout.columns c.in-Ok-shown.ensures.columns c.in-Ok-shown.ensures.plan
+    (subst (λ xs. AddsTree c.args.options.compress (blocks_of c.args.tables.now) (tree c.args.query.now) xs c.staged.new.inputs.items (plan_tree c.in-Ok.planned.plan) c.in-Ok.planned.layout.columns)
+    c.new-inputs.ensures.items c.in-Ok.ensures.plan)
+    (c.in-Err-run_decoded.ensures.overflow (λ i. Err (is i)))
