@@ -17,7 +17,7 @@ use au_engine::{
     EngineFault, Options, answer, answer_directly, guess_answer, rewritten_text, ua_answer,
 };
 use au_expr::EvalFault;
-use au_par::Gate;
+use au_par::{Gate, let_go};
 use au_parse::Statement;
 use au_print::{Answer, csv_text, csv_text_by, guess_text, table_text};
 use au_ua::ua_text;
@@ -81,7 +81,7 @@ fn planned_text<R: Threads + Sync, G: Gate + Sync>(
 {
     let workers = options.workers;
     match answer(rt, alloc, statement, tables, options, gate) {
-        Ok(answer) => match rows_text_by(rt, alloc, workers, &answer, table) {
+        Ok(answer) => match rows_text_by(rt, alloc, workers, answer, table) {
             Ok(text) => Ok(text),
             Err(NoMemory) => Err(EngineFault::NoMemory),
         },
@@ -126,24 +126,26 @@ fn rows_text(alloc: Global, answer: &Answer, table: bool) -> Result<Vec<u8>, NoM
     }
 }
 
-// The same, where the workers write the rows as CSV.
+// The same, where the workers write the rows as CSV. The answer is given back beside what comes next.
 fn rows_text_by<R: Threads + Sync>(
     rt: &R,
     alloc: Global,
     workers: usize,
-    answer: &Answer,
+    answer: Answer,
     table: bool,
 ) -> Result<Vec<u8>, NoMemory>
     requires workers { 1 ≤ workers }
-    requires columns { length answer.now.kinds.items ≡ length answer.now.names.items }
-    requires rows { AllByRecursion (λ r. length r.cells ≡ length answer.now.names.items) answer.now.rows }
-    ensures { IfOk result (λ t. t.items ≡ bounded_rows_text table answer.now.names.items answer.now.kinds.items answer.now.rows) }
+    requires columns { length answer.kinds.items ≡ length answer.names.items }
+    requires rows { AllByRecursion (λ r. length r.cells ≡ length answer.names.items) answer.rows }
+    ensures { IfOk result (λ t. t.items ≡ bounded_rows_text table answer.names.items answer.kinds.items answer.rows) }
 {
-    if table {
-        table_text(alloc, answer)
+    let text = if table {
+        table_text(alloc, &answer)
     } else {
-        csv_text_by(rt, alloc, workers, answer)
-    }
+        csv_text_by(rt, alloc, workers, &answer)
+    };
+    let_go(rt, workers, answer);
+    text
 }
 
 // The text of the ordinary answer in the guess world.
