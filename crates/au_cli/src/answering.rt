@@ -26,6 +26,9 @@ use au_words::{Command, Request};
 use std::alloc::Global;
 use std::thread::Threads;
 
+// An answer of fewer rows is given back in place: a thread costs more than what it saves on them.
+const FEW: usize = 4096;
+
 /// The text of what a request asks for, over its tables.
 pub(crate) fn answer_text<R: Threads + Sync, G: Gate + Sync>(
     rt: &R,
@@ -126,7 +129,7 @@ fn rows_text(alloc: Global, answer: &Answer, table: bool) -> Result<Vec<u8>, NoM
     }
 }
 
-// The same, where the workers write the rows as CSV. The answer is given back beside what comes next.
+// The same, where the workers write the rows as CSV. An answer of many rows is given back beside what comes next.
 fn rows_text_by<R: Threads + Sync>(
     rt: &R,
     alloc: Global,
@@ -143,6 +146,11 @@ fn rows_text_by<R: Threads + Sync>(
         table_text(alloc, &answer)
     } else {
         csv_text_by(rt, alloc, workers, &answer)
+    };
+    let workers = if answer.rows.rows().len() < FEW {
+        1
+    } else {
+        workers
     };
     let_go(rt, workers, answer);
     text

@@ -17,7 +17,7 @@ use crate::pull::pull;
 use crate::source::{CHUNK, take_rows};
 use crate::state::State;
 use au_expr::EvalFault;
-use au_par::{Gate, let_go};
+use au_par::Gate;
 use au_plain::PRow;
 use std::alloc::Global;
 use std::mem;
@@ -88,9 +88,7 @@ pub(crate) fn rest_converted<
         State::Waiting(plan, tables) => {
             let tables = mem::replace(tables, Vec::new(alloc));
             let mut node = opened_unworked(rt, alloc, workers, gate, plan, tables)?;
-            let made = converted_node(rt, alloc, workers, gate, convert, &mut node);
-            let_go(rt, workers, node);
-            made
+            converted_node(rt, alloc, workers, gate, convert, &mut node)
         }
         State::Going(ready, node) => {
             let rows = drained(alloc, ready)?;
