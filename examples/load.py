@@ -1,15 +1,19 @@
 """Reads a CSV file into a table named answer, numbers as numbers, and prints what a query over it gives.
 
 Usage: python3 load.py FILE QUERY
+A number with digits behind its point becomes a floating-point number, since SQLite has no other.
 """
 import csv
+import re
 import sqlite3
 import sys
 
 
 def number(text):
     """Returns a text as a number, where it is one."""
-    return int(text) if text.removeprefix("-").isdecimal() else text
+    if re.fullmatch(r"-?[0-9]+", text):
+        return int(text)
+    return float(text) if re.fullmatch(r"-?[0-9]+\.[0-9]+", text) else text
 
 
 def main(path, query):

@@ -7,6 +7,7 @@ pub mod Finishing
 pub mod First
 pub mod GatherStep
 pub mod Gathering
+pub mod GuessWorlds
 pub mod InferredKinds
 pub mod Judged
 pub mod LabelKeys
@@ -15,6 +16,7 @@ mod LabelRuns
 pub mod MadeEntries
 pub mod MarkedColumns
 mod NearLabels
+pub mod OrderWorlds
 pub mod Places
 pub mod ReadTables
 pub mod RowValues

@@ -2,6 +2,7 @@
 pub mod Blocks
 pub mod Tables
 pub mod Worlds
+pub mod WorldLaws
 pub mod Headers
 pub mod Spellings
 pub mod Entries

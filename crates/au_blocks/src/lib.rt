@@ -5,7 +5,7 @@
 //! A table has columns and blocks: [`Table::columns`] and [`Table::blocks`] read it. A [`Block`] has at least one
 //! alternative, may be optional, and marks one choice as the guess: [`Block::alternatives`], [`Block::optional`] and
 //! [`Block::guess`] read it. An [`Alternative`] has a [`Cell`] for each column, a value or a range, and its [`Times`] say
-//! how many copies of it there are.
+//! how many copies of it there are. [`guess_world_is_world`] is the law that the guess world of tables is one of their worlds.
 //!
 //! ```text
 //! let table = read_table(alloc, bytes)?;
@@ -44,6 +44,7 @@ mod spellings;
 mod table;
 mod times;
 mod values;
+mod worlds;
 
 pub use alternative::Alternative;
 pub use block::Block;
@@ -53,3 +54,4 @@ pub use faults::TableFault;
 pub use read::{read_table, read_table_by};
 pub use table::Table;
 pub use times::Times;
+pub use worlds::{guess_world_is_world, orders_have_two_worlds};

@@ -1,22 +1,16 @@
--- Whether the numbers of an answer in the guess world fit, its printed counts among them.
+-- The printed counts are those of the answer in the guess world.
 use Rattle.std.proofs.Common.{◌≡◌, ◌&&◌, Bool, true, false, List, refl, sym, ◌∙◌, ap}
 use Rattle.au_algebra.specs.Counted.{CountedRow, StandsFor}
 use Rattle.au_algebra.specs.Ordinary.{Rows}
 use Rattle.au_print.specs.GuessTexts.{counts_fit, guess_rows, world_rows}
 use Rattle.au_print.proofs.GuessWorlds.{guess_world}
 
-both : (a b : Bool) → a ≡ true → b ≡ true → (a && b) ≡ true
-both true true e k = refl
-both false b e k = cc
-both true false e k = cc
-
 either : (a b : Bool) → b ≡ false → (a && b) ≡ false
 either true b e = e
 either false b e = refl
 
-pub guess_fits : (made : Bool) (rows : List CountedRow) (world : Rows) → StandsFor rows world → made ≡ true → counts_fit (guess_rows rows) ≡ true
-    → (made && counts_fit (world_rows world)) ≡ true
-guess_fits made rows world stands e k = both made (counts_fit (world_rows world)) e (ap counts_fit (sym (guess_world rows world stands)) ∙ k)
+pub guess_printed : (rows : List CountedRow) (world : Rows) → StandsFor rows world → counts_fit (guess_rows rows) ≡ true → counts_fit (world_rows world) ≡ true
+guess_printed rows world stands k = ap counts_fit (sym (guess_world rows world stands)) ∙ k
 
 pub guess_left : (made : Bool) (rows : List CountedRow) (world : Rows) → StandsFor rows world → counts_fit (guess_rows rows) ≡ false
     → (made && counts_fit (world_rows world)) ≡ false

@@ -135,15 +135,17 @@ HoldsBy Guess r ts s = ⊤
 HoldsBy Ua r ts s = UaHolds ts s
 HoldsBy Rewrite r ts s = ⊤
 
--- the plan of `answer` may pass over a number that leaves 128 bits, and `ua` makes numbers of its own
-abbrev pub FitsBy : Command → Bool → Type 0
-FitsBy Answer fit = ⊤
-FitsBy Ua fit = ⊤
-FitsBy Rewrite fit = ⊤
-FitsBy _ fit = fit ≡ true
+-- Which numbers fit where there is an answer: with `direct` all, and with `guess` the printed counts. The plans of `answer`, `guess`
+-- and `ua` may pass over a number that leaves 128 bits.
+abbrev pub FitsBy : Command → Request → List Named → QueryTree → Type 0
+FitsBy Answer r ts s = ⊤
+FitsBy Direct r ts s = answer_fits r.combine ts s ≡ true
+FitsBy Guess r ts s = counts_fit (world_rows (guess_answer ts s)) ≡ true
+FitsBy Ua r ts s = ⊤
+FitsBy Rewrite r ts s = ⊤
 
 -- a text is the answer's, and the answer holds
 pub record IsAnswer (r : Request) (text : List ℕ) (ts : List Named) (s : QueryTree) : Type 0 where
   pub is : IsTextBy r.command r ts s text
   pub holds : HoldsBy r.command r ts s
-  pub fits : FitsBy r.command (numbers_fit r ts s)
+  pub fits : FitsBy r.command r ts s

@@ -45,7 +45,7 @@ pub(crate) fn answer_text<R: Threads + Sync, G: Gate + Sync>(
     ensures typed { OnOk result (statement_defects tables.now (statement_tree statement.now) ≡ []) }
     ensures text { IfOk result (λ t. IsTextBy request.now.command (seen_request request.now) tables.now (statement_tree statement.now) t.items) }
     ensures holds { OnOk result (HoldsBy request.now.command (seen_request request.now) tables.now (statement_tree statement.now)) }
-    ensures fits { OnOk result (FitsBy request.now.command (fit_by request.now.command (seen_request request.now) tables.now (statement_tree statement.now))) }
+    ensures fits { OnOk result (FitsBy request.now.command (seen_request request.now) tables.now (statement_tree statement.now)) }
     ensures refused { IfErr result (AnswerCause (statement_defects tables.now (statement_tree statement.now)) (fit_by request.now.command (seen_request request.now) tables.now (statement_tree statement.now))) }
 {
     match request.command {
@@ -58,8 +58,8 @@ pub(crate) fn answer_text<R: Threads + Sync, G: Gate + Sync>(
             planned_text(rt, alloc, statement, tables, options, request.table, gate)
         }
         Command::Direct => direct_text(alloc, statement, tables, request.combine, request.table),
-        Command::Guess => guess_world_text(alloc, statement, tables),
-        Command::Ua => certain_text(alloc, statement, tables),
+        Command::Guess => guess_world_text(rt, alloc, statement, tables, gate),
+        Command::Ua => certain_text(rt, alloc, statement, tables, gate),
         Command::Rewrite => rewritten_text(alloc, statement, tables),
     }
 }
@@ -157,18 +157,20 @@ fn rows_text_by<R: Threads + Sync>(
 }
 
 // The text of the ordinary answer in the guess world.
-fn guess_world_text(
+fn guess_world_text<R: Threads + Sync, G: Gate + Sync>(
+    rt: &R,
     alloc: Global,
     statement: &Statement,
     tables: &[(Word, Table)],
+    gate: G,
 ) -> Result<Vec<u8>, EngineFault>
-    requires { WholeQuery (statement_tree statement.now) }
+    requires whole { WholeQuery (statement_tree statement.now) }
     ensures typed { OnOk result (statement_defects tables.now (statement_tree statement.now) ≡ []) }
     ensures text { IfOk result (λ t. t.items ≡ world_text (answer_names tables.now (statement_tree statement.now)) (answer_kinds tables.now (statement_tree statement.now)) (guess_answer_of tables.now (statement_tree statement.now))) }
-    ensures fits { OnOk result ((guess_answer_fits tables.now (statement_tree statement.now) && counts_fit (world_rows (guess_answer_of tables.now (statement_tree statement.now)))) ≡ true) }
+    ensures printed { OnOk result (counts_fit (world_rows (guess_answer_of tables.now (statement_tree statement.now))) ≡ true) }
     ensures refused { IfErr result (AnswerCause (statement_defects tables.now (statement_tree statement.now)) (guess_answer_fits tables.now (statement_tree statement.now) && counts_fit (world_rows (guess_answer_of tables.now (statement_tree statement.now))))) }
 {
-    let guess = match guess_answer(alloc, statement, tables) {
+    let guess = match guess_answer(rt, alloc, statement, tables, gate) {
         Ok(guess) => guess,
         Err(fault) => return Err(fault),
     };
@@ -185,10 +187,12 @@ fn guess_world_text(
 }
 
 // The text of the rows of the guess world with how often each is certain.
-fn certain_text(
+fn certain_text<R: Threads + Sync, G: Gate + Sync>(
+    rt: &R,
     alloc: Global,
     statement: &Statement,
     tables: &[(Word, Table)],
+    gate: G,
 ) -> Result<Vec<u8>, EngineFault>
     requires whole { WholeQuery (statement_tree statement.now) }
     requires positive { not_positive (statement_tree statement.now) ≡ None }
@@ -197,7 +201,7 @@ fn certain_text(
     ensures holds { OnOk result (UaHolds tables.now (statement_tree statement.now)) }
     ensures refused { IfErr result (AnswerCause (statement_defects tables.now (statement_tree statement.now)) (ua_answer_fits tables.now (statement_tree statement.now))) }
 {
-    let answer = match ua_answer(alloc, statement, tables) {
+    let answer = match ua_answer(rt, alloc, statement, tables, gate) {
         Ok(answer) => answer,
         Err(fault) => return Err(fault),
     };

@@ -6,20 +6,25 @@ ghost use Rattle.au_io.specs.Files.{Lacks, Opens, bytes_at};
 
 use au_io::{Shelf, StartFault};
 use std::alloc::Global;
+use thiserror::Error;
 
 /// Why a file was not read.
-#[derive(Clone, Copy, Debug, PartialEq, Eq)]
+#[derive(Clone, Copy, Debug, PartialEq, Eq, Error)]
 pub enum ReadingFault {
     /// The file is not there.
+    #[error("the file is not there")]
     Absent,
 
     /// The shelf refused to start or to read the file.
+    #[error("the file cannot be read")]
     Failed,
 
     /// The file has more than 8,388,608 bytes, of which 8,388,609 were taken.
+    #[error("the file has more than 8,388,608 bytes")]
     TooLarge,
 
     /// Memory for the bytes was refused.
+    #[error("out of memory")]
     NoMemory,
 }
 

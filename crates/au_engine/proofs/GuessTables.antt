@@ -28,6 +28,7 @@ use Rattle.au_keval.specs.Reading as reading
 use Rattle.au_kfull.specs.Embedding.{embedded}
 use Rattle.au_kfull.specs.Typed.{HasValueKinds, IsTypedOverValues}
 use Rattle.au_blocks.specs.declared.column.Column.{Column}
+use Rattle.au_engine.specs.CountedTables.{HaveColumns}
 
 -- ---- what the rows stand for
 
@@ -108,7 +109,7 @@ blocks_kinds ks (b ∷ bs) h =
     let p = and_parts (list_all (λ a. fits_kinds ks a.cells) b.alternatives) (list_all (λ c. list_all (λ a. fits_kinds ks a.cells) c.alternatives) bs) h in
     values_more ks (counted_row (guess_choice b)) (filter_map (λ c. counted_row (guess_choice c)) bs) (marked_kinds ks b.alternatives b.guess p.0) (blocks_kinds ks bs p.1)
 
-tables_kinds : (ts : List BlockTable) → AllByRecursion IsBlockTable ts → AllZip IsValues (map column_kinds ts) (map guessed_table ts)
+pub tables_kinds : (ts : List BlockTable) → AllByRecursion IsBlockTable ts → AllZip IsValues (map column_kinds ts) (map guessed_table ts)
 tables_kinds [] h = tt
 tables_kinds (t ∷ ts) h = (blocks_kinds (column_kinds t) t.blocks h.0.table.rows, tables_kinds ts h.1)
 
@@ -128,11 +129,15 @@ widths : (ks : List Kind) (n : ℕ) (rows : List CountedRow) → length ks ≡ n
 widths ks n [] e h = tt
 widths ks n (r ∷ rows) e h = (same_length ks r.cells h.0.cells ∙ e, widths ks n rows e h.1)
 
-pub guess_widths : (ts : List BlockTable) (q : Tree) (ks : List Kind) (given : List (List CountedRow)) (found : List CountedRow) (names : List (List ℕ)) (columns : List Column)
-    → kinds_of (map column_kinds ts) q ≡ Some ks → given ≡ map guessed_table ts → AllByRecursion IsBlockTable ts → HasValueKinds q given found
-    → names ≡ map (λ c. c.name) columns → ks ≡ map data_kind (map (λ c. c.kind) columns) → AllByRecursion (λ r. length r.cells ≡ length names) found
-guess_widths ts q ks given found names columns typed e ok has named kinds =
+pub guess_columns : (ts : List BlockTable) (q : Tree) (kinds : List Kind) (given : List (List CountedRow)) (found : List CountedRow)
+    → kinds_of (map column_kinds ts) q ≡ Some (map data_kind kinds) → given ≡ map guessed_table ts → AllByRecursion IsBlockTable ts → HasValueKinds q given found → HaveColumns kinds found
+guess_columns ts q kinds given found typed e ok has =
     let held : AllZip IsValues (map column_kinds ts) given = subst (AllZip IsValues (map column_kinds ts)) (sym e) (tables_kinds ts ok) in
-    widths ks (length names) found
-    (ap length kinds ∙ length-map (map (λ c. c.kind) columns) data_kind ∙ length-map columns (λ c. c.kind) ∙ sym (ap length named ∙ length-map columns (λ c. c.name)))
-    (has (map column_kinds ts) ks held typed)
+    widths (map data_kind kinds) (length kinds) found (length-map kinds data_kind) (has (map column_kinds ts) (map data_kind kinds) held typed)
+
+-- as many values as the columns have names
+pub named_columns : (names : List (List ℕ)) (kinds : List Kind) (columns : List Column) (found : List CountedRow)
+    → names ≡ map (λ c. c.name) columns → kinds ≡ map (λ c. c.kind) columns → HaveColumns kinds found → AllByRecursion (λ r. length r.cells ≡ length names) found
+named_columns names kinds columns found named are h =
+    let wide : length kinds ≡ length names = ap length are ∙ length-map columns (λ c. c.kind) ∙ sym (ap length named ∙ length-map columns (λ c. c.name)) in
+    subst (λ n. AllByRecursion (λ (r : CountedRow). length r.cells ≡ n) found) wide h

@@ -5,11 +5,17 @@ pub mod EncodedPlans
 mod GuessRows
 mod GuessSizes
 mod GuessTables
+mod GuessedRows
+mod CountedFound
+mod CountedGuesses
+mod CountedRuns
+pub mod CountedSteps
 mod HeldRows
 mod Materialized
 mod Operators
 mod OrderedRows
 mod OtherTables
+mod PairPlans
 pub mod PairTables
 mod PlainRuns
 mod ReadRows
@@ -27,6 +33,7 @@ mod StageSteps
 mod Together
 mod Told
 mod TableRelations
+mod TreeKinds
 mod TreeSizes
 mod TypedWidths
 mod WholePlans

@@ -26,26 +26,9 @@ use Rattle.au_rwcore.specs.Gives.{Multiplies, Projects, Selects, Unites}
 use Rattle.au_rwdiff.specs.Gives.{Subtracts}
 use Rattle.au_rwgroup.specs.Gives.{Distincts, Groups, Totals}
 use Rattle.au_engine.specs.Compressing.{tree_numbers, tree_rows}
+use Rattle.au_engine.proofs.TreeKinds.{all_length, group_length, left_kinds, product_kinds, right_kinds}
 
--- ---- how many kinds there are
-
--- all kinds are as many as there are to be
-all_length : (os : List (Option Kind)) (ks : List Kind) → all_kinds os ≡ Some ks → length ks ≡ length os
-all_length [] ks h = ap length (sym (some_is [] ks h))
-all_length (o ∷ os) ks h =
-    let p = and_then_is _ o ks h in
-    let q = and_then_is _ (all_kinds os) ks p.2 in
-    ap length (sym (some_is (p.0 ∷ q.0) ks q.2)) ∙ ap suc (all_length os q.0 q.1)
-
--- the kinds of a group are the keys' and the aggregates'
-group_length : (keys : ℕ) (aggs : List Agg) (ks js : List Kind) → group_kinds keys aggs ks ≡ Some js → length js ≡ keys + length aggs
-group_length keys aggs ks js h =
-    let s = chosen_is (nat_le keys (length ks)) _ js h in
-    let m = and_then_is _ (all_kinds (map (agg_kind ks) aggs)) js s.1 in
-    let more : length m.0 ≡ length aggs = all_length (map (agg_kind ks) aggs) m.0 m.1 ∙ length-map aggs (agg_kind ks) in
-    let whole : length js ≡ length (take keys ks ++ m.0) = ap length (sym (some_is (take keys ks ++ m.0) js m.2)) in
-    let within : keys ≤ length ks = leb-true keys (length ks) s.0 in
-    whole ∙ length-append (take keys ks) m.0 ∙ omega (arith, more, length-take keys ks, within)
+-- ---- kinds
 
 -- a typed tree has kinds
 some_kinds : (o : Option (List Kind)) → IsTrue (is_some o) → (ks : List Kind) × (o ≡ Some ks)
@@ -145,33 +128,11 @@ module _ (how : Option ℕ) (kinds : List (List Kind)) (here : List Bounded) whe
         (λ tk tables fits h. step tk tables p.0 ks (tree_rows how q here) (tree_numbers how q here) fits long p.2 h) g
 
   module _ (a b : Tree) where
-    -- both sides of the same kinds
-    module _ (ks : List Kind) (typed : kinds_of kinds (Union a b) ≡ Some ks) where
-      left_kinds : kinds_of kinds a ≡ Some ks
-      left_kinds =
-          let p = and_then_is _ (kinds_of kinds a) ks typed in
-          let s = and_then_is _ (kinds_of kinds b) ks p.2 in
-          p.1 ∙ (chosen_is _ (Some p.0) ks s.2).1
-
-      right_kinds : kinds_of kinds b ≡ Some ks
-      right_kinds =
-          let p = and_then_is _ (kinds_of kinds a) ks typed in
-          let s = and_then_is _ (kinds_of kinds b) ks p.2 in
-          let u = chosen_is _ (Some p.0) ks s.2 in
-          s.1 ∙ ap Some (sym (same_kinds_is p.0 s.0 u.0)) ∙ u.1
-
-    -- the kinds of a product are those of its sides
-    pub product_kinds : (ks : List Kind) → kinds_of kinds (Product a b) ≡ Some ks → (hs : List Kind) × ((js : List Kind) × ((kinds_of kinds a ≡ Some hs) × ((kinds_of kinds b ≡ Some js) × (hs ++ js ≡ ks))))
-    product_kinds ks typed =
-        let p = and_then_is _ (kinds_of kinds a) ks typed in
-        let s = and_then_is _ (kinds_of kinds b) ks p.2 in
-        (p.0, (s.0, (p.1, (s.1, some_is (p.0 ++ s.0) ks s.2))))
-
     module _ (A B C : PlanTree → ℕ → List Kind → Bounded → List ℤ → Type 0) (left_counts : Counts A) (right_counts : Counts B) (two : Two A B C) (left right made : PlanTree) (m n d : ℕ) (of_right : Part B b right n) where
       pub union_part : Part A a left m → d ≡ m → Unites left right made → Part C (Union a b) made d
       union_part of_left wide step ks typed =
-          let g = of_left ks (left_kinds ks typed) in
-          let h = of_right ks (right_kinds ks typed) in
+          let g = of_left ks (left_kinds kinds a b ks typed) in
+          let h = of_right ks (right_kinds kinds a b ks typed) in
           two left right made m n d ks ks ks (tree_rows how a here) (tree_rows how b here) (tree_rows how (Union a b) here) (tree_numbers how a here) (tree_numbers how b here) (tree_numbers how (Union a b) here)
           (left_counts left m ks (tree_rows how a here) (tree_numbers how a here) g ∙ sym wide)
           (λ tk tables fits l r. step tk tables ks (tree_rows how a here) (tree_rows how b here) (tree_numbers how a here) (tree_numbers how b here) l r)
@@ -188,8 +149,8 @@ module _ (how : Option ℕ) (kinds : List (List Kind)) (here : List Bounded) whe
           let ns = tree_numbers how b here in
           let cs = triple_numbers (combine xs) in
           let ss = flat_map (difference_sums ys) (combine xs) in
-          let g = of_left ks (left_kinds ks typed) in
-          let h = of_right ks (right_kinds ks typed) in
+          let g = of_left ks (left_kinds kinds a b ks typed) in
+          let h = of_right ks (right_kinds kinds a b ks typed) in
           let long = left_counts left m ks (combine xs) (ms ++ cs) g.0 in
           two left right made m n d ks ks ks (combine xs) ys (tree_rows how (Difference a b) here) (ms ++ cs) ns (tree_numbers how (Difference a b) here) (long ∙ sym wide)
           (λ tk tables fits l r.
@@ -202,7 +163,7 @@ module _ (how : Option ℕ) (kinds : List (List Kind)) (here : List Bounded) whe
 module _ (kinds : List (List Kind)) (here : List Bounded) (a b : Tree) (A B C : PlanTree → ℕ → List Kind → Bounded → List ℤ → Type 0) (left_counts : Counts A) (right_counts : Counts B) (two : Two A B C) where
   pub product_part : (left right made : PlanTree) (m n d : ℕ) → Part None kinds here B b right n → Part None kinds here A a left m → d ≡ m + n → Multiplies m n left right made → Part None kinds here C (Product a b) made d
   product_part left right made m n d of_right of_left wide step ks typed =
-      let p = product_kinds None kinds here a b ks typed in
+      let p = product_kinds kinds a b ks typed in
       let hs = p.0 in
       let js = p.1.0 in
       let xs = tree_rows None a here in

@@ -37,7 +37,7 @@ can_pair ts q ks rows typed p e ok = record { kinds = map column_kinds ts; table
 
 -- ---- widths
 
-same_length : (ks : List Kind) (row : List Value) → AllZip IsKind ks row → length row ≡ length ks
+pub same_length : (ks : List Kind) (row : List Value) → AllZip IsKind ks row → length row ≡ length ks
 same_length [] [] h = refl
 same_length [] (v ∷ row) h = elim h [ ]
 same_length (k ∷ ks) [] h = elim h [ ]
@@ -47,13 +47,19 @@ widths : (ks : List Kind) (n : ℕ) (rows : List PairRow) → length ks ≡ n �
 widths ks n [] e h = tt
 widths ks n (r ∷ rows) e h = (same_length ks r.cells h.0.cells ∙ e, widths ks n rows e h.1)
 
-pub pair_widths : (ts : List BlockTable) (q : Tree) (ks : List Kind) (given : List (List PairRow)) (found : List PairRow) (names : List (List ℕ)) (columns : List Column)
-    → kinds_of (map column_kinds ts) q ≡ Some ks → given ≡ map ua_table ts → AllByRecursion IsBlockTable ts → HasRows IsKind IsPair q given found
-    → names ≡ map (λ c. c.name) columns → ks ≡ map data_kind (map (λ c. c.kind) columns) → AllByRecursion (λ r. length r.cells ≡ length names) found
-pair_widths ts q ks given found names columns typed e ok has named kinds =
-    widths ks (length names) found
-    (ap length kinds ∙ length-map (map (λ c. c.kind) columns) data_kind ∙ length-map columns (λ c. c.kind) ∙ sym (ap length named ∙ length-map columns (λ c. c.name)))
-    (has (map column_kinds ts) ks (held ts given e ok) typed)
+pub pair_widths : (ts : List BlockTable) (q : Tree) (kinds : List Kind) (given : List (List PairRow)) (found : List PairRow)
+    → kinds_of (map column_kinds ts) q ≡ Some (map data_kind kinds) → given ≡ map ua_table ts → AllByRecursion IsBlockTable ts → HasRows IsKind IsPair q given found
+    → AllByRecursion (λ r. length r.cells ≡ length kinds) found
+pair_widths ts q kinds given found typed e ok has =
+    widths (map data_kind kinds) (length kinds) found (length-map kinds data_kind) (has (map column_kinds ts) (map data_kind kinds) (held ts given e ok) typed)
+
+-- as many values as the columns have names
+pub pairs_named : (names : List (List ℕ)) (kinds : List Kind) (columns : List Column) (found : List PairRow)
+    → names ≡ map (λ c. c.name) columns → kinds ≡ map (λ c. c.kind) columns
+    → AllByRecursion (λ r. length r.cells ≡ length kinds) found → AllByRecursion (λ r. length r.cells ≡ length names) found
+pairs_named names kinds columns found named are h =
+    let wide : length kinds ≡ length names = ap length are ∙ length-map columns (λ c. c.kind) ∙ sym (ap length named ∙ length-map columns (λ c. c.name)) in
+    subst (λ n. AllByRecursion (λ (r : PairRow). length r.cells ≡ n) found) wide h
 
 -- ---- numbers
 

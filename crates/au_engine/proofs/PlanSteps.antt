@@ -22,9 +22,10 @@ use Rattle.au_rwgroup.specs.Gives.{Distincts, Groups, Totals}
 use Rattle.au_plan.proofs.Implementing.{before}
 use Rattle.au_engine.specs.Compressing.{pair_numbers, tree_numbers, tree_rows}
 use Rattle.au_engine.specs.Stages.{Adds, AddsTable, AddsTree, CanRunPlan, LeavesMultiplied, LeavesRange, LeavesRangeCombined, Materializes, MaterializesCombined, MultipliesCompressed}
-use Rattle.au_engine.proofs.Operators.{Counts, One, Two, difference_fit, difference_part, distinct_part, group_part, product_kinds, product_part, project_part, select_part, total_part, typed_kinds, union_part}
+use Rattle.au_engine.proofs.Operators.{Counts, One, Two, difference_fit, difference_part, distinct_part, group_part, product_part, project_part, select_part, total_part, typed_kinds, union_part}
 use Rattle.au_engine.proofs.StageRuns.{adds_relation}
 use Rattle.au_engine.proofs.StageSteps.{more_adds, one_adds, two_adds}
+use Rattle.au_engine.proofs.TreeKinds.{product_kinds}
 
 -- what is known of plans over tables behind others
 counts_adds : (old new : List Rows) → Counts (Adds old new)
@@ -144,7 +145,7 @@ module _ (k : ℕ) (ts : List BlockTable) (a b : Tree) (lefts rights : List Rows
   pub compressed_adds :
       (old new : List Rows) (made : PlanTree) (d : ℕ) → MultipliesCompressed k lefts left m rights right n old new made d → AddsTree (Some k) ts (Product a b) old new made d
   compressed_adds old new made d step ks typed =
-      let p = product_kinds (Some k) both at a b ks typed in
+      let p = product_kinds both a b ks typed in
       let xs = tree_rows (Some k) a at in
       let ys = tree_rows (Some k) b at in
       let ms = tree_numbers (Some k) a at in
@@ -157,7 +158,7 @@ module _ (k : ℕ) (ts : List BlockTable) (a b : Tree) (lefts rights : List Rows
   pub compressed_leaves : IsTyped both (Product a b) → LeavesMultiplied k lefts left m rights right n → ¬ (Fit (tree_numbers (Some k) (Product a b) at))
   compressed_leaves typed leaves =
       let t = typed_kinds both (Product a b) typed in
-      let p = product_kinds (Some k) both at a b t.0 t.1 in
+      let p = product_kinds both a b t.0 t.1 in
       leaves p.0 p.1.0 (tree_rows (Some k) a at) (tree_rows (Some k) b at) (tree_numbers (Some k) a at) (tree_numbers (Some k) b at) (of_left p.0 p.1.1.0) (of_right p.1.0 p.1.1.1.0)
 
 -- the sides of a product are typed
@@ -167,5 +168,5 @@ first_typed kinds a b h = before _ (kinds_of kinds a) h
 pub second_typed : (kinds : List (List Kind)) (a b : Tree) → IsTyped kinds (Product a b) → IsTyped kinds b
 second_typed kinds a b typed =
     let t = typed_kinds kinds (Product a b) typed in
-    let p = product_kinds None kinds [] a b t.0 t.1 in
+    let p = product_kinds kinds a b t.0 t.1 in
     ap is_some p.1.1.1.0

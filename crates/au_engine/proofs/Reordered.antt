@@ -28,7 +28,7 @@ drawn x [] some = let never : ⊥ = omega (arith, some) in absurd never
 drawn x (y ∷ ys) some = drawn_if (same_row x y) x y ys refl some (drawn x ys)
 
 -- lists with the same copies have the same elements
-permuted : (xs ys : Rows) → SameCopies xs ys → IsPermutation xs ys
+pub permuted : (xs ys : Rows) → SameCopies xs ys → IsPermutation xs ys
 permuted [] [] same = IsPermutation-refl []
 permuted [] (y ∷ ys) same = let never : ⊥ = omega (arith, same y, first_occurs y ys) in absurd never
 permuted (x ∷ xs) ys same =

@@ -8,6 +8,8 @@ pub mod Exchange
 pub mod PlanAnswers
 pub mod EncodedTables
 -- What the contracts of inner calls and the proofs speak of.
+pub mod CountedTables
+pub mod CountedPlans
 pub mod InputRows
 pub mod Inputs
 pub mod Scans

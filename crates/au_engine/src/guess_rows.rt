@@ -97,8 +97,8 @@ fn push_copies(
     Ok(())
 }
 
-// The guesses of some cells, whose numbers lie in 128 bits.
-fn guesses(alloc: Global, cells: &[Cell]) -> Result<PRow, NoMemory>
+/// The guesses of some cells, whose numbers lie in 128 bits.
+pub(crate) fn guesses(alloc: Global, cells: &[Cell]) -> Result<PRow, NoMemory>
     ensures row { IfOk result (λ v. v.items ≡ guesses_of cells.now) }
     ensures fits { OnOk result (row_fits (guesses_of cells.now) ≡ true) }
 {
@@ -109,8 +109,8 @@ fn guesses(alloc: Global, cells: &[Cell]) -> Result<PRow, NoMemory>
     Ok(guesses)
 }
 
-// A copy of a value. Its number, if it is one, lies in the range of its type.
-fn copied(value: &Value) -> Result<Value, NoMemory>
+/// A copy of a value. Its number, if it is one, lies in the range of its type.
+pub(crate) fn copied(value: &Value) -> Result<Value, NoMemory>
     ensures value { IfOk result (λ v. v ≡ value.now) }
     ensures fits { fit (number_if_any value.now) ≡ true }
 {

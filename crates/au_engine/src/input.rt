@@ -5,6 +5,7 @@ ghost use Rattle.au_encode.specs.Encode.{encode};
 ghost use Rattle.au_exec.specs.Outcomes.{rows_of};
 ghost use Rattle.au_plain.specs.PlanKinds.{FitRows};
 ghost use Rattle.au_translate.specs.Translate.{bounded_blocks};
+ghost use Rattle.au_engine.specs.CountedTables.{certain_guesses, counted_guesses};
 ghost use Rattle.au_engine.specs.InputRows.{content_rows, IsContent};
 
 use au_blocks::{Block, Column};
@@ -17,11 +18,15 @@ pub(crate) struct Input<'a> {
     content: Content<'a>,
 }
 
-/// Rows that are there, or the columns and some blocks of a block table, whose encoded rows are made when a plan is run.
+/// Rows that are there, or the columns and some blocks of a block table, whose encoded rows are made when a plan is run; or
+/// blocks, whose rows in the guess world, with the number of their copies, or with how many of these are certain and how
+/// many guessed, are made then.
 #[derive(Drop)]
 pub(crate) enum Content<'a> {
     Rows(Vec<PRow>),
     Blocks(&'a [Column], &'a [Block]),
+    Guesses(&'a [Block]),
+    Certain(&'a [Block]),
 }
 
 impl<'a> Model for Input<'a> {
@@ -54,6 +59,24 @@ impl<'a> Input<'a> {
     {
         Input {
             content: Content::Blocks(columns, blocks),
+        }
+    }
+
+    /// The rows of some blocks in the guess world, in block order, each with the number of its copies.
+    pub(crate) fn of_guesses(blocks: &'a [Block]) -> Input<'a>
+        ensures { result ≡ counted_guesses blocks.now }
+    {
+        Input {
+            content: Content::Guesses(blocks),
+        }
+    }
+
+    /// The same with how many of the copies are certain before how many are guessed.
+    pub(crate) fn of_certain(blocks: &'a [Block]) -> Input<'a>
+        ensures { result ≡ certain_guesses blocks.now }
+    {
+        Input {
+            content: Content::Certain(blocks),
         }
     }
 

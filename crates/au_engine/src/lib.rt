@@ -2,10 +2,11 @@
 //!
 //! [`read_query`] reads the text, and [`answer`] gives the answer with its names and kinds: the typed tree becomes plain
 //! plans, which are run stage by stage over the encoded rows of the tables, and the rows of the last are decoded and
-//! shown. [`answer_directly`] gives the same rows by the generic evaluator, [`guess_answer`] those of the guess world, and
-//! [`ua_answer`] these with how often each is certain. [`rewritten`] gives the one plan of a whole tree, which another
-//! engine may run: [`rewritten_text`] is its text, [`encoded_text`] that of the encoded rows which it reads, and
-//! [`plain_answer`] runs such a plan over the rows of tables in the guess world. docs/ARCHITECTURE.md shows the road.
+//! shown. [`answer_directly`] gives the same rows by the generic evaluator, [`guess_answer`] those of the guess world, by
+//! one plan over rows with the number of their copies, and [`ua_answer`] these with how often each is certain.
+//! [`rewritten`] gives the one plan of a whole tree, which another engine may run: [`rewritten_text`] is its text,
+//! [`encoded_text`] that of the encoded rows which it reads, and [`plain_answer`] runs such a plan over the rows of tables
+//! in the guess world. docs/ARCHITECTURE.md shows the road.
 //!
 //! ```text
 //! let statement = read_query(alloc, "SELECT city FROM orders")?;
@@ -19,9 +20,12 @@
 mod answering;
 mod certainty;
 mod compressing;
+mod counted;
+mod counted_steps;
 mod decoded;
 mod encoded;
 mod faults;
+mod guess_counts;
 mod guess_rows;
 mod guess_size;
 mod guessing;

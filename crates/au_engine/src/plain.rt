@@ -24,17 +24,21 @@ use au_sqltext::{PlanFault, check_plan, plain_text};
 use au_value::{Kind, NoMemory, Word, beside};
 use std::alloc::Global;
 use std::thread::Threads;
+use thiserror::Error;
 
 /// Why the rows of a plan aren't given.
-#[derive(Clone, Copy, Debug, PartialEq, Eq)]
+#[derive(Clone, Copy, Debug, PartialEq, Eq, Error)]
 pub enum PlainFault {
     /// The plan is not typed over the tables.
+    #[error("the plan does not fit the kinds of the tables")]
     Untyped,
 
     /// A number of the plan leaves 128 bits.
+    #[error("a number of the plan leaves 128 bits")]
     Overflow,
 
     /// Memory was refused.
+    #[error("out of memory")]
     NoMemory,
 }
 

@@ -6,8 +6,10 @@ ghost use Rattle.au_exec.specs.Outcomes.{rows_of};
 ghost use Rattle.au_physical.specs.Physicals.{physical_tree};
 ghost use Rattle.au_plain.specs.PlanKinds.{FitRows, FitTables};
 ghost use Rattle.au_translate.specs.Translate.{bounded_blocks};
+ghost use Rattle.au_engine.specs.CountedTables.{certain_guesses, counted_guesses};
 ghost use Rattle.au_engine.specs.Inputs.{ReadsNext, Reads, ReadsAll};
 
+use crate::guess_counts::{all_guesses, kept_guesses};
 use crate::input::{Content, Input};
 use crate::runner::Runner;
 use au_blocks::{Block, Column};
@@ -16,6 +18,7 @@ use au_physical::Physical;
 use au_plain::PRow;
 use au_plan::narrow_scans;
 use au_translate::read_numbers;
+use au_ua::{counted_blocks, counted_places};
 use au_value::NoMemory;
 use std::alloc::Global;
 use std::thread::Threads;
@@ -70,6 +73,8 @@ fn rows_read<R: Threads + Sync, G: Gate + Sync>(
         Content::Blocks(columns, blocks) => {
             blocks_read(runner, alloc, plan, number, columns, blocks)
         }
+        Content::Guesses(blocks) => guesses_read(alloc, plan, number, blocks),
+        Content::Certain(blocks) => certain_read(alloc, plan, number, blocks),
     }
 }
 
@@ -91,5 +96,39 @@ fn blocks_read<R: Threads + Sync, G: Gate + Sync>(
     match kept {
         Some(places) => runner.encoded_places(alloc, columns, blocks, &places),
         None => runner.encoded(alloc, columns, blocks),
+    }
+}
+
+// The same of the rows of blocks in the guess world.
+fn guesses_read(
+    alloc: Global,
+    plan: &mut Physical,
+    number: usize,
+    blocks: &[Block],
+) -> Result<Vec<PRow>, NoMemory>
+    ensures reads { IfOk result (λ v. Reads number (counted_guesses blocks.now) (rows_of v) (physical_tree plan.old) (physical_tree plan.new)) }
+    ensures fit { OnOk result (FitRows (counted_guesses blocks.now)) }
+{
+    let kept = narrow_scans(alloc, plan, number)?;
+    match kept {
+        Some(places) => kept_guesses(alloc, blocks, &places),
+        None => all_guesses(alloc, blocks),
+    }
+}
+
+// The same of these rows with two counts.
+fn certain_read(
+    alloc: Global,
+    plan: &mut Physical,
+    number: usize,
+    blocks: &[Block],
+) -> Result<Vec<PRow>, NoMemory>
+    ensures reads { IfOk result (λ v. Reads number (certain_guesses blocks.now) (rows_of v) (physical_tree plan.old) (physical_tree plan.new)) }
+    ensures fit { OnOk result (FitRows (certain_guesses blocks.now)) }
+{
+    let kept = narrow_scans(alloc, plan, number)?;
+    match kept {
+        Some(places) => counted_places(alloc, blocks, &places),
+        None => counted_blocks(alloc, blocks),
     }
 }

@@ -71,8 +71,8 @@ pub(crate) fn run_decoded<R: Threads + Sync, G: Gate + Sync>(
     }
 }
 
-// The physical plan of a plan, and the rows that it reads of its inputs.
-fn ready<R: Threads + Sync, G: Gate + Sync>(
+/// The physical plan of a plan, and the rows that it reads of its inputs.
+pub(crate) fn ready<R: Threads + Sync, G: Gate + Sync>(
     runner: &Runner<'_, R, G>,
     alloc: Global,
     plan: Plan,

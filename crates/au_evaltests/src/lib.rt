@@ -43,6 +43,8 @@ mod query_tests;
 #[cfg(test)]
 mod relations;
 #[cfg(test)]
+mod road_tests;
+#[cfg(test)]
 mod row_texts;
 #[cfg(test)]
 mod sum_tests;

@@ -77,23 +77,24 @@ fn judge_answers(
     Ok(())
 }
 
-// The lines of a text, or the fault.
-fn lines_of(alloc: Global, text: &Result<Vec<u8>, EvalFault>) -> Result<String, Fail> {
+/// The lines of a text, or the fault.
+pub(crate) fn lines_of(alloc: Global, text: &Result<Vec<u8>, EvalFault>) -> Result<String, Fail> {
     match text {
         Ok(bytes) => Ok(str::from_utf8(bytes.as_slice())?.replace(alloc, '\n', ";")?),
         Err(fault) => Ok(format!(in alloc; "{fault:?}")?),
     }
 }
 
-// The text of the answer over the guess world, with `;` for each LF.
-fn in_guess_world(
+/// The text of the answer over the guess world, with `;` for each LF.
+pub(crate) fn in_guess_world(
+    rt: &(impl Threads + Sync),
     alloc: Global,
     statement: &Statement,
     tables: &[(Word, Table)],
 ) -> Result<String, Fail>
     requires { WholeQuery (statement_tree statement.now) }
 {
-    match guess_answer(alloc, statement, tables) {
+    match guess_answer(rt, alloc, statement, tables, NoGate) {
         Ok(answer) => lines_of(
             alloc,
             &guess_text(
@@ -111,14 +112,14 @@ struct Guessed;
 
 impl Call for Guessed {
     fn outcome(
-        _rt: &(impl Abort + Threads + Sync),
+        rt: &(impl Abort + Threads + Sync),
         alloc: Global,
         given: &str,
     ) -> Result<String, Fail> {
         let (query, tables) = given.split_once(" | ").ok_or("tables")?;
         let tables = tables_of(alloc, tables)?;
         match read_query(alloc, query) {
-            Ok(statement) => in_guess_world(alloc, &statement, tables.as_slice()),
+            Ok(statement) => in_guess_world(rt, alloc, &statement, tables.as_slice()),
             Err(fault) => Ok(format!(in alloc; "{fault:?}")?),
         }
     }
@@ -217,6 +218,7 @@ SELECT SUM(amount), COUNT(*) FROM orders WHERE id > 5 | orders(id,city,amount): 
 SELECT z FROM orders | orders(id,city,amount): 1,Bergen/Oslo/Oslo,10/10/12; 2,Bergen,5; 3,Oslo,7 ? | rates(city,fee): Oslo,3; Bergen,4 -> Query(UnknownColumn(7))
 SELECT a.x FROM t a, t b WHERE a.x < 9 | t(x): 5; 5 ?; 6 ?? -> row,x;4,5;
 SELECT SUM(x) FROM t | t(x): 1/1/170141183460469231731687303715884105727; 1 -> row,col1;1,2;
+SELECT CASE WHEN x > 0 THEN 1 ELSE x + 1 END FROM t | t(x): 170141183460469231731687303715884105727 -> row,col1;1,1;
 SELECT x + 1 FROM t | t(x): 170141183460469231731687303715884105727 -> Overflow";
 
 #[test]

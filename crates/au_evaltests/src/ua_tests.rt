@@ -1,19 +1,26 @@
 //! Places at which queries are not positive, and tables, answers and texts with pairs.
-ghost use Rattle.std.specs.Prelude.{◌≡◌, IfOk, [], ◌∷◌, length};
+ghost use Rattle.std.specs.Prelude.{◌≡◌, IfOk, None, [], ◌∷◌, length};
 ghost use Rattle.std.specs.List.{AllByRecursion};
 ghost use Rattle.au_annot.specs.Pairs.{IsPair};
 ghost use Rattle.au_value.specs.declared.kinds.Kind.{Kind};
 ghost use Rattle.au_expr.specs.Ordinary.{IsKind};
 ghost use Rattle.au_algebra.specs.Trees.{tree, Table as TheTable, Union as TheUnion};
 ghost use Rattle.au_keval.specs.Reading.{IsRelationOver};
+ghost use Rattle.au_parse.specs.Views.{statement_tree};
+ghost use Rattle.au_parse.specs.Whole.{WholeQuery};
+ghost use Rattle.au_ua.specs.NotPositive.{not_positive as not_positive_of};
 
 use crate::cases::{Call, judge};
 use crate::query_tables::tables_of;
+use crate::query_tests::lines_of;
 use crate::relations::number;
 use au_algebra::{Query, Rel};
 use au_annot::{Count, Pair};
-use au_engine::read_query;
+use au_blocks::Table;
+use au_engine::{read_query, ua_answer};
 use au_expr::EvalFault;
+use au_par::NoGate;
+use au_parse::Statement;
 use au_ua::{not_positive, ua, ua_table, ua_text};
 use au_value::{Kind, NoMemory, Value, Word};
 use std::alloc::Global;
@@ -131,6 +138,51 @@ fn text_of(alloc: Global, rel: &Rel<Value, Pair>) -> Result<String, Fail>
     Ok(lines.replace(alloc, '\n', ";")?)
 }
 
+// The text of the answer with pairs, with `;` for each LF.
+fn with_pairs(
+    rt: &(impl Threads + Sync),
+    alloc: Global,
+    statement: &Statement,
+    tables: &[(Word, Table)],
+) -> Result<String, Fail>
+    requires whole { WholeQuery (statement_tree statement.now) }
+    requires positive { not_positive_of (statement_tree statement.now) ≡ None }
+{
+    match ua_answer(rt, alloc, statement, tables, NoGate) {
+        Ok(answer) => lines_of(
+            alloc,
+            &ua_text(
+                alloc,
+                answer.names.as_slice(),
+                answer.kinds.as_slice(),
+                &answer.rows,
+            ),
+        ),
+        Err(fault) => Ok(format!(in alloc; "{fault:?}")?),
+    }
+}
+
+// The answer with pairs of a query over tables.
+struct Answered;
+
+impl Call for Answered {
+    fn outcome(
+        rt: &(impl Abort + Threads + Sync),
+        alloc: Global,
+        given: &str,
+    ) -> Result<String, Fail> {
+        let (query, tables) = given.split_once(" | ").ok_or("tables")?;
+        let tables = tables_of(alloc, tables)?;
+        match read_query(alloc, query) {
+            Ok(statement) => match not_positive(&statement) {
+                None => with_pairs(rt, alloc, &statement, tables.as_slice()),
+                Some(place) => Ok(format!(in alloc; "not positive at {place}")?),
+            },
+            Err(fault) => Ok(format!(in alloc; "{fault:?}")?),
+        }
+    }
+}
+
 const PLACES: &str = "SELECT city FROM orders -> Ok(None)
 SELECT DISTINCT city FROM orders -> Ok(Some(0))
 SELECT city FROM orders UNION SELECT city FROM rates -> Ok(Some(24))
@@ -148,6 +200,14 @@ const PAIRS: &str =
 
 const DOUBLED: &str = "7 5 7 -> 6 certain,row,n;1,2,5;2,4,7;";
 
+// Counts are multiplied in pairs and added in a union, and a row of which no copy is guessed is not there.
+const ANSWERS: &str =
+    "SELECT city FROM t | t(id,city): 1,Bergen/Oslo/Oslo; 2,Bergen; 3,Oslo ?; 4,Moss ?? -> certain,row,city;1,1,Bergen;0,2,Oslo;
+SELECT a.id FROM t a, t b WHERE a.city = b.city | t(id,city): 1,Bergen/Oslo/Oslo; 2,Bergen; 3,Oslo ?; 4,Moss ?? -> certain,row,id;0,2,1;1,1,2;0,2,3;
+SELECT id FROM t WHERE id > 1 UNION ALL SELECT id FROM t | t(id:int,city): 1,Bergen/Oslo/Oslo; 2,Bergen; 3,Oslo ?; 4,Moss ?? -> certain,row,id;0,1,1;2,2,2;0,2,3;
+SELECT city, id * 2 AS d FROM t WHERE id > 9 | t(id:int,city): 1,Bergen -> certain,row,city,d;
+SELECT DISTINCT city FROM t | t(id,city): 1,Bergen -> not positive at 0";
+
 #[test]
 fn places_that_are_not_positive(rt: HostRuntime) -> Result<(), Fail> {
     judge::<Place>(&rt, rt.alloc(), PLACES)
@@ -156,6 +216,11 @@ fn places_that_are_not_positive(rt: HostRuntime) -> Result<(), Fail> {
 #[test]
 fn pairs_of_blocks(rt: HostRuntime) -> Result<(), Fail> {
     judge::<Pairs>(&rt, rt.alloc(), PAIRS)
+}
+
+#[test]
+fn answers_with_pairs(rt: HostRuntime) -> Result<(), Fail> {
+    judge::<Answered>(&rt, rt.alloc(), ANSWERS)
 }
 
 #[test]

@@ -2,6 +2,7 @@
 ghost use Rattle.std.specs.Prelude.{◌≡◌, ◌≤◌, ◌-◌, ◌^◌, refl, ◌<◌, false, true, None, IfOk, OnOk, OnErr, IsSome, IsErr, IsErrOf, is_some, length};
 ghost use Rattle.au_io.specs.Counts.{Rose};
 ghost use Rattle.au_io.specs.Files.{Opens, Lacks, TakesNext, EndsWith};
+ghost use Rattle.au_io.specs.HeldFiles.{held_left};
 
 use crate::{Failed, Shelf, StartFault};
 use std::alloc::Global;
@@ -9,7 +10,8 @@ use std::io::Read;
 use std::rt::Files;
 use std::{fs, io};
 
-/// The files of the host. It tells no bytes: nothing is known of what a file holds.
+/// The files of the host. It tells which bytes are left of a started file where that file tells them, and no other bytes:
+/// what the files of a disk hold is not known.
 #[derive(Drop)]
 pub struct RealShelf<R: Files + Drop> {
     rt: R,
@@ -25,6 +27,9 @@ fn read_some<F: Read>(file: &mut Option<F>, into: &mut [u8]) -> io::Result<usize
     ensures stays { is_some file.new ≡ is_some file.old }
     ensures room { IfOk result (λ n. n ≤ length into.new) }
     ensures idle { is_some file.old ≡ false → IfOk result (λ n. n ≡ 0) }
+    ensures bytes { IfOk result (TakesNext (held_left F.remaining file.old) (held_left F.remaining file.new) into.new) }
+    ensures end { IfOk result (EndsWith (held_left F.remaining file.old) into.new) }
+    ensures kept { OnErr result (IsSome (held_left F.remaining file.old) → held_left F.remaining file.new ≡ held_left F.remaining file.old) }
 {
     match file {
         Some(file) => file.read(into),
@@ -53,7 +58,7 @@ impl<R: Files + Drop> Shelf for RealShelf<R> {
 
     ghost is_started = { λ s. is_some s.file };
 
-    ghost left = { λ _. None };
+    ghost left = { λ s. held_left R.File.remaining s.file };
 
     ghost faults = { λ s. s.faults };
 
@@ -103,5 +108,5 @@ impl<R: Files + Drop> Shelf for RealShelf<R> {
 
     ghost counted = { λ s. (s.faults_counted, s.absences_counted) };
 
-    ghost idle = { λ s stopped. refl };
+    ghost idle = { λ s stopped. Prim.rw stopped };
 }

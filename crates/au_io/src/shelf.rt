@@ -4,22 +4,27 @@ ghost use Rattle.au_io.specs.Counts.{Rose};
 ghost use Rattle.au_io.specs.Files.{Opens, Lacks, TakesNext, EndsWith};
 
 use std::alloc::Global;
+use thiserror::Error;
 
 /// Why a file was not started.
-#[derive(Clone, Copy, Debug, PartialEq, Eq)]
+#[derive(Clone, Copy, Debug, PartialEq, Eq, Error)]
 pub enum StartFault {
     /// There is no file at the path.
+    #[error("there is no file at the path")]
     Absent,
 
     /// The file is refused for another cause.
+    #[error("the file cannot be started")]
     Failed,
 
     /// Memory for the file's bytes was refused.
+    #[error("out of memory")]
     NoMemory,
 }
 
 /// A read was refused.
-#[derive(Clone, Copy, Debug, PartialEq, Eq)]
+#[derive(Clone, Copy, Debug, PartialEq, Eq, Error)]
+#[error("the file cannot be read")]
 pub struct Failed;
 
 /// Files, of which one at a time is started and read from its front to its end.

@@ -4,13 +4,17 @@ ghost use Rattle.std.specs.Io.KnownBytes.{Appends};
 ghost use Rattle.au_io.specs.Counts.{Rose};
 ghost use Rattle.au_io.specs.Files.{AppendsFront};
 
+use thiserror::Error;
+
 /// Why bytes were not put.
-#[derive(Clone, Copy, Debug, PartialEq, Eq)]
+#[derive(Clone, Copy, Debug, PartialEq, Eq, Error)]
 pub enum PutFault {
     /// The put was refused, maybe after a front of the bytes.
+    #[error("not all bytes could be put")]
     Failed,
 
     /// Memory for the bytes was refused, and none of them was put.
+    #[error("out of memory")]
     NoMemory,
 }
 

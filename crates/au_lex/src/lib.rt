@@ -20,6 +20,7 @@ mod scan;
 use au_value::Word;
 pub use scan::tokens;
 use std::marker::Model;
+use thiserror::Error;
 
 /// The reserved words.
 #[derive(Clone, Copy, Debug, PartialEq, Eq)]
@@ -93,18 +94,23 @@ pub struct Token {
 }
 
 /// Why a text has no tokens: the first fault from the left, and at which byte.
-#[derive(Clone, Copy, Debug, PartialEq, Eq)]
+#[derive(Clone, Copy, Debug, PartialEq, Eq, Error)]
 pub enum LexFault {
     /// The character at this place begins no token.
+    #[error("the character at byte {0} begins no token")]
     BadChar(usize),
     /// The text or quoted name that begins here has no end.
+    #[error("the quote at byte {0} has no end")]
     OpenText(usize),
     /// The digits that begin here, perhaps with a point among them, are more than 39, or more than 9 behind the point,
     /// pass 2^127-1 without the point, or run into a letter or `_`.
+    #[error("the number at byte {0} is too long, or runs into a word")]
     BadNumber(usize),
     /// A 4,097th token begins, whatever it would be.
+    #[error("there are more than 4,096 tokens")]
     TooManyTokens,
     /// Memory was wanting.
+    #[error("out of memory")]
     NoMemory,
 }
 

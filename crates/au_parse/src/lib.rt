@@ -25,6 +25,7 @@ mod words;
 use au_value::{Comparison, Word};
 pub use reading::parse;
 pub use terms::Operation;
+use thiserror::Error;
 
 /// The aggregates.
 #[derive(Clone, Copy, Debug, PartialEq, Eq)]
@@ -111,16 +112,21 @@ pub enum Statement {
 }
 
 /// Why tokens have no statement, and at which byte. Of several limits that are passed the one of the least place comes.
-#[derive(Clone, Copy, Debug, PartialEq, Eq)]
+#[derive(Clone, Copy, Debug, PartialEq, Eq, Error)]
 pub enum ParseFault {
     /// The tokens are no query and pass no limit; the place is where a token begins, or the query's length.
+    #[error("the tokens are no query, which shows at byte {0}")]
     Syntax(usize),
     /// The bracket or CASE that begins here is the 33rd that is open.
+    #[error("more than 32 brackets and CASE words are open at byte {0}")]
     TooDeep(usize),
     /// Behind the 8th comma of one FROM word.
+    #[error("a SELECT has more than 8 FROM items at byte {0}")]
     TooManyFrom(usize),
     /// Behind the 64th comma of one SELECT word.
+    #[error("a SELECT has more than 64 items at byte {0}")]
     TooManyItems(usize),
     /// Memory was wanting.
+    #[error("out of memory")]
     NoMemory,
 }

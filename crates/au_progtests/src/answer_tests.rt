@@ -65,6 +65,9 @@ guess|SELECT * FROM t|t=times.csv -> 0 Done row,id,amount~3,1,10~1,2,-1~!
 guess|SELECT price * qty AS cost FROM p|p=price.csv -> 0 Done row,cost~1,7.50~! 
 ua|SELECT * FROM t|t=times.csv -> 0 Done certain,row,id,amount~0,3,1,10~0,1,2,-1~! 
 guess|SELECT SUM(x) FROM t|t=sums.csv -> 0 Done row,col1~1,2~! 
+guess|SELECT CASE WHEN x > 0 THEN 1 ELSE x + 1 END AS one FROM t|t=edge.csv -> 0 Done row,one~1,1~! 
+guess|SELECT n FROM r EXCEPT ALL SELECT a.x FROM t a, t b, t c|r=most.csv|t=trillion.csv -> 0 Done row,n~1,170141183460469231731687303715884105727~! 
+guess|SELECT a.x FROM t a, t b, t c|t=trillion.csv -> 4 Overflow ! audb: a number leaves 128 bits~
 guess|SELECT id AS \"a,b\", city AS \"say \"\"x\"\"\" FROM t|t=none.csv -> 0 Done row,\"a,b\",\"say \"\"x\"\"\"~! 
 guess|SELECT t AS \"two~lines\", n FROM t|t=texts.csv -> 0 Done row,\"two~lines\",n~2,,-1~5,b,2~1,b,10~! ";
 

@@ -12,6 +12,7 @@ use Rattle.au_rwexpr.specs.Flatten.{sg, three}
 use Rattle.au_rwexpr.specs.Meets.{meets_term}
 use Rattle.au_rwexpr.proofs.Filled.{filled, filled-extend_all, one_filled, one_adds, scan_gives}
 use Rattle.au_rwgroup.specs.Adds.{AddsByDistinct, AddsByGroup, AddsByTotal}
+use Rattle.au_rwgroup.specs.Folds.{fold_aggs, fold_columns, fold_places, fold_width, folds}
 use Rattle.au_rwgroup.specs.Groups.{first_grouping, distinct_plan}
 use Rattle.au_rwgroup.specs.GroupPlan.{kept_for, places, all_member_columns, all_member_aggs, all_result_columns, result_places, second_grouping, group_plan}
 use Rattle.au_rwgroup.specs.Totals.{total_plan, total_columns, total_sums}
@@ -25,13 +26,16 @@ group_filled s c k aggs p =
     let kept = flat_map kept_for aggs in
     let b = 3 * k + 3 + length kept in
     let there = b + 4 * length aggs in
-    let columns = all_member_columns (places k b (b + 3 * c)) (3 * k + 3) aggs in
-    let over = all_member_aggs (b + 3 * c + 8) aggs in
+    let t = b + fold_width k (length aggs) in
+    let columns = all_member_columns (places k b t) (3 * k + 3) aggs in
+    let over = all_member_aggs (t + 4) aggs in
     let boxes = first_grouping c k kept p in
+    let folded = folds c k aggs p in
     let results = all_result_columns (positive (Column there)) (positive (sg (3 * k))) b aggs in
     ap (Keep (result_places k (there + 1) (length aggs)))
-    (filled-extend_all s results (second_grouping k b columns over boxes p)
-    ∙ ap (λ q. extend_all results (Group (run 0 b) over q)) (filled-extend_all s columns (Join (meets_term b 0 k) boxes p)))
+    (filled-extend_all s results (second_grouping k b columns over boxes folded)
+    ∙ ap (λ q. extend_all results (Group (run 0 b) over q)) (filled-extend_all s columns (Join (meets_term b 0 k) boxes folded)
+    ∙ (λ i. extend_all columns (Join (meets_term b 0 k) (first_grouping c k kept (filled s p)) (Group (fold_places c k) (fold_aggs (3 * c + 5) aggs) (filled-extend_all s (fold_columns (3 * c) aggs) p i))))))
 
 total_filled : (s : ℕ → PlanTree) (c : ℕ) (aggs : List Agg) (p : PlanTree) → filled s (total_plan c aggs p) ≡ total_plan c aggs (filled s p)
 total_filled s c [] p = refl

@@ -11,7 +11,7 @@ use Rattle.au_algebra.proofs.AggregateKinds.{kinds_parts, sum_kind}
 use Rattle.au_combine.proofs.BoxPlaces.{at_within}
 use Rattle.au_rwexpr.proofs.Places.{At}
 use Rattle.au_rwgroup.specs.Totals.{agg_place}
-use Rattle.au_rwgroup.proofs.MemberColumns.{IsOn}
+use Rattle.au_rwgroup.proofs.ColumnsThere.{IsOn}
 
 -- the kind of an aggregate: that of its column
 abbrev pub kind_on : List Kind → Agg → Kind

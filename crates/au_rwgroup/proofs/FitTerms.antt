@@ -10,7 +10,7 @@ use Rattle.au_expr.specs.Numbers.{number_if_any}
 use Rattle.au_expr.specs.Ordinary.{is_true}
 use Rattle.au_expr.proofs.Fits.{fit_both}
 use Rattle.au_algebra.proofs.Items.{some_is}
-use Rattle.au_plain.specs.PTerms.{PTerm, Column, Literal, Multiply, Compare, And, Case, plain_value}
+use Rattle.au_plain.specs.PTerms.{PTerm, Column, Literal, Add, Multiply, Compare, And, Case, plain_value}
 use Rattle.au_plain.specs.Meaning.{extended}
 use Rattle.au_plain.specs.PlanNumbers.{term_numbers}
 use Rattle.au_plain.proofs.Held.{ValueFits, RowFits, column_fits, joined_fits, value_fits}
@@ -42,10 +42,11 @@ reads_fit (Case c a b) row f h =
     (cond_both test (term_numbers a row) (term_numbers b row) Fit (λ _. reads_fit a row f h.1.0) (λ _. reads_fit b row f h.1.1))
 reads_fit _ row f h = absurd h
 
--- a choice of products of such terms
+-- a choice of sums and products of such terms
 abbrev pub Weighs : PTerm → Type 0
 Weighs (Column i) = Unit {0}
 Weighs (Literal v) = ValueFits v
+Weighs (Add a b) = Reads a × Reads b
 Weighs (Multiply a b) = Reads a × Reads b
 Weighs (Case c a b) = Reads c × (Weighs a × Weighs b)
 Weighs e = ⊥
@@ -58,6 +59,9 @@ by_branch false xs ys v w f g h = g h
 pub weighs_fit : (e : PTerm) (row : List Value) → RowFits row → Weighs e → ValueFits (plain_value e row) → Fit (term_numbers e row)
 weighs_fit (Column i) row f h v = v
 weighs_fit (Literal u) row f h v = v
+weighs_fit (Add a b) row f h v =
+    fit_both (number_if_any (plain_value (Add a b) row)) (term_numbers a row ++ term_numbers b row) v
+    (fit_both (term_numbers a row) (term_numbers b row) (reads_fit a row f h.0) (reads_fit b row f h.1))
 weighs_fit (Multiply a b) row f h v =
     fit_both (number_if_any (plain_value (Multiply a b) row)) (term_numbers a row ++ term_numbers b row) v
     (fit_both (term_numbers a row) (term_numbers b row) (reads_fit a row f h.0) (reads_fit b row f h.1))

@@ -17,7 +17,7 @@ use Rattle.au_rwexpr.proofs.Places.{EndsOfAll}
 use Rattle.au_rwexpr.proofs.Gives.{Gives}
 use Rattle.au_rwgroup.proofs.GroupRows.{group_by_gives}
 use Rattle.au_rwgroup.proofs.KeyReading.{KeyReading}
-use Rattle.au_rwgroup.proofs.MemberColumns.{IsOn}
+use Rattle.au_rwgroup.proofs.ColumnsThere.{IsOn}
 use Rattle.au_rwexpr.proofs.Coded.{rl, rs, rh}
 
 -- the first ranges stand in the same columns

@@ -10,37 +10,32 @@ use Rattle.au_algebra.specs.declared.query.Agg.{Agg}
 use Rattle.au_algebra.specs.declared.query.Agg.TheVariants as agg
 use Rattle.au_algebra.specs.Typing.{all_kinds, kinds_if}
 use Rattle.au_plain.specs.declared.plan.PAgg.{PAgg}
-use Rattle.au_plain.specs.declared.expr.Comparison2.TheVariants.{Less}
-use Rattle.au_plain.specs.PTerms.{PTerm, Column, Compare, Multiply, Case}
+use Rattle.au_plain.specs.PTerms.{PTerm, Column, Add, Case}
 use Rattle.au_plain.specs.Plans.{PlanTree, Join, Keep, extend_all}
 use Rattle.au_plain.specs.PlanKinds.{plan_kinds, plain_kind, plain_agg_kind, kept_kinds}
 use Rattle.au_encode.specs.Encode.{encoded_kinds, triple_kinds}
 use Rattle.au_rwexpr.specs.Cells.{run, cell_places, three_places}
 use Rattle.au_rwexpr.specs.Counts.{zero_term, one_term, positive}
-use Rattle.au_rwexpr.specs.Flatten.{lo, sg, hi}
+use Rattle.au_rwexpr.specs.Flatten.{sg}
 use Rattle.au_rwexpr.specs.Meets.{meets_term}
 use Rattle.au_rwexpr.proofs.Coded.{own}
 use Rattle.au_rwexpr.proofs.Columns.{AllMean, add_columns, adds, then_adds, means_now}
 use Rattle.au_rwexpr.proofs.Gives.{HasKinds, kinds-keep, kinds-extend_all}
 use Rattle.au_rwexpr.proofs.MeetingKinds.{meets_kind, same_kind}
-use Rattle.au_rwexpr.proofs.OnKinds.{HasKind, column_kind, test_kind, and_kind, case_kind, multiply_kind, positive_kind}
-use Rattle.au_rwexpr.proofs.Picks.{Picks, kinds_kept, picks_more, pick_cells, pick_three, all_ends_long, all_ends-append, coded_cells, coded_long, ends_past}
+use Rattle.au_rwexpr.proofs.OnKinds.{HasKind, column_kind, add_kind, and_kind, case_kind, positive_kind}
+use Rattle.au_rwexpr.proofs.Picks.{Picks, kinds_kept, picks_more, pick_cells, pick_three, all_ends_long, all_ends-append, coded_cells, ends_past}
 use Rattle.au_rwexpr.proofs.Places.{At, at_more, at_past, Ends, ends_more, ends_at, EndsOfAll, all_ends_at, all_ends_more}
 use Rattle.au_combine.proofs.BoxKinds.{twice}
 use Rattle.au_combine.proofs.BoxPlaces.{first_picks}
+use Rattle.au_rwgroup.specs.Folds.{fold_width, folds}
 use Rattle.au_rwgroup.specs.Groups.{all_sure, first_grouping}
 use Rattle.au_rwgroup.specs.GroupPlan as plans
 use Rattle.au_rwgroup.specs.GroupPlan.{Places, kept_for, all_member_columns, each_member_columns, all_member_aggs, all_result_columns, second_grouping, result_places, group_plan}
-use Rattle.au_rwgroup.specs.Totals.{signed}
 use Rattle.au_rwgroup.proofs.AggregatesOn.{kind_on, OnColumn}
+use Rattle.au_rwgroup.proofs.FoldKinds.{fold_kinds, folds_typed, fives, fives_long, FiveAt, five_at, five_more}
 use Rattle.au_rwgroup.proofs.FirstKinds.{first_kinds, sure_kind, four}
 
 module _ (row : List Kind) where
-  -- a count times a number
-  signed_kind : (a b x : PTerm) → HasKind row a Int → HasKind row b Int → HasKind row x Int → HasKind row (signed a b x) Int
-  signed_kind a b x p q r =
-      case_kind row (Multiply a x) (Multiply b x) Int (Compare Less x zero_term) (test_kind row x zero_term Less Int r (λ more. refl)) (multiply_kind row a x p r) (multiply_kind row b x q r)
-
   -- two columns for each kind, and four
   abbrev TwoAt : ℕ → List Kind → Type 0
   TwoAt q [] = Unit {0}
@@ -139,7 +134,7 @@ module _ (ks js : List Kind) (k : ℕ) (long : length js ≡ k) (part : (row : L
   b = 3 * k + 3 + length kept
 
   abbrev t : ℕ
-  t = b + 3 * c
+  t = b + fold_width k (length aggs)
 
   abbrev places : Places
   places = plans.places k b t
@@ -151,38 +146,49 @@ module _ (ks js : List Kind) (k : ℕ) (long : length js ≡ k) (part : (row : L
   box_long = omega (arith, length-append (triple_kinds js) (counts_kinds ++ twice es), keys_long, kept_long aggs)
 
   -- a joined row
-  abbrev row : List Kind
-  row = box_kinds ++ encoded_kinds ks
+  abbrev pub folded : List Kind
+  folded = fold_kinds js es
 
-  row_long : length row ≡ t + 3
-  row_long = omega (arith, length-append box_kinds (encoded_kinds ks), box_long, coded_long own own own own own own c ks Int refl)
+  abbrev row : List Kind
+  row = box_kinds ++ folded
+
+  row_long : length row ≡ t
+  row_long = omega (arith, length-append box_kinds folded, box_long, length-append (triple_kinds js) (Flag ∷ Flag ∷ fives es), keys_long, fives_long es, length-map aggs (kind_on ks))
 
   box_at : EndsOfAll own own own row 0 js
-  box_at = all_ends_more own own own box_kinds (encoded_kinds ks) 0 js (all_ends_at own own own [] (counts_kinds ++ twice es) 0 js refl)
+  box_at = all_ends_more own own own box_kinds folded 0 js (all_ends_at own own own [] (counts_kinds ++ twice es) 0 js refl)
 
-  cells_at : EndsOfAll own own own row b ks
-  cells_at = all_ends_at own own own box_kinds counts_kinds b ks box_long
+  keys_at : EndsOfAll own own own row b js
+  keys_at = all_ends_at own own own box_kinds (Flag ∷ Flag ∷ fives es) b js box_long
 
-  triple_at : Ends own own own row t Int
-  triple_at =
-      let front = box_kinds ++ triple_kinds ks in
-      subst (λ r. Ends own own own r t Int) (append_assoc box_kinds (triple_kinds ks) counts_kinds)
-      (ends_past own own own front [] t Int (omega (arith, length-append box_kinds (triple_kinds ks), box_long, all_ends_long own own own ks)))
+  -- the fold's tests, and its values
+  flags_at : At row (b + 3 * k) Flag × At row (b + 3 * k + 1) Flag
+  flags_at =
+      let front = box_kinds ++ triple_kinds js in
+      let behind = Flag ∷ Flag ∷ fives es in
+      subst (λ r. At r (b + 3 * k) Flag × At r (b + 3 * k + 1) Flag) (append_assoc box_kinds (triple_kinds js) behind) (
+        at_past front behind 0 (b + 3 * k) Flag (omega (arith, length-append box_kinds (triple_kinds js), box_long, keys_long)) refl,
+        at_past front behind 1 (b + 3 * k + 1) Flag (omega (arith, length-append box_kinds (triple_kinds js), box_long, keys_long)) refl,
+      )
+
+  values_there : FiveAt row (b + 3 * k + 2) es
+  values_there =
+      let front = box_kinds ++ triple_kinds js in
+      let both = Flag ∷ Flag ∷ [] in
+      subst (λ r. FiveAt r (b + 3 * k + 2) es) (append_assoc front both (fives es) ∙ append_assoc box_kinds (triple_kinds js) (Flag ∷ Flag ∷ fives es))
+      (five_at (front ++ both) (b + 3 * k + 2) es (omega (arith, length-append front both, length-append box_kinds (triple_kinds js), box_long, keys_long)))
 
   kept_at : TwoAt row (3 * k + 3) es
   kept_at =
       let front = triple_kinds js ++ counts_kinds in
-      subst (λ r. TwoAt (r ++ encoded_kinds ks) (3 * k + 3) es) (append_assoc (triple_kinds js) counts_kinds (twice es))
-      (two_at front (encoded_kinds ks) (3 * k + 3) es (omega (arith, length-append (triple_kinds js) counts_kinds, keys_long)))
-
-  keys_at : EndsOfAll own own own row b js
-  keys_at = part row b cells_at
+      subst (λ r. TwoAt (r ++ folded) (3 * k + 3) es) (append_assoc (triple_kinds js) counts_kinds (twice es))
+      (two_at front folded (3 * k + 3) es (omega (arith, length-append (triple_kinds js) counts_kinds, keys_long)))
 
   abbrev test_kinds : List Kind
   test_kinds = Flag ∷ Flag ∷ []
 
   abbrev weight_kinds : List Kind
-  weight_kinds = Int ∷ Flag ∷ Flag ∷ []
+  weight_kinds = Flag ∷ Flag ∷ []
 
   abbrev tested : List Kind
   tested = row ++ test_kinds
@@ -190,99 +196,78 @@ module _ (ks js : List Kind) (k : ℕ) (long : length js ≡ k) (part : (row : L
   abbrev weighed : List Kind
   weighed = tested ++ weight_kinds
 
-  tested_long : length tested ≡ t + 5
+  tested_long : length tested ≡ t + 2
   tested_long = omega (arith, length-append row test_kinds, row_long)
 
   tests_kinds : AllMean plain_kind row (plans.tests places) test_kinds
   tests_kinds = (and_kind row (all_sure b k) (all_sure 0 k) (sure_kind row b k js long keys_at) (sure_kind row 0 k js long box_at), (same_kind row 0 b k js long box_at keys_at, tt))
 
-  tested_triple : Ends own own own tested t Int
-  tested_triple = ends_more own own own row test_kinds t Int triple_at
+  sure_at : At tested t Flag
+  sure_at = at_past row test_kinds 0 t Flag (omega (arith, row_long)) refl
 
-  belongs_at : At tested (t + 4) Flag
-  belongs_at = at_past row test_kinds 1 (t + 4) Flag (omega (arith, row_long)) refl
+  belongs_at : At tested (t + 1) Flag
+  belongs_at = at_past row test_kinds 1 (t + 1) Flag (omega (arith, row_long)) refl
 
   weights_kinds : AllMean plain_kind tested (plans.weights places) weight_kinds
-  weights_kinds =
-      let sure = column_kind tested (t + 3) Flag (at_past row test_kinds 0 (t + 3) Flag (omega (arith, row_long)) refl) in
-      let same = column_kind tested (t + 4) Flag belongs_at in
-      let least = column_kind tested t Int tested_triple.lo in
-      let guess = column_kind tested (t + 1) Int tested_triple.sg in (
-        case_kind tested (lo t) zero_term Int (plans.is_sure places) sure least (λ more. refl),
-        (
-          and_kind tested (plans.is_sure places) (positive (lo t)) sure (positive_kind tested (lo t) least),
-          (and_kind tested (plans.belongs places) (positive (sg t)) same (positive_kind tested (sg t) guess), tt),
-        ),
-      )
+  weights_kinds = (
+    and_kind tested (plans.is_sure places) (Column (b + 3 * k)) (column_kind tested t Flag sure_at) (column_kind tested (b + 3 * k) Flag (at_more row test_kinds (b + 3 * k) Flag flags_at.0)),
+    (
+      and_kind tested (plans.belongs places) (Column (b + 3 * k + 1)) (column_kind tested (t + 1) Flag belongs_at) (column_kind tested (b + 3 * k + 1) Flag (at_more row test_kinds (b + 3 * k + 1) Flag flags_at.1)),
+      tt,
+    ),
+  )
 
   two_more : (r more : List Kind) (q : ℕ) (xs : List Kind) → TwoAt r q xs → TwoAt (r ++ more) q xs
   two_more r more q [] h = tt
   two_more r more q (x ∷ xs) h = ((at_more r more q x h.0.0, at_more r more (q + 1) x h.0.1), two_more r more (q + 2) xs h.1)
 
-  weighed_cells : EndsOfAll own own own weighed b ks
-  weighed_cells = all_ends_more own own own tested weight_kinds b ks (all_ends_more own own own row test_kinds b ks cells_at)
+  weighed_values : FiveAt weighed (b + 3 * k + 2) es
+  weighed_values = five_more tested weight_kinds (b + 3 * k + 2) es (five_more row test_kinds (b + 3 * k + 2) es values_there)
 
-  weighed_triple : Ends own own own weighed t Int
-  weighed_triple = ends_more own own own tested weight_kinds t Int tested_triple
-
-  count_kind : HasKind weighed (plans.sure_count places) Int
-  count_kind = column_kind weighed (t + 5) Int (at_past tested weight_kinds 0 (t + 5) Int (omega (arith, tested_long)) refl)
+  sure_flag : HasKind weighed (plans.is_sure places) Flag
+  sure_flag = column_kind weighed t Flag (at_more tested weight_kinds t Flag sure_at)
 
   surely_kind : HasKind weighed (plans.surely places) Flag
-  surely_kind = column_kind weighed (t + 6) Flag (at_past tested weight_kinds 1 (t + 6) Flag (omega (arith, tested_long)) refl)
+  surely_kind = column_kind weighed (t + 2) Flag (at_past tested weight_kinds 0 (t + 2) Flag (omega (arith, tested_long)) refl)
 
   guessed_kind : HasKind weighed (plans.guessed places) Flag
-  guessed_kind = column_kind weighed (t + 7) Flag (at_past tested weight_kinds 2 (t + 7) Flag (omega (arith, tested_long)) refl)
+  guessed_kind = column_kind weighed (t + 3) Flag (at_past tested weight_kinds 1 (t + 3) Flag (omega (arith, tested_long)) refl)
 
   belongs_kind : HasKind weighed (plans.belongs places) Flag
-  belongs_kind = column_kind weighed (t + 4) Flag (at_more tested weight_kinds (t + 4) Flag belongs_at)
+  belongs_kind = column_kind weighed (t + 1) Flag (at_more tested weight_kinds (t + 1) Flag belongs_at)
 
-  members_kinds : (q : ℕ) (bs : List Agg) → AllByRecursion (OnColumn ks) bs → TwoAt weighed q (kinds_of bs) → AllMean plain_kind weighed (each_member_columns places q bs) (fours (kinds_of bs))
-  members_kinds q [] h two = (case_kind weighed one_term zero_term Int (plans.surely places) surely_kind (λ more. refl) (λ more. refl), tt)
-  members_kinds q (agg.Sum d ∷ bs) h two =
-      let i = b + 3 * d in
-      let x = ends_at own own own weighed b d i ks Int weighed_cells h.0 refl in
-      let guess = column_kind weighed (t + 1) Int weighed_triple.sg in
-      let most = column_kind weighed (t + 2) Int weighed_triple.hi in (
-        signed_kind weighed (hi t) (plans.sure_count places) (lo i) most count_kind (column_kind weighed i Int x.lo),
-        (
-          case_kind weighed (Multiply (sg t) (sg i)) zero_term Int (plans.belongs places) belongs_kind (multiply_kind weighed (sg t) (sg i) guess (column_kind weighed (i + 1) Int x.sg)) (λ more. refl),
-          (
-            signed_kind weighed (plans.sure_count places) (hi t) (hi i) count_kind most (column_kind weighed (i + 2) Int x.hi),
-            ((λ more. refl), members_kinds (q + 2) bs h.1 two.1),
-          ),
-        ),
-      )
-  members_kinds q (agg.Min d ∷ bs) h two =
-      let i = b + 3 * d in
-      let e = kind_on ks (agg.Min d) in
-      let x = ends_at own own own weighed b d i ks e weighed_cells h.0 refl in
-      let low = column_kind weighed i e x.lo in
-      let high = column_kind weighed (i + 2) e x.hi in (
-        low,
-        (
-          case_kind weighed (sg i) (Column (q + 1)) e (plans.guessed places) guessed_kind (column_kind weighed (i + 1) e x.sg) (column_kind weighed (q + 1) e two.0.1),
-          (
-            case_kind weighed (hi i) (Column q) e (plans.surely places) surely_kind high (column_kind weighed q e two.0.0),
-            (high, members_kinds (q + 2) bs h.1 two.1),
-          ),
-        ),
-      )
-  members_kinds q (agg.Max d ∷ bs) h two =
-      let i = b + 3 * d in
-      let e = kind_on ks (agg.Max d) in
-      let x = ends_at own own own weighed b d i ks e weighed_cells h.0 refl in
-      let low = column_kind weighed i e x.lo in
-      let high = column_kind weighed (i + 2) e x.hi in (
-        high,
-        (
-          case_kind weighed (sg i) (Column (q + 1)) e (plans.guessed places) guessed_kind (column_kind weighed (i + 1) e x.sg) (column_kind weighed (q + 1) e two.0.1),
-          (
-            case_kind weighed (lo i) (Column q) e (plans.surely places) surely_kind low (column_kind weighed q e two.0.0),
-            (low, members_kinds (q + 2) bs h.1 two.1),
-          ),
-        ),
-      )
+  with_sure_kind : (y z : ℕ) → At weighed y Int → At weighed z Int → HasKind weighed (plans.with_sure places y z) Int
+  with_sure_kind y z p q =
+      case_kind weighed (Add (Column y) (Column z)) (Column y) Int (plans.is_sure places) sure_flag (add_kind weighed (Column y) (Column z) (column_kind weighed y Int p) (column_kind weighed z Int q)) (column_kind weighed y Int p)
+
+  -- the four columns of an end
+  ends_kinds : (q y : ℕ) (e : Kind) → At weighed q e × At weighed (q + 1) e → At weighed y e × At weighed (y + 1) e × At weighed (y + 2) e × At weighed (y + 3) e × At weighed (y + 4) Int → AllMean plain_kind weighed (plans.end_columns places q y) (e ∷ e ∷ e ∷ e ∷ [])
+  ends_kinds q y e two five = (
+    column_kind weighed y e five.0,
+    (
+      case_kind weighed (Column (y + 1)) (Column (q + 1)) e (plans.guessed places) guessed_kind (column_kind weighed (y + 1) e five.1) (column_kind weighed (q + 1) e two.1),
+      (
+        case_kind weighed (Column (y + 2)) (Column q) e (plans.surely places) surely_kind (column_kind weighed (y + 2) e five.2) (column_kind weighed q e two.0),
+        (column_kind weighed (y + 3) e five.3, tt),
+      ),
+    ),
+  )
+
+  members_kinds : (q y : ℕ) (bs : List Agg) → TwoAt weighed q (kinds_of bs) → FiveAt weighed y (kinds_of bs) → AllMean plain_kind weighed (each_member_columns places q y bs) (fours (kinds_of bs))
+  members_kinds q y [] two five = (case_kind weighed one_term zero_term Int (plans.surely places) surely_kind (λ more. refl) (λ more. refl), tt)
+  members_kinds q y (agg.Sum d ∷ bs) two five = (
+    with_sure_kind y (y + 3) five.0.0 five.0.3,
+    (
+      case_kind weighed (Column (y + 1)) zero_term Int (plans.belongs places) belongs_kind (column_kind weighed (y + 1) Int five.0.1) (λ more. refl),
+      (with_sure_kind (y + 2) (y + 4) five.0.2 five.0.4, ((λ more. refl), members_kinds (q + 2) (y + 5) bs two.1 five.1)),
+    ),
+  )
+  members_kinds q y (agg.Min d ∷ bs) two five =
+      let own = ends_kinds q y (kind_on ks (agg.Min d)) two.0 five.0 in
+      (own.0, (own.1.0, (own.1.1.0, (own.1.1.1.0, members_kinds (q + 2) (y + 5) bs two.1 five.1))))
+  members_kinds q y (agg.Max d ∷ bs) two five =
+      let own = ends_kinds q y (kind_on ks (agg.Max d)) two.0 five.0 in
+      (own.0, (own.1.0, (own.1.1.0, (own.1.1.1.0, members_kinds (q + 2) (y + 5) bs two.1 five.1))))
 
   abbrev columns : List PTerm
   columns = all_member_columns places (3 * k + 3) aggs
@@ -292,20 +277,20 @@ module _ (ks js : List Kind) (k : ℕ) (long : length js ≡ k) (part : (row : L
 
   columns_added : add_columns plain_kind columns row ≡ Some (row ++ added)
   columns_added =
-      let each = each_member_columns places (3 * k + 3) aggs in
+      let each = each_member_columns places (3 * k + 3) (b + 3 * k + 2) aggs in
       let two = two_more tested weight_kinds (3 * k + 3) es (two_more row test_kinds (3 * k + 3) es kept_at) in
       then_adds plain_kind (plans.tests places) (plans.weights places ++ each) row tested (Some (row ++ added)) (adds plain_kind row (plans.tests places) test_kinds tests_kinds)
       (then_adds plain_kind (plans.weights places) each tested weighed (Some (row ++ added)) (adds plain_kind tested (plans.weights places) weight_kinds weights_kinds)
-      (adds plain_kind weighed each (fours es) (members_kinds (3 * k + 3) aggs on two)
+      (adds plain_kind weighed each (fours es) (members_kinds (3 * k + 3) (b + 3 * k + 2) aggs two weighed_values)
       ∙ ap Some (append_assoc tested weight_kinds (fours es) ∙ append_assoc row test_kinds (weight_kinds ++ fours es))))
 
   abbrev wide : List Kind
   wide = row ++ added
 
-  fours_there : FourAt wide (t + 8) es
+  fours_there : FourAt wide (t + 4) es
   fours_there =
-      subst (λ r. FourAt r (t + 8) es) (append_assoc tested weight_kinds (fours es) ∙ append_assoc row test_kinds (weight_kinds ++ fours es))
-      (four_at weighed (t + 8) es (omega (arith, length-append tested weight_kinds, tested_long)))
+      subst (λ r. FourAt r (t + 4) es) (append_assoc tested weight_kinds (fours es) ∙ append_assoc row test_kinds (weight_kinds ++ fours es))
+      (four_at weighed (t + 4) es (omega (arith, length-append tested weight_kinds, tested_long)))
 
   -- the kinds of the results
   results_are : (n : ℕ) (bs : List Agg) → FourAt wide n (kinds_of bs) → all_kinds (map (plain_agg_kind wide) (all_member_aggs n bs)) ≡ Some (fours (kinds_of bs))
@@ -329,9 +314,9 @@ module _ (ks js : List Kind) (k : ℕ) (long : length js ≡ k) (part : (row : L
   grouped_kinds = box_kinds ++ fours es
 
   abbrev aggs_over : List PAgg
-  aggs_over = all_member_aggs (t + 8) aggs
+  aggs_over = all_member_aggs (t + 4) aggs
 
-  module _ (tk : List (List Kind)) (boxes p : PlanTree) (boxed : plan_kinds tk boxes ≡ Some box_kinds) (typed : HasKinds tk p ks) where
+  module _ (tk : List (List Kind)) (boxes p : PlanTree) (boxed : plan_kinds tk boxes ≡ Some box_kinds) (typed : plan_kinds tk p ≡ Some folded) where
     join_kinds : plan_kinds tk (Join (meets_term b 0 k) boxes p) ≡ Some row
     join_kinds =
         ap (option_and_then (λ xs. option_and_then (λ ys. kinds_if (is_kind Flag (plain_kind (xs ++ ys) (meets_term b 0 k))) (xs ++ ys)) (plan_kinds tk p))) boxed
@@ -342,9 +327,9 @@ module _ (ks js : List Kind) (k : ℕ) (long : length js ≡ k) (part : (row : L
     pub second_kinds : plan_kinds tk (second_grouping k b columns aggs_over boxes p) ≡ Some grouped_kinds
     second_kinds =
         let wider = kinds-extend_all tk columns (Join (meets_term b 0 k) boxes p) row wide join_kinds columns_added in
-        let picks = subst (λ r. Picks r (run 0 b) box_kinds) (sym (append_assoc box_kinds (encoded_kinds ks) added)) (first_picks box_kinds (encoded_kinds ks ++ added) b box_long) in
+        let picks = subst (λ r. Picks r (run 0 b) box_kinds) (sym (append_assoc box_kinds folded added)) (first_picks box_kinds (folded ++ added) b box_long) in
         ap (option_and_then (λ xs. option_and_then (λ ys. option_and_then (λ more. Some (ys ++ more)) (all_kinds (map (plain_agg_kind xs) aggs_over))) (kept_kinds (run 0 b) xs))) wider
-        ∙ (λ i. option_and_then (λ ys. option_and_then (λ more. Some (ys ++ more)) (results_are (t + 8) aggs fours_there i)) (kinds_kept wide (run 0 b) box_kinds picks i))
+        ∙ (λ i. option_and_then (λ ys. option_and_then (λ more. Some (ys ++ more)) (results_are (t + 4) aggs fours_there i)) (kinds_kept wide (run 0 b) box_kinds picks i))
 
     finals : (z : ℕ) (bs : List Agg) (there has_guess : PTerm) → HasKind grouped_kinds there Flag → HasKind grouped_kinds has_guess Flag → FourAt grouped_kinds z (kinds_of bs) → AllMean plain_kind grouped_kinds (all_result_columns there has_guess z bs) (triple_kinds (kinds_of bs))
     finals z [] there has_guess u v at = tt
@@ -429,5 +414,8 @@ module _ (ks js : List Kind) (k : ℕ) (long : length js ≡ k) (part : (row : L
         first_kinds tk ks js k kept (twice es) p long (kept_long aggs) (part (encoded_kinds ks) 0 cells)
         (kept_kinds_are (encoded_kinds ks ++ four) (all_ends_more own own own (encoded_kinds ks) four 0 ks cells) aggs on) typed
 
+    pub folds_there : plan_kinds tk (folds c k aggs p) ≡ Some folded
+    folds_there = folds_typed ks js k long part aggs on tk p typed
+
     pub group_typed : HasKinds tk (group_plan c k aggs p) (js ++ es)
-    group_typed = shown_kinds tk (first_grouping c k kept p) p boxes_typed typed
+    group_typed = shown_kinds tk (first_grouping c k kept p) (folds c k aggs p) boxes_typed folds_there

@@ -31,6 +31,7 @@ use Rattle.au_rwexpr.proofs.Counting.{scans-extend_all}
 use Rattle.au_rwexpr.proofs.Places.{EndsOfAll}
 use Rattle.au_rwexpr.proofs.PlanNumbersOf.{all_fit}
 use Rattle.au_rwgroup.specs.Gives.{Groups}
+use Rattle.au_rwgroup.specs.Folds.{fold_columns, fold_width, folds}
 use Rattle.au_rwgroup.specs.Groups.{group_columns, first_grouping}
 use Rattle.au_rwgroup.specs.GroupPlan.{kept_for, places, all_member_columns, all_member_aggs, all_result_columns, second_grouping, group_plan}
 use Rattle.au_rwgroup.proofs.AggregatesOn.{Typed, typed_on, are_on}
@@ -93,13 +94,15 @@ twice_scanned : (c k : ℕ) (aggs : List Agg) (p : PlanTree) → scans (group_pl
 twice_scanned c k aggs p =
     let kept = flat_map kept_for aggs in
     let b = 3 * k + 3 + length kept in
-    let columns = all_member_columns (places k b (b + 3 * c)) (3 * k + 3) aggs in
+    let t = b + fold_width k (length aggs) in
+    let columns = all_member_columns (places k b t) (3 * k + 3) aggs in
     let boxes = first_grouping c k kept p in
-    let second = second_grouping k b columns (all_member_aggs (b + 3 * c + 8) aggs) boxes p in
+    let folded = folds c k aggs p in
+    let second = second_grouping k b columns (all_member_aggs (t + 4) aggs) boxes folded in
     let finish = all_result_columns (positive (Column (b + 4 * length aggs))) (positive (sg (3 * k))) b aggs in
     scans-extend_all finish second
-    ∙ scans-extend_all columns (Join (meets_term b 0 k) boxes p)
-    ∙ (let e : scans boxes + scans p ≡ 2 * scans p = omega (arith, scans-extend_all (group_columns c k) p) in e)
+    ∙ scans-extend_all columns (Join (meets_term b 0 k) boxes folded)
+    ∙ (let e : scans boxes + scans folded ≡ 2 * scans p = omega (arith, scans-extend_all (group_columns c k) p, scans-extend_all (fold_columns (3 * c) aggs) p) in e)
 
 module _ (c m : ℕ) (aggs : List Agg) (of p : PlanTree) (is : p ≡ group_plan c m aggs of) where
   group_as_is : Groups c m aggs of (group_plan c m aggs of)

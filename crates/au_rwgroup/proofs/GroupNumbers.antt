@@ -9,7 +9,7 @@ use Rattle.au_expr.specs.Figures.{Fit}
 use Rattle.au_expr.proofs.Fits.{fit_both}
 use Rattle.au_algebra.specs.declared.query.Agg.{Agg}
 use Rattle.au_algebra.specs.declared.query.Agg.TheVariants as agg
-use Rattle.au_algebra.specs.Bounded.{RangeRow, Bounded, group_by, grouped}
+use Rattle.au_algebra.specs.Bounded.{Bounded, group_by, grouped}
 use Rattle.au_algebra.specs.Fits.{agg_numbers, triple_numbers}
 use Rattle.au_algebra.specs.Laws.{IsRelation}
 use Rattle.au_algebra.specs.Ordinary.{Rows}
@@ -18,7 +18,7 @@ use Rattle.au_plain.specs.declared.plan.PAgg.{PAgg}
 use Rattle.au_plain.specs.PTerms.{PTerm, Column}
 use Rattle.au_plain.specs.Plans.{PlanTree, Join, extend_all}
 use Rattle.au_plain.specs.Meaning.{plain_rows, passes}
-use Rattle.au_plain.specs.PlanKinds.{FitRows, FitTables}
+use Rattle.au_plain.specs.PlanKinds.{FitRows, FitTables, plan_kinds}
 use Rattle.au_plain.specs.PlanNumbers.{plan_numbers, term_numbers, magnitudes}
 use Rattle.au_plain.specs.PlanNumbers as plain
 use Rattle.au_plain.proofs.Held.{RowFits, rows_fit, joined_fits}
@@ -37,6 +37,7 @@ use Rattle.au_rwexpr.proofs.OnValues.{reading}
 use Rattle.au_rwexpr.proofs.Places.{EndsOfAll}
 use Rattle.au_rwexpr.proofs.PlanNumbersOf.{fit_all, all_made, numbers-extend_all}
 use Rattle.au_combine.proofs.JoinGroups.{pairs, with_left}
+use Rattle.au_rwgroup.specs.Folds.{fold_width, folds}
 use Rattle.au_rwgroup.specs.Groups.{first_grouping}
 use Rattle.au_rwgroup.specs.GroupPlan as plans
 use Rattle.au_rwgroup.specs.GroupPlan.{Places, kept_for, all_member_columns, all_member_aggs, all_result_columns, second_grouping, group_plan}
@@ -44,11 +45,13 @@ use Rattle.au_rwgroup.proofs.AggregatesOn.{OnColumn, are_on}
 use Rattle.au_rwgroup.proofs.FirstNumbers as first
 use Rattle.au_rwgroup.proofs.FirstNumbers.{IsEnd}
 use Rattle.au_rwgroup.proofs.FirstRows.{first_rows}
+use Rattle.au_rwgroup.proofs.FoldNumbers.{folds_fit}
+use Rattle.au_rwgroup.proofs.FoldRows as folds_of
 use Rattle.au_rwgroup.proofs.FitTerms.{Reads, reads_fit, reading_columns, meets_reads}
 use Rattle.au_rwgroup.proofs.GroupKinds as kinds_of
 use Rattle.au_rwgroup.proofs.GroupRows as rows_of
 use Rattle.au_rwgroup.proofs.MemberColumns as member
-use Rattle.au_rwgroup.proofs.MemberColumns.{IsOn}
+use Rattle.au_rwgroup.proofs.ColumnsThere.{IsOn}
 use Rattle.au_rwgroup.proofs.MemberNumbers as numbers
 use Rattle.au_rwgroup.proofs.SecondRows as second
 use Rattle.au_rwgroup.proofs.KeyReading.{KeyReading}
@@ -92,37 +95,37 @@ module _ (by : KeyReading) (aggs : List Agg) (on : AllByRecursion (OnColumn by.k
   b = 3 * by.k + 3 + length more
 
   abbrev places : Places
-  places = plans.places by.k b (b + 3 * c)
+  places = plans.places by.k b (b + fold_width by.k (length aggs))
 
   abbrev n : ℕ
-  n = b + 3 * c + 8
+  n = b + fold_width by.k (length aggs) + 4
 
   abbrev Pair : Type 0
-  Pair = List Value × RangeRow
+  Pair = List Value × List Value
 
   abbrev IsPair : Pair → Type 0
-  IsPair s = second.IsPair by more rows ok s
+  IsPair s = second.IsPair by more aggs rows ok s
 
   abbrev IsKey : List Value → Type 0
-  IsKey key = second.IsKey by more rows ok key
+  IsKey key = second.IsKey by more aggs rows ok key
 
   abbrev joined : Pair → List Value
-  joined s = second.joined by more rows ok s
+  joined s = second.joined by more aggs rows ok s
 
   abbrev box_row : List Value → List Value
-  box_row key = second.box_row by more rows ok key
+  box_row key = second.box_row by more aggs rows ok key
 
-  abbrev members : List Value → Bounded
-  members key = second.members by more rows ok key
+  abbrev folds_at : List Value → Rows
+  folds_at key = second.folds by more aggs rows ok key
 
   abbrev keys_list : Rows
-  keys_list = second.keys_list by more rows ok
+  keys_list = second.keys_list by more aggs rows ok
 
   abbrev all_keys : AllByRecursion IsKey keys_list
-  all_keys = second.all_keys by more rows ok
+  all_keys = second.all_keys by more aggs rows ok
 
   abbrev all_pairs : List Pair
-  all_pairs = second.all_pairs by more rows ok
+  all_pairs = second.all_pairs by more aggs rows ok
 
   abbrev are_there : AllByRecursion (IsOn c) aggs
   are_there = are_on by.ks aggs on
@@ -139,12 +142,12 @@ module _ (by : KeyReading) (aggs : List Agg) (on : AllByRecursion (OnColumn by.k
   abbrev numbers_at : List Value → List ℤ
   numbers_at key = flat_map (agg_numbers (grouped by.keys rows key)) aggs
 
-  pair_terms : (js : Rows) → AllByRecursion (λ key. Fit (numbers_at key)) js → AllByRecursion TermsFit (pairs box_row members js)
-  pair_terms [] f = tt
-  pair_terms (j ∷ js) f =
-      all_append TermsFit (with_left box_row members j (members j)) (pairs box_row members js)
-      (all_made (λ r. TermsFit (j, r)) TermsFit (λ r. (j, r)) (members j) (numbers.key_terms by aggs are_there rows ok j aggs f.0) (λ r h. h))
-      (pair_terms js f.1)
+  pair_terms : (js : Rows) → AllByRecursion IsKey js → AllByRecursion (λ key. Fit (numbers_at key)) js → AllByRecursion TermsFit (pairs box_row folds_at js)
+  pair_terms [] v f = tt
+  pair_terms (j ∷ js) v f =
+      all_append TermsFit (with_left box_row folds_at j (folds_at j)) (pairs box_row folds_at js)
+      (all_made (λ fold. TermsFit (j, fold)) TermsFit (λ fold. (j, fold)) (folds_at j) (numbers.key_terms by aggs are_there rows ok j v.0 aggs f.0) (λ fold h. h))
+      (pair_terms js v.1 f.1)
 
   module _ (tk : List (List Kind)) (ts : List Rows) (p : PlanTree) (typed : HasKinds tk p by.ks) (tables : FitTables ts) (g : Gives ts p rows) (held : AllFitRows rows) (np : Fit (plan_numbers p ts)) (part : (xs : List Span) → AllFit xs → AllFit (by.keys xs)) (kks_long : length by.kks ≡ by.k) (kind_part : (row : List Kind) (i : ℕ) → EndsOfAll own own own row i by.ks → EndsOfAll own own own row i by.kks) (sums : AllByRecursion (λ key. Fit (numbers_at key)) keys_list) (triples : Fit (triple_numbers (group_by by.keys aggs rows))) where
     abbrev boxes : PlanTree
@@ -161,22 +164,37 @@ module _ (by : KeyReading) (aggs : List Agg) (on : AllByRecursion (OnColumn by.k
     box_rows_fit : FitRows (plain_rows boxes ts)
     box_rows_fit = rows_fit tk (kinds_of.box_kinds by.ks by.kks by.k kks_long kind_part aggs on) boxes ts (kinds_of.boxes_typed by.ks by.kks by.k kks_long kind_part aggs on tk p typed) tables boxes_fit
 
+    abbrev folded : PlanTree
+    folded = folds c by.k aggs p
+
+    folded_fit : Fit (plan_numbers folded ts)
+    folded_fit = folds_fit by aggs on rows ok ts p g (rows_fit tk (encoded_kinds by.ks) p ts typed tables np) np sums
+
+    folded_are : plain_rows folded ts ≡ map (second.fold_row by more aggs rows ok) (second.fold_keys by more aggs rows ok)
+    folded_are = folds_of.fold_rows by aggs rows ok are_there ts p g
+
+    folded_typed : plan_kinds tk folded ≡ Some (kinds_of.folded by.ks by.kks by.k kks_long kind_part aggs on)
+    folded_typed = kinds_of.folds_there by.ks by.kks by.k kks_long kind_part aggs on tk p typed
+
+    folded_rows_fit : FitRows (plain_rows folded ts)
+    folded_rows_fit = rows_fit tk (kinds_of.folded by.ks by.kks by.k kks_long kind_part aggs on) folded ts folded_typed tables folded_fit
+
     abbrev pair_rows : Rows
-    pair_rows = flat_map (λ x. map (λ y. x ++ y) (plain_rows p ts)) (plain_rows boxes ts)
+    pair_rows = flat_map (λ x. map (λ y. x ++ y) (plain_rows folded ts)) (plain_rows boxes ts)
 
     pair_rows_fit : FitRows pair_rows
-    pair_rows_fit = pairs_fit (plain_rows boxes ts) (plain_rows p ts) box_rows_fit (rows_fit tk (encoded_kinds by.ks) p ts typed tables np)
+    pair_rows_fit = pairs_fit (plain_rows boxes ts) (plain_rows folded ts) box_rows_fit folded_rows_fit
 
     abbrev join : PlanTree
-    join = Join (meets_term b 0 by.k) boxes p
+    join = Join (meets_term b 0 by.k) boxes folded
 
     join_fits : Fit (plan_numbers join ts)
     join_fits =
-        fit_both (plan_numbers boxes ts ++ plan_numbers p ts) (flat_map (term_numbers (meets_term b 0 by.k)) pair_rows) (fit_both (plan_numbers boxes ts) (plan_numbers p ts) boxes_fit np)
+        fit_both (plan_numbers boxes ts ++ plan_numbers folded ts) (flat_map (term_numbers (meets_term b 0 by.k)) pair_rows) (fit_both (plan_numbers boxes ts) (plan_numbers folded ts) boxes_fit folded_fit)
         (fit_all (term_numbers (meets_term b 0 by.k)) pair_rows (all_from RowFits (λ row. Fit (term_numbers (meets_term b 0 by.k) row)) pair_rows (λ row f. reads_fit (meets_term b 0 by.k) row f (meets_reads b 0 by.k)) pair_rows_fit))
 
     joined_are : plain_rows join ts ≡ map joined all_pairs
-    joined_are = second.joined_rows by more rows ok ts boxes p boxes_are g
+    joined_are = second.joined_rows by more aggs rows ok ts boxes folded boxes_are folded_are
 
     joined_fit : AllByRecursion (λ s. RowFits (joined s)) all_pairs
     joined_fit = of_made RowFits joined all_pairs (subst FitRows joined_are (all_filter RowFits (passes (meets_term b 0 by.k)) pair_rows pair_rows_fit))
@@ -186,8 +204,8 @@ module _ (by : KeyReading) (aggs : List Agg) (on : AllByRecursion (OnColumn by.k
 
     all_sound : AllByRecursion Sound all_pairs
     all_sound =
-        all_both IsPair (λ s. RowFits (joined s) × TermsFit s) all_pairs (second.pairs_ok by more rows ok keys_list all_keys)
-        (all_both (λ s. RowFits (joined s)) TermsFit all_pairs joined_fit (pair_terms keys_list sums))
+        all_both IsPair (λ s. RowFits (joined s) × TermsFit s) all_pairs (second.pairs_ok by more aggs rows ok keys_list all_keys)
+        (all_both (λ s. RowFits (joined s)) TermsFit all_pairs joined_fit (pair_terms keys_list all_keys sums))
 
     wider_fit : Fit (plan_numbers (extend_all columns join) ts)
     wider_fit =
@@ -200,34 +218,34 @@ module _ (by : KeyReading) (aggs : List Agg) (on : AllByRecursion (OnColumn by.k
     wide s = rows_of.wide by aggs are_there rows ok s
 
     abbrev added : Pair → List Value
-    added s = member.all_values by more rows ok aggs s
+    added s = member.all_values by more aggs rows ok aggs s
 
     each_added : (s : Pair) → IsPair s → add_columns reading columns (joined s) ≡ Some (joined s ++ added s)
-    each_added s v = member.members_added by more rows ok s v (3 * by.k + 3) aggs are_there (rows_of.kept_there by aggs are_there rows ok s v)
+    each_added s v = member.members_added by more aggs rows ok s v (3 * by.k + 3) (rows_of.kept_there by aggs are_there rows ok s v)
 
     abbrev grouped_plan : PlanTree
-    grouped_plan = second_grouping by.k b columns over boxes p
+    grouped_plan = second_grouping by.k b columns over boxes folded
 
     abbrev sizes : List Value → List ℤ
-    sizes key = flat_map (magnitudes (map wide (with_left box_row members key (members key)))) over
+    sizes key = flat_map (magnitudes (map wide (with_left box_row folds_at key (folds_at key)))) over
 
     sizes_fit : Fit (flat_map sizes keys_list)
     sizes_fit =
         fit_all sizes keys_list
         (all_from (λ key. IsKey key × Fit (numbers_at key)) (λ key. Fit (sizes key)) keys_list
-        (λ key q. numbers.over_fits by aggs are_there rows ok key q.0 n aggs (λ r v. rows_of.wide_at by aggs are_there rows ok (key, r) q.0 v) q.1)
+        (λ key q. numbers.over_fits by aggs are_there rows ok key q.0 n aggs (λ fold v. rows_of.wide_at by aggs are_there rows ok (key, fold) q.0 v) q.1)
         (all_both IsKey (λ key. Fit (numbers_at key)) keys_list all_keys sums))
 
     grouped_fit : Fit (plan_numbers grouped_plan ts)
     grouped_fit =
         fit_both (plan_numbers (extend_all columns join) ts) (plain.group_numbers (run 0 b) over (plain_rows (extend_all columns join) ts)) wider_fit
-        (subst (λ rs. Fit (plain.group_numbers (run 0 b) over rs)) (sym (second.wide_rows by more rows ok columns added each_added over ts boxes p boxes_are g))
-        (subst (λ ns. Fit ns) (sym (second.second_numbers by more rows ok columns added each_added over)) sizes_fit))
+        (subst (λ rs. Fit (plain.group_numbers (run 0 b) over rs)) (sym (second.wide_rows by more aggs rows ok columns added each_added over ts boxes folded boxes_are folded_are))
+        (subst (λ ns. Fit ns) (sym (second.second_numbers by more aggs rows ok columns added each_added over)) sizes_fit))
 
     grouped_rows_fit : FitRows (plain_rows grouped_plan ts)
     grouped_rows_fit =
         rows_fit tk (kinds_of.grouped_kinds by.ks by.kks by.k kks_long kind_part aggs on) grouped_plan ts
-        (kinds_of.second_kinds by.ks by.kks by.k kks_long kind_part aggs on tk boxes p (kinds_of.boxes_typed by.ks by.kks by.k kks_long kind_part aggs on tk p typed) typed) tables grouped_fit
+        (kinds_of.second_kinds by.ks by.kks by.k kks_long kind_part aggs on tk boxes folded (kinds_of.boxes_typed by.ks by.kks by.k kks_long kind_part aggs on tk p typed) folded_typed) tables grouped_fit
 
     -- Group's plan adds no number that does not fit.
     pub group_fits : Fit (plan_numbers (group_plan c by.k aggs p) ts)

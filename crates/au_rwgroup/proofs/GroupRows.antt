@@ -7,7 +7,7 @@ use Rattle.std.proofs.lemmas.List.{length-append, length-map, append-nil}
 use Rattle.au_value.specs.declared.value.Value.{Value}
 use Rattle.au_value.specs.declared.value.Value.TheVariants as value
 use Rattle.au_value.specs.Order.{below, at_most}
-use Rattle.au_value.specs.Ranges.{Span, IsRangeOf, guesses, range, all_certain}
+use Rattle.au_value.specs.Ranges.{Span, guesses, range, all_certain}
 use Rattle.au_annot.specs.Triples.{Counts}
 use Rattle.au_expr.specs.Ordinary as on_values
 use Rattle.au_expr.specs.Ordinary.{number}
@@ -27,7 +27,6 @@ use Rattle.au_plain.specs.PTerms.{PTerm, Column}
 use Rattle.au_plain.specs.Plans.{PlanTree}
 use Rattle.au_plain.specs.Meaning.{plain_rows, kept, plain_aggregate}
 use Rattle.au_encode.specs.Encode.{encode, encode_row, encode_cells, encode_counts}
-use Rattle.au_encode.proofs.Decoded.{cells_length}
 use Rattle.au_rwexpr.specs.Flatten.{sg}
 use Rattle.au_rwexpr.specs.Cells.{cell_places, three_places}
 use Rattle.au_rwgroup.specs.Groups.{first_grouping}
@@ -38,7 +37,7 @@ use Rattle.au_rwexpr.proofs.Places.{At, at_past, EndsOfAll, ends_more, all_ends,
 use Rattle.au_rwexpr.proofs.Places.{Ends}
 use Rattle.au_rwexpr.proofs.Columns.{AllMean, adds}
 use Rattle.au_rwexpr.proofs.OnValues.{reading, Has, column_has}
-use Rattle.au_rwexpr.proofs.Picks.{kept_are, picks_more, pick_cells, pick_three, ends_past, coded_long, all_ends_long, all_ends-append}
+use Rattle.au_rwexpr.proofs.Picks.{kept_are, picks_more, pick_cells, pick_three, ends_past, all_ends_long, all_ends-append}
 use Rattle.au_rwexpr.proofs.Gives.{Gives, grow_is, rows-extend_all, map-map, map_valid}
 use Rattle.au_rwexpr.specs.Adding.{grow}
 use Rattle.au_rwexpr.proofs.Present.{present_map}
@@ -48,7 +47,13 @@ use Rattle.au_rwexpr.proofs.Flags.{counted, greatest_counted, below_zero}
 use Rattle.au_combine.proofs.JoinGroups.{with_left}
 use Rattle.au_rwgroup.proofs.SecondRows as second
 use Rattle.au_rwgroup.proofs.MemberColumns as member
-use Rattle.au_rwgroup.proofs.MemberColumns.{IsOn, sum_same}
+use Rattle.au_rwgroup.proofs.MemberColumns.{sum_same}
+use Rattle.au_rwgroup.proofs.ColumnsThere.{IsOn}
+use Rattle.au_rwgroup.proofs.FoldRows as folds_of
+use Rattle.au_rwgroup.proofs.FoldRows.{summed}
+use Rattle.au_rwgroup.proofs.Partition.{some_items, least_shared, greatest_shared, int_sum_shared}
+use Rattle.au_rwgroup.specs.Folds as plans_of
+use Rattle.au_rwgroup.specs.Folds.{fold_width}
 use Rattle.au_rwgroup.proofs.Defaults.{nonempty, any_filter, or_else_is, least_if, greatest_if, sure_belongs}
 use Rattle.au_rwgroup.proofs.Narrowed.{from_filter, narrowed}
 use Rattle.au_rwexpr.proofs.Allowed.{all_both}
@@ -91,45 +96,58 @@ module _ (by : KeyReading) (aggs : List Agg) (ok_aggs : AllByRecursion (IsOn (le
   b = 3 * by.k + 3 + length more
 
   abbrev n : ℕ
-  n = b + 3 * c + 8
+  n = b + fold_width by.k (length aggs) + 4
 
   abbrev places : Places
-  places = record { keys = by.k; row = b; triple = b + 3 * c }
+  places = record { keys = by.k; fold = b; tests = b + fold_width by.k (length aggs) }
 
   abbrev box_row : List Value → List Value
-  box_row key = second.box_row by more rows ok key
+  box_row key = second.box_row by more aggs rows ok key
 
   abbrev members : List Value → Bounded
-  members key = second.members by more rows ok key
+  members key = second.members by more aggs rows ok key
 
   abbrev overlaps : List Value → RangeRow → Bool
-  overlaps key r = second.overlaps by more rows ok key r
+  overlaps key r = second.overlaps by more aggs rows ok key r
+
+  -- the folds that overlap a box
+  abbrev folds : List Value → Rows
+  folds key = second.folds by more aggs rows ok key
+
+  abbrev IsFold : List Value → Type 0
+  IsFold fold = second.IsFold by more aggs rows ok fold
+
+  abbrev fold_row : List Value → List Value
+  fold_row fold = second.fold_row by more aggs rows ok fold
 
   -- a key that occurs
   abbrev IsKey : List Value → Type 0
-  IsKey key = second.IsKey by more rows ok key
+  IsKey key = second.IsKey by more aggs rows ok key
 
   -- what is kept of the rows that belong to a box
   abbrev keep : List Value → PAgg → Value
-  keep key a = member.keep by more rows ok key a
+  keep key a = member.keep by more aggs rows ok key a
 
-  abbrev values : List Agg → List Value × RangeRow → List Value
-  values bs s = member.values by more rows ok bs s
+  abbrev Pair : Type 0
+  Pair = List Value × List Value
 
-  abbrev joined : List Value × RangeRow → List Value
-  joined s = box_row s.0 ++ encode_row s.1
+  abbrev values : List Agg → Pair → List Value
+  values bs s = member.values by more aggs rows ok bs s
+
+  abbrev joined : Pair → List Value
+  joined s = box_row s.0 ++ fold_row s.1
 
   -- what the tests and the weights say of a pair
-  abbrev tests : List Value × RangeRow → List Value
-  tests s = member.test_values by more rows ok s
+  abbrev tests : Pair → List Value
+  tests s = member.test_values by more aggs rows ok s
 
-  abbrev weights : List Value × RangeRow → List Value
-  weights s = member.weight_values by more rows ok s
+  abbrev weights : Pair → List Value
+  weights s = member.weight_values by more aggs rows ok s
 
-  abbrev added : List Value × RangeRow → List Value
+  abbrev added : Pair → List Value
   added s = tests s ++ (weights s ++ values aggs s)
 
-  abbrev pub wide : List Value × RangeRow → List Value
+  abbrev pub wide : Pair → List Value
   wide s = joined s ++ added s
 
   abbrev g : List Value → Grouped
@@ -139,31 +157,43 @@ module _ (by : KeyReading) (aggs : List Agg) (ok_aggs : AllByRecursion (IsOn (le
   belongs key r = same_row key (guesses (by.keys r.cells))
 
   abbrev v1 : Agg → List Value → RangeRow → Value
-  v1 a key r = member.value_1 by more rows ok a (key, r)
+  v1 a key r = member.value_1 by more aggs rows ok a (key, r)
 
   abbrev v2 : Agg → List Value → RangeRow → Value
-  v2 a key r = member.value_2 by more rows ok a (key, r)
+  v2 a key r = member.value_2 by more aggs rows ok a (key, r)
 
   abbrev v3 : Agg → List Value → RangeRow → Value
-  v3 a key r = member.value_3 by more rows ok a (key, r)
+  v3 a key r = member.value_3 by more aggs rows ok a (key, r)
 
   abbrev v4 : Agg → List Value → RangeRow → Value
-  v4 a key r = member.value_4 by more rows ok a (key, r)
+  v4 a key r = member.value_4 by more aggs rows ok a (key, r)
 
   -- a certain member with a copy in every world
   abbrev is_there : List Value → RangeRow → Bool
   is_there key r = (g key).is_certain_member r && nat_le 1 r.annot.least
 
-  -- the values of a member's columns, by their places
-  abbrev pub ValuesAt : List Value → ℕ → List Value × RangeRow → List Agg → Type 0
-  ValuesAt row m s [] = At row m (counted (is_there s.0 s.1))
-  ValuesAt row m s (a ∷ bs) = (At row m (v1 a s.0 s.1) × At row (m + 1) (v2 a s.0 s.1) × At row (m + 2) (v3 a s.0 s.1) × At row (m + 3) (v4 a s.0 s.1)) × ValuesAt row (m + 4) s bs
+  abbrev w1 : Agg → Pair → Value
+  w1 a s = member.fold_1 by more aggs rows ok a s
 
-  -- the columns of a member stand behind any front
-  values_at : (pre : List Value) (m : ℕ) (s : List Value × RangeRow) (bs : List Agg) → length pre ≡ m → ValuesAt (pre ++ values bs s) m s bs
+  abbrev w2 : Agg → Pair → Value
+  w2 a s = member.fold_2 by more aggs rows ok a s
+
+  abbrev w3 : Agg → Pair → Value
+  w3 a s = member.fold_3 by more aggs rows ok a s
+
+  abbrev w4 : Agg → Pair → Value
+  w4 a s = member.fold_4 by more aggs rows ok a s
+
+  -- the values of a fold's columns, by their places
+  abbrev pub ValuesAt : List Value → ℕ → Pair → List Agg → Type 0
+  ValuesAt row m s [] = At row m (member.fold_there by more aggs rows ok s)
+  ValuesAt row m s (a ∷ bs) = (At row m (w1 a s) × At row (m + 1) (w2 a s) × At row (m + 2) (w3 a s) × At row (m + 3) (w4 a s)) × ValuesAt row (m + 4) s bs
+
+  -- the columns of a fold stand behind any front
+  values_at : (pre : List Value) (m : ℕ) (s : Pair) (bs : List Agg) → length pre ≡ m → ValuesAt (pre ++ values bs s) m s bs
   values_at pre m s [] e = at_past pre (values [] s) 0 m _ (omega (arith, e)) refl
   values_at pre m s (a ∷ bs) e =
-      let four = v1 a s.0 s.1 ∷ v2 a s.0 s.1 ∷ v3 a s.0 s.1 ∷ v4 a s.0 s.1 ∷ [] in (
+      let four = w1 a s ∷ w2 a s ∷ w3 a s ∷ w4 a s ∷ [] in (
         (
           at_past pre (values (a ∷ bs) s) 0 m _ (omega (arith, e)) refl,
           at_past pre (values (a ∷ bs) s) 1 (m + 1) _ (omega (arith, e)) refl,
@@ -173,20 +203,14 @@ module _ (by : KeyReading) (aggs : List Agg) (ok_aggs : AllByRecursion (IsOn (le
         subst (λ row. ValuesAt row (m + 4) s bs) (append_assoc pre four (values bs s)) (values_at (pre ++ four) (m + 4) s bs (omega (arith, e, length-append pre four))),
       )
 
-  -- how long a box with a member is
-  joined_long : (s : List Value × RangeRow) → IsKey s.0 → IsRangeRow by.ks s.1 → length (joined s) ≡ b + (3 * c + 3)
-  joined_long s some v =
-      let front = second.box_row_long by more rows ok s.0 some in
-      omega (arith, length-append (box_row s.0) (encode_row s.1), front, coded_long rl rs rh cl cg cm c s.1.cells s.1.annot (cells_length IsRangeOf by.ks s.1.cells v.cells))
-
   -- the values behind the tests and the weights
-  pub wide_at : (s : List Value × RangeRow) → IsKey s.0 → IsRangeRow by.ks s.1 → ValuesAt (wide s) n s aggs
-  wide_at s some v =
+  pub wide_at : (s : Pair) → IsKey s.0 → IsFold s.1 → ValuesAt (wide s) n s aggs
+  wide_at s some there =
       let tested = joined s ++ tests s in
       let front = tested ++ weights s in
       let turned : front ++ values aggs s ≡ wide s = append_assoc tested (weights s) (values aggs s) ∙ append_assoc (joined s) (tests s) (weights s ++ values aggs s) in
       subst (λ row. ValuesAt row n s aggs) turned
-      (values_at front n s aggs (omega (arith, joined_long s some v, length-append (joined s) (tests s), length-append tested (weights s))))
+      (values_at front n s aggs (omega (arith, member.row_long by more aggs rows ok s (some, there), length-append (joined s) (tests s), length-append tested (weights s))))
 
   -- the four results of a box's aggregate, of which a sum takes three
   abbrev r1 : Agg → List Value → Value
@@ -221,34 +245,55 @@ module _ (by : KeyReading) (aggs : List Agg) (ok_aggs : AllByRecursion (IsOn (le
   last_at row z key (a ∷ bs) at =
       subst (λ i. At row i (counted (list_any (is_there key) (members key)))) (let e : z + 4 + 4 * length bs ≡ z + 4 * length (a ∷ bs) = omega arith in e) (last_at row (z + 4) key bs at.1)
 
-  -- an aggregate over the rows of a box with its members
+  -- an aggregate over the rows of a box with its folds
   abbrev over : List Value → PAgg → Value
-  over key = plain_aggregate (map wide (with_left box_row members key (members key)))
+  over key = plain_aggregate (map wide (with_left box_row folds key (folds key)))
 
   -- the members are rows of the kinds
   members_ok : (key : List Value) → IsRelation by.ks (members key)
   members_ok key = all_filter (IsRangeRow by.ks) (overlaps key) rows ok
 
-  -- a column of the members
-  column_over : (key : List Value) (i : ℕ) (f : RangeRow → Value) → ((r : RangeRow) → IsRangeRow by.ks r → At (wide (key, r)) i (f r)) → map (λ row. value_at row i) (map wide (with_left box_row members key (members key))) ≡ map f (members key)
+  -- the rows of a fold
+  abbrev rows_of : List Value → Bounded
+  rows_of fold = member.rows_of by more aggs rows ok fold
+
+  abbrev passes_by : List Value → List Value → Bool
+  passes_by key fold = second.fold_overlaps by more aggs rows ok key fold
+
+  pub folds_ok : (key : List Value) → AllByRecursion IsFold (folds key)
+  folds_ok key = all_filter IsFold (passes_by key) (second.fold_keys by more aggs rows ok) (second.all_folds by more aggs rows ok)
+
+  -- a column of the folds
+  column_over : (key : List Value) (i : ℕ) (f : List Value → Value) → ((fold : List Value) → IsFold fold → At (wide (key, fold)) i (f fold)) → map (λ row. value_at row i) (map wide (with_left box_row folds key (folds key))) ≡ map f (folds key)
   column_over key i f at =
-      ap (map (λ row. value_at row i)) (map-map (λ r. (key, r)) wide (members key))
-      ∙ map-map (λ r. wide (key, r)) (λ row. value_at row i) (members key)
-      ∙ map_valid (IsRangeRow by.ks) (λ r. value_at (wide (key, r)) i) f (members key) (members_ok key) (λ r v. ap (λ o. unwrap_or o (value.Int (pos 0))) (at r v))
+      ap (map (λ row. value_at row i)) (map-map (λ fold. (key, fold)) wide (folds key))
+      ∙ map-map (λ fold. wide (key, fold)) (λ row. value_at row i) (folds key)
+      ∙ map_valid IsFold (λ fold. value_at (wide (key, fold)) i) f (folds key) (folds_ok key) (λ fold v. ap (λ o. unwrap_or o (value.Int (pos 0))) (at fold v))
 
-  -- a sum, a least and a greatest over the members
-  one_int : (key : List Value) (i : ℕ) (f : RangeRow → ℤ) → ((r : RangeRow) → IsRangeRow by.ks r → At (wide (key, r)) i (value.Int (f r))) → over key (Sum i) ≡ value.Int (int_sum (map f (members key)))
+  -- a sum, a least and a greatest over the members, from those over their folds
+  one_int : (key : List Value) (i : ℕ) (f : RangeRow → ℤ) → ((fold : List Value) → IsFold fold → At (wide (key, fold)) i (summed f (rows_of fold))) → over key (Sum i) ≡ value.Int (int_sum (map f (members key)))
   one_int key i f at =
-      ap value.Int (ap int_sum (ap (map (λ row. number (value_at row i))) (map-map (λ r. (key, r)) wide (members key))
-      ∙ map-map (λ r. wide (key, r)) (λ row. number (value_at row i)) (members key)
-      ∙ map_valid (IsRangeRow by.ks) (λ r. number (value_at (wide (key, r)) i)) f (members key) (members_ok key)
-      (λ r v. ap (λ o. number (unwrap_or o (value.Int (pos 0)))) (at r v))))
+      ap value.Int (ap int_sum (ap (map (λ row. number (value_at row i))) (map-map (λ fold. (key, fold)) wide (folds key))
+      ∙ map-map (λ fold. wide (key, fold)) (λ row. number (value_at row i)) (folds key)
+      ∙ map_valid IsFold (λ fold. number (value_at (wide (key, fold)) i)) (λ fold. int_sum (map f (rows_of fold))) (folds key) (folds_ok key)
+      (λ fold v. ap (λ o. number (unwrap_or o (value.Int (pos 0)))) (at fold v)))
+      ∙ int_sum_shared (folds_of.fold_key by) rows (passes_by key) f
+      ∙ (λ j. int_sum (map f (second.members_are by more aggs rows ok key j))))
 
-  one_least : (key : List Value) (i : ℕ) (f : RangeRow → Value) → ((r : RangeRow) → IsRangeRow by.ks r → At (wide (key, r)) i (f r)) → over key (Min i) ≡ least (map f (members key))
-  one_least key i f at = ap least (column_over key i f at)
+  some_item : (key : List Value) → IsKey key → 0 < length (some_items (folds_of.fold_key by) rows (passes_by key))
+  some_item key some = subst (λ ms. 0 < length ms) (sym (second.members_are by more aggs rows ok key)) (second.some_member by more aggs rows ok key some)
 
-  one_greatest : (key : List Value) (i : ℕ) (f : RangeRow → Value) → ((r : RangeRow) → IsRangeRow by.ks r → At (wide (key, r)) i (f r)) → over key (Max i) ≡ greatest (map f (members key))
-  one_greatest key i f at = ap greatest (column_over key i f at)
+  one_least : (key : List Value) → IsKey key → (i : ℕ) (f : RangeRow → Value) → ((fold : List Value) → IsFold fold → At (wide (key, fold)) i (least (map f (rows_of fold)))) → over key (Min i) ≡ least (map f (members key))
+  one_least key some i f at =
+      ap least (column_over key i (λ fold. least (map f (rows_of fold))) at)
+      ∙ least_shared (folds_of.fold_key by) rows (passes_by key) f (some_item key some)
+      ∙ (λ j. least (map f (second.members_are by more aggs rows ok key j)))
+
+  one_greatest : (key : List Value) → IsKey key → (i : ℕ) (f : RangeRow → Value) → ((fold : List Value) → IsFold fold → At (wide (key, fold)) i (greatest (map f (rows_of fold)))) → over key (Max i) ≡ greatest (map f (members key))
+  one_greatest key some i f at =
+      ap greatest (column_over key i (λ fold. greatest (map f (rows_of fold))) at)
+      ∙ greatest_shared (folds_of.fold_key by) rows (passes_by key) f (some_item key some)
+      ∙ (λ j. greatest (map f (second.members_are by more aggs rows ok key j)))
 
   -- four results behind a front, each with what it is
   four_at : (pre rest : List Value) (z : ℕ) (a b c d p q r s : Value) → length pre ≡ z → a ≡ p → b ≡ q → c ≡ r → d ≡ s → At (pre ++ (a ∷ b ∷ c ∷ d ∷ rest)) z p × At (pre ++ (a ∷ b ∷ c ∷ d ∷ rest)) (z + 1) q × At (pre ++ (a ∷ b ∷ c ∷ d ∷ rest)) (z + 2) r × At (pre ++ (a ∷ b ∷ c ∷ d ∷ rest)) (z + 3) s
@@ -262,21 +307,21 @@ module _ (by : KeyReading) (aggs : List Agg) (ok_aggs : AllByRecursion (IsOn (le
       )
 
   -- whether a sure member is there, behind all results
-  sure_at : (key : List Value) (some_member : RangeRow) (other_members : Bounded) → members key ≡ some_member ∷ other_members → (pre : List Value) (z m : ℕ) → length pre ≡ z → ((r : RangeRow) → IsRangeRow by.ks r → ValuesAt (wide (key, r)) m (key, r) []) → ResultsAt (pre ++ map (over key) (all_member_aggs m [])) z key []
-  sure_at key x xs is pre z m e at =
+  sure_at : (key : List Value) → IsKey key → (some_member : RangeRow) (other_members : Bounded) → members key ≡ some_member ∷ other_members → (pre : List Value) (z m : ℕ) → length pre ≡ z → ((fold : List Value) → IsFold fold → ValuesAt (wide (key, fold)) m (key, fold) []) → ResultsAt (pre ++ map (over key) (all_member_aggs m [])) z key []
+  sure_at key some x xs is pre z m e at =
       let sure = λ (r : RangeRow). counted (is_there key r) in
       subst (λ y. At (pre ++ map (over key) (all_member_aggs m [])) z y)
-      (one_greatest key m sure at ∙ subst (λ ms. greatest (map sure ms) ≡ counted (list_any (is_there key) ms)) (sym is) (greatest_counted (is_there key) x xs))
+      (one_greatest key some m sure at ∙ subst (λ ms. greatest (map sure ms) ≡ counted (list_any (is_there key) ms)) (sym is) (greatest_counted (is_there key) x xs))
       (at_past pre (map (over key) (all_member_aggs m [])) 0 z _ (omega (arith, e)) refl)
 
   -- the guessed sum of the members is that of the rows that belong
   guessed_sum : (key : List Value) → IsKey key → (d : ℕ) → int_sum (map (λ r. if belongs key r then guess_term d r else pos 0) (members key)) ≡ int_sum (map (guess_term d) (filter (belongs key) rows))
   guessed_sum key some d =
-      sum_same (IsRangeRow by.ks) (overlaps key) (belongs key) (guess_term d) (λ r v h. second.belongs_overlaps by more rows ok key some r v h) rows ok
+      sum_same (IsRangeRow by.ks) (overlaps key) (belongs key) (guess_term d) (λ r v h. second.belongs_overlaps by more aggs rows ok key some r v h) rows ok
 
   -- the results of a box, four of each aggregate
-  results_at : (key : List Value) → IsKey key → (some_member : RangeRow) (other_members : Bounded) → members key ≡ some_member ∷ other_members → (pre : List Value) (z m : ℕ) (bs : List Agg) → length pre ≡ z → ((r : RangeRow) → IsRangeRow by.ks r → ValuesAt (wide (key, r)) m (key, r) bs) → ResultsAt (pre ++ map (over key) (all_member_aggs m bs)) z key bs
-  results_at key some x xs is pre z m [] e at = sure_at key x xs is pre z m e at
+  results_at : (key : List Value) → IsKey key → (some_member : RangeRow) (other_members : Bounded) → members key ≡ some_member ∷ other_members → (pre : List Value) (z m : ℕ) (bs : List Agg) → length pre ≡ z → ((fold : List Value) → IsFold fold → ValuesAt (wide (key, fold)) m (key, fold) bs) → ResultsAt (pre ++ map (over key) (all_member_aggs m bs)) z key bs
+  results_at key some x xs is pre z m [] e at = sure_at key some x xs is pre z m e at
   results_at key some x xs is pre z m (agg.Sum d ∷ bs) e at =
       let l = one_int key m (lower_term (g key) d) (λ r v. (at r v).0.0) in
       let s = one_int key (m + 1) (λ r. if belongs key r then guess_term d r else pos 0) (λ r v. (at r v).0.1) ∙ ap value.Int (guessed_sum key some d) in
@@ -289,10 +334,10 @@ module _ (by : KeyReading) (aggs : List Agg) (ok_aggs : AllByRecursion (IsOn (le
             (results_at key some x xs is (pre ++ four) (z + 4) (m + 4) bs (omega (arith, e, length-append pre four)) (λ r v. (at r v).1)),
       )
   results_at key some x xs is pre z m (agg.Min d ∷ bs) e at =
-      let l = one_least key m (v1 (agg.Min d) key) (λ r v. (at r v).0.0) in
-      let s = one_least key (m + 1) (v2 (agg.Min d) key) (λ r v. (at r v).0.1) in
-      let u = one_least key (m + 2) (v3 (agg.Min d) key) (λ r v. (at r v).0.2) in
-      let w = one_greatest key (m + 3) (v4 (agg.Min d) key) (λ r v. (at r v).0.3) in
+      let l = one_least key some m (v1 (agg.Min d) key) (λ r v. (at r v).0.0) in
+      let s = one_least key some (m + 1) (v2 (agg.Min d) key) (λ r v. (at r v).0.1) in
+      let u = one_least key some (m + 2) (v3 (agg.Min d) key) (λ r v. (at r v).0.2) in
+      let w = one_greatest key some (m + 3) (v4 (agg.Min d) key) (λ r v. (at r v).0.3) in
       let rest = map (over key) (all_member_aggs (m + 4) bs) in
       let four = over key (Min m) ∷ over key (Min (m + 1)) ∷ over key (Min (m + 2)) ∷ over key (Max (m + 3)) ∷ [] in (
         four_at pre rest z (over key (Min m)) (over key (Min (m + 1))) (over key (Min (m + 2))) (over key (Max (m + 3))) _ _ _ _ e l s u w,
@@ -300,10 +345,10 @@ module _ (by : KeyReading) (aggs : List Agg) (ok_aggs : AllByRecursion (IsOn (le
             (results_at key some x xs is (pre ++ four) (z + 4) (m + 4) bs (omega (arith, e, length-append pre four)) (λ r v. (at r v).1)),
       )
   results_at key some x xs is pre z m (agg.Max d ∷ bs) e at =
-      let l = one_greatest key m (v1 (agg.Max d) key) (λ r v. (at r v).0.0) in
-      let s = one_greatest key (m + 1) (v2 (agg.Max d) key) (λ r v. (at r v).0.1) in
-      let u = one_greatest key (m + 2) (v3 (agg.Max d) key) (λ r v. (at r v).0.2) in
-      let w = one_least key (m + 3) (v4 (agg.Max d) key) (λ r v. (at r v).0.3) in
+      let l = one_greatest key some m (v1 (agg.Max d) key) (λ r v. (at r v).0.0) in
+      let s = one_greatest key some (m + 1) (v2 (agg.Max d) key) (λ r v. (at r v).0.1) in
+      let u = one_greatest key some (m + 2) (v3 (agg.Max d) key) (λ r v. (at r v).0.2) in
+      let w = one_least key some (m + 3) (v4 (agg.Max d) key) (λ r v. (at r v).0.3) in
       let rest = map (over key) (all_member_aggs (m + 4) bs) in
       let four = over key (Max m) ∷ over key (Max (m + 1)) ∷ over key (Max (m + 2)) ∷ over key (Min (m + 3)) ∷ [] in (
         four_at pre rest z (over key (Max m)) (over key (Max (m + 1))) (over key (Max (m + 2))) (over key (Min (m + 3))) _ _ _ _ e l s u w,
@@ -317,7 +362,7 @@ module _ (by : KeyReading) (aggs : List Agg) (ok_aggs : AllByRecursion (IsOn (le
 
     -- the guessed rows of the group are the guessed members
     guessed_are : guessed_there (g key) ≡ filter is_guess (members key)
-    guessed_are = sym (narrowed (IsRangeRow by.ks) (overlaps key) (belongs key) (λ r. nat_le 1 r.annot.guess) rows ok (λ r v h. second.belongs_overlaps by more rows ok key some r v h))
+    guessed_are = sym (narrowed (IsRangeRow by.ks) (overlaps key) (belongs key) (λ r. nat_le 1 r.annot.guess) rows ok (λ r v h. second.belongs_overlaps by more aggs rows ok key some r v h))
 
     -- the group is guessed where one of them is
     guessed_is : (g key).is_guessed ≡ nonempty (filter is_guess (members key))
@@ -334,10 +379,10 @@ module _ (by : KeyReading) (aggs : List Agg) (ok_aggs : AllByRecursion (IsOn (le
     -- a sure member belongs to the box
     sure_is_belonging : (r : RangeRow) → Sound r → is_there key r ≡ true → belongs key r ≡ true
     sure_is_belonging r v t =
-        let box = second.box by more rows ok key in
+        let box = second.box by more aggs rows ok key in
         let p = and_parts _ _ t in
         let q = and_parts (all_certain (by.keys r.cells)) (all_certain box) p.0 in
-        ap (same_row key) (sure_belongs by.kks (by.keys r.cells) box (by.kinded r v.0) (second.box_ranges by more rows ok key some) q.0 q.1 v.1 ∙ second.box_guess by more rows ok key some) ∙ same_row_refl key
+        ap (same_row key) (sure_belongs by.kks (by.keys r.cells) box (by.kinded r v.0) (second.box_ranges by more aggs rows ok key some) q.0 q.1 v.1 ∙ second.box_guess by more aggs rows ok key some) ∙ same_row_refl key
 
     -- what holds of each row that belongs holds of the guessed members, and of the sure ones
     of_guessed : (P : RangeRow → Type 0) → AllByRecursion (λ r. belongs key r ≡ true → P r) rows → AllByRecursion (λ r. is_guess r ≡ true → P r) (members key)
@@ -366,7 +411,7 @@ module _ (by : KeyReading) (aggs : List Agg) (ok_aggs : AllByRecursion (IsOn (le
     min_guess d here o =
         let dv = keep key (Max (3 * d + 1)) in
         let sg = λ (r : RangeRow). (range_at d r).sg in
-        let bound = of_guessed (λ r. at_most ((range_at d r).sg) dv ≡ true) (below_kept sg dv (member.greatest_sg by more rows ok key d here)) in
+        let bound = of_guessed (λ r. at_most ((range_at d r).sg) dv ≡ true) (below_kept sg dv (member.greatest_sg by more aggs rows ok key d here)) in
         (λ i. if guessed_is i then r2 (agg.Min d) key else o) ∙ least_if is_guess sg dv (members key) o bound
         ∙ sym (λ i. if guessed_is i then least (map sg (guessed_are i)) else o)
 
@@ -375,7 +420,7 @@ module _ (by : KeyReading) (aggs : List Agg) (ok_aggs : AllByRecursion (IsOn (le
     min_inner d here o =
         let dv = keep key (Max (3 * d + 2)) in
         let end = λ (r : RangeRow). (range_at d r).hi in
-        let bound = of_sure (λ r. at_most ((range_at d r).hi) dv ≡ true) (below_kept end dv (member.greatest_hi by more rows ok key d here)) in
+        let bound = of_sure (λ r. at_most ((range_at d r).hi) dv ≡ true) (below_kept end dv (member.greatest_hi by more aggs rows ok key d here)) in
         (λ i. if any_filter (is_there key) (members key) i then r3 (agg.Min d) key else o) ∙ least_if (is_there key) end dv (members key) o bound
         ∙ sym (or_else_is (surely_there (g key)) (least (map end (surely_there (g key)))) o)
 
@@ -384,7 +429,7 @@ module _ (by : KeyReading) (aggs : List Agg) (ok_aggs : AllByRecursion (IsOn (le
     max_guess d here o =
         let dv = keep key (Min (3 * d + 1)) in
         let sg = λ (r : RangeRow). (range_at d r).sg in
-        let bound = of_guessed (λ r. at_most dv ((range_at d r).sg) ≡ true) (above_kept sg dv (member.least_sg by more rows ok key d here)) in
+        let bound = of_guessed (λ r. at_most dv ((range_at d r).sg) ≡ true) (above_kept sg dv (member.least_sg by more aggs rows ok key d here)) in
         (λ i. if guessed_is i then r2 (agg.Max d) key else o) ∙ greatest_if is_guess sg dv (members key) o bound
         ∙ sym (λ i. if guessed_is i then greatest (map sg (guessed_are i)) else o)
 
@@ -393,7 +438,7 @@ module _ (by : KeyReading) (aggs : List Agg) (ok_aggs : AllByRecursion (IsOn (le
     max_inner d here o =
         let dv = keep key (Min (3 * d)) in
         let end = λ (r : RangeRow). (range_at d r).lo in
-        let bound = of_sure (λ r. at_most dv ((range_at d r).lo) ≡ true) (above_kept end dv (member.least_lo by more rows ok key d here)) in
+        let bound = of_sure (λ r. at_most dv ((range_at d r).lo) ≡ true) (above_kept end dv (member.least_lo by more aggs rows ok key d here)) in
         (λ i. if any_filter (is_there key) (members key) i then r3 (agg.Max d) key else o) ∙ greatest_if (is_there key) end dv (members key) o bound
         ∙ sym (or_else_is (surely_there (g key)) (greatest (map end (surely_there (g key)))) o)
 
@@ -498,11 +543,11 @@ module _ (by : KeyReading) (aggs : List Agg) (ok_aggs : AllByRecursion (IsOn (le
     ends = all_ends rl rs rh ranges
 
     cells_long : length (encode_cells (box key)) ≡ 3 * by.k
-    cells_long = all_ends_long rl rs rh (box key) ∙ ap (λ m. 3 * m) (second.box_long by more rows ok key some)
+    cells_long = all_ends_long rl rs rh (box key) ∙ ap (λ m. 3 * m) (second.box_long by more aggs rows ok key some)
 
     row_long : length row ≡ z
     row_long =
-        let front = second.box_row_long by more rows ok key some in
+        let front = second.box_row_long by more aggs rows ok key some in
         omega (arith, length-append (box_row key) (results key), front, length-map (all_member_aggs n aggs) (over key), member_aggs_long n aggs)
 
     -- the box and its triple stand first
@@ -516,8 +561,8 @@ module _ (by : KeyReading) (aggs : List Agg) (ok_aggs : AllByRecursion (IsOn (le
     -- the results stand behind them
     results_there : ResultsAt row b key aggs
     results_there =
-        let met = second.has_member by more rows ok key some in
-        results_at key some met.first met.others met.is (box_row key) b n aggs (second.box_row_long by more rows ok key some) (λ r v. wide_at (key, r) some v)
+        let met = second.found_member by more aggs rows ok key some in
+        results_at key some met.first met.others met.is (box_row key) b n aggs (second.box_row_long by more aggs rows ok key some) (λ fold v. wide_at (key, fold) some v)
 
     -- whether the group is guessed, and whether a sure member is there
     guess_flag : Has row has_guess (value.Flag (g key).is_guessed)
@@ -539,7 +584,7 @@ module _ (by : KeyReading) (aggs : List Agg) (ok_aggs : AllByRecursion (IsOn (le
     each_output : kept final_places (grow final_columns row) ≡ encode_row (out key)
     each_output =
         let whole = row ++ ends in
-        let first = pick_cells rl rs rh whole 0 by.k (box key) (second.box_long by more rows ok key some) (all_ends_more rl rs rh row ends 0 (box key) box_at) in
+        let first = pick_cells rl rs rh whole 0 by.k (box key) (second.box_long by more aggs rows ok key some) (all_ends_more rl rs rh row ends 0 (box key) box_at) in
         let second_cells = pick_cells rl rs rh whole z (length aggs) ranges (length-map aggs (aggregate (g key)))
         (subst (λ q. EndsOfAll rl rs rh (row ++ q) z ranges) (append-nil ends) (all_ends_at rl rs rh row [] z ranges row_long)) in
         let last = pick_three cl cg cm whole (3 * by.k) (triple key) (ends_more cl cg cm row ends (3 * by.k) (triple key) triple_at) in
@@ -551,26 +596,27 @@ module _ (by : KeyReading) (aggs : List Agg) (ok_aggs : AllByRecursion (IsOn (le
         ∙ ap (λ q. q ++ encode_counts (triple key)) (sym (all_ends-append rl rs rh (box key) ranges))
 
   -- the kept columns stand behind the box and its triple
-  pub kept_there : (s : List Value × RangeRow) → IsKey s.0 × IsRangeRow by.ks s.1 → member.KeptAt by more rows ok (joined s) (3 * by.k + 3) s.0 aggs
+  pub kept_there : (s : Pair) → IsKey s.0 × IsFold s.1 → member.KeptAt by more aggs rows ok (joined s) (3 * by.k + 3) s.0 aggs
   kept_there s v =
       let cells = encode_cells (box s.0) in
       let three = encode_counts (triple s.0) in
-      let cells_long : length cells ≡ 3 * by.k = all_ends_long rl rs rh (box s.0) ∙ ap (λ m. 3 * m) (second.box_long by more rows ok s.0 v.0) in
-      subst (λ r. member.KeptAt by more rows ok (r ++ encode_row s.1) (3 * by.k + 3) s.0 aggs) (append_assoc cells three (kept_values s.0))
-      (member.kept_at by more rows ok (cells ++ three) (encode_row s.1) (3 * by.k + 3) s.0 aggs (omega (arith, cells_long, length-append cells three)))
+      let cells_long : length cells ≡ 3 * by.k = all_ends_long rl rs rh (box s.0) ∙ ap (λ m. 3 * m) (second.box_long by more aggs rows ok s.0 v.0) in
+      subst (λ r. member.KeptAt by more aggs rows ok (r ++ fold_row s.1) (3 * by.k + 3) s.0 aggs) (append_assoc cells three (kept_values s.0))
+      (member.kept_at by more aggs rows ok (cells ++ three) (fold_row s.1) (3 * by.k + 3) s.0 aggs (omega (arith, cells_long, length-append cells three)))
 
   -- Group's plan gives the rows of the bounded operator.
   pub group_by_gives : (ts : List Rows) (p : PlanTree) → Gives ts p rows → Gives ts (plans.group_plan c by.k aggs p) (bounded.group_by by.keys aggs rows)
   group_by_gives ts p h =
       let columns = all_member_columns places (3 * by.k + 3) aggs in
       let boxes = first_grouping c by.k more p in
-      let grouped = second_grouping by.k b columns (all_member_aggs n aggs) boxes p in
-      let keys_list = second.keys_list by more rows ok in
-      let all_keys = second.all_keys by more rows ok in
+      let folded = plans_of.folds c by.k aggs p in
+      let grouped = second_grouping by.k b columns (all_member_aggs n aggs) boxes folded in
+      let keys_list = second.keys_list by more aggs rows ok in
+      let all_keys = second.all_keys by more aggs rows ok in
       let rows_are : plain_rows grouped ts ≡ map grouped_row keys_list =
-      second.second_rows by more rows ok columns added
-      (λ s v. member.members_added by more rows ok s v (3 * by.k + 3) aggs ok_aggs (kept_there s v)) (all_member_aggs n aggs) ts boxes p
-      (first_rows by ts p more rows ok h) h in
+      second.second_rows by more aggs rows ok columns added
+      (λ s v. member.members_added by more aggs rows ok s v (3 * by.k + 3) (kept_there s v)) (all_member_aggs n aggs) ts boxes folded
+      (first_rows by ts p more rows ok h) (folds_of.fold_rows by aggs rows ok ok_aggs ts p h) in
       ap (map (kept final_places)) (rows-extend_all final_columns grouped ts ∙ ap (map (grow final_columns)) rows_are ∙ map-map grouped_row (grow final_columns) keys_list)
       ∙ map-map (λ key. grow final_columns (grouped_row key)) (kept final_places) keys_list
       ∙ map_valid IsKey (λ key. kept final_places (grow final_columns (grouped_row key))) (λ key. encode_row (out key)) keys_list all_keys each_output

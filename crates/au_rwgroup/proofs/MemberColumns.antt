@@ -1,4 +1,4 @@
--- The columns of a pair of a box and a member: what the member adds to sums, and what it offers to MIN and MAX.
+-- The columns of a pair of a box and a fold: what its rows add to sums, and what they offer to MIN and MAX.
 use Rattle.std.specs.Prelude.{◌≡◌, ◌<◌, ℕ, ◌+◌, ◌*◌, Bool, true, false, ◌&&◌, cond, List, [], ◌∷◌, ◌++◌, length, map, filter, flat_map, ℤ, pos, ◌+ℤ◌, nat_le, Some, unwrap_or, if◌then◌else◌}
 use Rattle.std.specs.List.{AllByRecursion}
 use Rattle.std.proofs.Common.{arith, refl, sym, ◌∙◌, ap, subst, append_assoc}
@@ -7,8 +7,7 @@ use Rattle.std.proofs.lemmas.Bool.{true≢false}
 use Rattle.std.proofs.lemmas.List.{length-append}
 use Rattle.au_value.specs.declared.value.Value.{Value}
 use Rattle.au_value.specs.declared.value.Value.TheVariants as value
-use Rattle.au_value.specs.Order.{below}
-use Rattle.au_value.specs.Ranges.{IsRangeOf, guesses, certain}
+use Rattle.au_value.specs.Ranges.{IsRangeOf, all_certain, guesses, certain}
 use Rattle.au_expr.specs.Ordinary as on_values
 use Rattle.au_expr.specs.Ordinary.{is_true}
 use Rattle.au_algebra.specs.declared.query.Agg.{Agg}
@@ -16,46 +15,35 @@ use Rattle.au_algebra.specs.declared.query.Agg.TheVariants as agg
 use Rattle.au_algebra.specs.Lists.{same_row, int_sum, least, greatest, value_at}
 use Rattle.au_algebra.specs.Bounded.{RangeRow, Bounded, Grouped, lower_term, upper_term, guess_term, grouped, range_at}
 use Rattle.au_algebra.specs.Laws.{IsRangeRow, IsRelation}
-use Rattle.au_algebra.proofs.Each.{all_filter}
+use Rattle.au_algebra.proofs.Each.{all_filter, all_from}
 use Rattle.au_plain.specs.declared.plan.PAgg.{PAgg}
 use Rattle.au_plain.specs.declared.plan.PAgg.TheVariants.{Min, Max}
 use Rattle.au_plain.specs.PTerms.{And}
 use Rattle.au_plain.specs.Meaning.{plain_aggregate}
-use Rattle.au_encode.specs.Encode.{encode_row, encode_cells, encode_counts}
+use Rattle.au_encode.specs.Encode.{encode_cells}
 use Rattle.au_encode.proofs.Decoded.{cells_length}
-use Rattle.au_rwexpr.specs.Flatten.{lo, sg, hi}
 use Rattle.au_rwexpr.specs.Meets.{same_guesses}
 use Rattle.au_rwgroup.specs.Groups.{all_sure}
-use Rattle.au_rwgroup.specs.Totals.{agg_place}
+use Rattle.au_rwgroup.specs.Folds.{fold_width}
+use Rattle.au_rwgroup.proofs.FoldRows as folds_of
+use Rattle.au_rwgroup.proofs.FoldRows.{ValuesAt, values_more, low_term, high_term, sure_low_term, sure_high_term, summed}
+use Rattle.au_rwgroup.proofs.FoldTerms.{greatest_all, least_if_all, greatest_if_all, summed_if, sum_if_sure, lower_is, upper_is}
 use Rattle.au_rwgroup.specs.GroupPlan as plans
 use Rattle.au_rwgroup.specs.GroupPlan.{Places, each_member_columns, all_member_columns, kept_for}
-use Rattle.au_rwexpr.proofs.Places.{At, at_more, at_past, Ends, ends_more, EndsOfAll, ends_at, all_ends_more}
+use Rattle.au_rwexpr.proofs.Places.{At, at_more, at_past, Ends, EndsOfAll, ends_at}
 use Rattle.au_rwexpr.proofs.Columns.{AllMean, adds, add_columns, then_adds}
-use Rattle.au_rwexpr.proofs.OnValues.{reading, Has, lo_has, sg_has, hi_has, column_has}
-use Rattle.au_rwexpr.proofs.Picks.{ends_past, all_ends_long, coded_long}
+use Rattle.au_rwexpr.proofs.OnValues.{reading, Has, column_has}
+use Rattle.au_rwexpr.proofs.Picks.{all_ends_long}
 use Rattle.au_combine.proofs.BoxPlaces.{at_own}
 use Rattle.au_combine.proofs.BoxRows.{cell}
 use Rattle.au_rwgroup.proofs.FirstGroup.{sure_has}
-use Rattle.au_rwexpr.proofs.Flags.{counted, flag_counted, below_zero}
+use Rattle.au_rwexpr.proofs.Flags.{counted, flag_counted}
 use Rattle.au_rwexpr.proofs.Meeting.{same_has}
 use Rattle.au_rwgroup.proofs.SecondRows as second
-use Rattle.au_rwgroup.proofs.Signed.{signed_has}
 use Rattle.au_rwexpr.proofs.Gives.{map-map, map_valid}
 use Rattle.au_rwgroup.proofs.FirstGroup as group
-use Rattle.au_rwexpr.proofs.Coded.{rl, rs, rh, cl, cg, cm}
+use Rattle.au_rwexpr.proofs.Coded.{rl, rs, rh}
 use Rattle.au_rwgroup.proofs.KeyReading.{KeyReading}
-
--- an aggregate over a column that is there
-abbrev pub IsOn : ℕ → Agg → Type 0
-IsOn c a = agg_place a < c
-
-count_if : (b : Bool) (n : ℕ) → (if b then value.Int (pos n) else value.Int (pos 0)) ≡ value.Int (pos (if b then n else 0))
-count_if true n = refl
-count_if false n = refl
-
-int_if : (b : Bool) (n : ℤ) → (if b then value.Int n else value.Int (pos 0)) ≡ value.Int (if b then n else pos 0)
-int_if true n = refl
-int_if false n = refl
 
 int_by : (V : RangeRow → Type 0) (meet same : RangeRow → Bool) (t : RangeRow → ℤ) (a b : Bool) (r : RangeRow) (xs ys : Bounded) → same r ≡ b → (b ≡ true → a ≡ true) → int_sum (map (λ s. if same s then t s else pos 0) xs) ≡ int_sum (map t ys) → int_sum (map (λ s. if same s then t s else pos 0) (cond a (r ∷ xs) xs)) ≡ int_sum (map t (cond b (r ∷ ys) ys))
 int_by V meet same t true true r xs ys e h ih = λ i. (if e i then t r else pos 0) +ℤ ih i
@@ -69,21 +57,28 @@ sum_same V meet same t implied [] v = refl
 sum_same V meet same t implied (r ∷ rows) v =
     int_by V meet same t (meet r) (same r) r (filter meet rows) (filter same rows) refl (implied r v.0) (sum_same V meet same t implied rows v.1)
 
-module _ (by : KeyReading) (more : List PAgg) (rows : Bounded) (ok : IsRelation by.ks rows) where
+module _ (by : KeyReading) (more : List PAgg) (folded : List Agg) (rows : Bounded) (ok : IsRelation by.ks rows) where
   abbrev c : ℕ
   c = length by.ks
 
   abbrev b : ℕ
   b = 3 * by.k + 3 + length more
 
+  abbrev t : ℕ
+  t = b + fold_width by.k (length folded)
+
   abbrev places : Places
-  places = record { keys = by.k; row = b; triple = b + 3 * c }
+  places = record { keys = by.k; fold = b; tests = t }
 
-  abbrev Joined : List Value × RangeRow → List Value
-  Joined s = second.joined by more rows ok s
+  abbrev Joined : List Value × List Value → List Value
+  Joined s = second.joined by more folded rows ok s
 
-  abbrev IsPair : List Value × RangeRow → Type 0
-  IsPair s = second.IsPair by more rows ok s
+  abbrev IsPair : List Value × List Value → Type 0
+  IsPair s = second.IsPair by more folded rows ok s
+
+  -- the rows of a fold
+  abbrev pub rows_of : List Value → Bounded
+  rows_of fold = folds_of.rows_of by folded rows ok fold
 
   abbrev pub group_at : List Value → Grouped
   group_at key = grouped by.keys rows key
@@ -104,7 +99,7 @@ module _ (by : KeyReading) (more : List PAgg) (rows : Bounded) (ok : IsRelation 
   abbrev pub keep : List Value → PAgg → Value
   keep key a = plain_aggregate (map (group.wide by) (filter (belongs_to key) rows)) a
 
-  -- the four values of a pair
+  -- the four values of a box and a row
   abbrev pub value_1 : Agg → List Value × RangeRow → Value
   value_1 (agg.Sum d) s = value.Int (lower_term (group_at s.0) d s.1)
   value_1 (agg.Min d) s = (range_at d s.1).lo
@@ -125,10 +120,35 @@ module _ (by : KeyReading) (more : List PAgg) (rows : Bounded) (ok : IsRelation 
   value_4 (agg.Min d) s = (range_at d s.1).hi
   value_4 (agg.Max d) s = (range_at d s.1).lo
 
-  -- the columns of a pair of a box and a member
-  abbrev pub values : List Agg → List Value × RangeRow → List Value
-  values [] s = counted (is_sure_copy s) ∷ []
-  values (a ∷ aggs) s = value_1 a s ∷ value_2 a s ∷ value_3 a s ∷ value_4 a s ∷ values aggs s
+  -- the four values of a box and a fold: those of the box and the fold's rows in one
+  abbrev pub fold_1 : Agg → List Value × List Value → Value
+  fold_1 (agg.Sum d) s = summed (lower_term (group_at s.0) d) (rows_of s.1)
+  fold_1 (agg.Min d) s = least (map (λ r. value_1 (agg.Min d) (s.0, r)) (rows_of s.1))
+  fold_1 (agg.Max d) s = greatest (map (λ r. value_1 (agg.Max d) (s.0, r)) (rows_of s.1))
+
+  abbrev pub fold_2 : Agg → List Value × List Value → Value
+  fold_2 (agg.Sum d) s = summed (λ r. if belongs_to s.0 r then guess_term d r else pos 0) (rows_of s.1)
+  fold_2 (agg.Min d) s = least (map (λ r. value_2 (agg.Min d) (s.0, r)) (rows_of s.1))
+  fold_2 (agg.Max d) s = greatest (map (λ r. value_2 (agg.Max d) (s.0, r)) (rows_of s.1))
+
+  abbrev pub fold_3 : Agg → List Value × List Value → Value
+  fold_3 (agg.Sum d) s = summed (upper_term (group_at s.0) d) (rows_of s.1)
+  fold_3 (agg.Min d) s = least (map (λ r. value_3 (agg.Min d) (s.0, r)) (rows_of s.1))
+  fold_3 (agg.Max d) s = greatest (map (λ r. value_3 (agg.Max d) (s.0, r)) (rows_of s.1))
+
+  abbrev pub fold_4 : Agg → List Value × List Value → Value
+  fold_4 (agg.Sum d) s = value.Int (pos 0)
+  fold_4 (agg.Min d) s = greatest (map (λ r. value_4 (agg.Min d) (s.0, r)) (rows_of s.1))
+  fold_4 (agg.Max d) s = least (map (λ r. value_4 (agg.Max d) (s.0, r)) (rows_of s.1))
+
+  -- whether a row is surely there
+  abbrev pub fold_there : List Value × List Value → Value
+  fold_there s = greatest (map (λ r. counted (is_sure_copy (s.0, r))) (rows_of s.1))
+
+  -- the columns of a pair of a box and a fold
+  abbrev pub values : List Agg → List Value × List Value → List Value
+  values [] s = fold_there s ∷ []
+  values (a ∷ aggs) s = fold_1 a s ∷ fold_2 a s ∷ fold_3 a s ∷ fold_4 a s ∷ values aggs s
 
   -- the kept columns by their places
   abbrev pub KeptAt : List Value → ℕ → List Value → List Agg → Type 0
@@ -203,20 +223,51 @@ module _ (by : KeyReading) (more : List PAgg) (rows : Bounded) (ok : IsRelation 
   kept_more row more q key (agg.Max d ∷ aggs) h = ((at_more row more q _ h.0.0, at_more row more (q + 1) _ h.0.1), kept_more row more (q + 2) key aggs h.1)
 
   -- what the tests and the weights say of a pair
-  abbrev pub test_values : List Value × RangeRow → List Value
-  test_values s = value.Flag (is_sure s) ∷ value.Flag (belongs_to s.0 s.1) ∷ []
+  abbrev pub fold_sure : List Value × List Value → Bool
+  fold_sure s = all_certain (folds_of.spans by s.1) && all_certain (group_at s.0).box
 
-  abbrev pub sure_copies : List Value × RangeRow → ℕ
-  sure_copies s = if is_sure s then s.1.annot.least else 0
+  abbrev pub fold_belongs : List Value × List Value → Bool
+  fold_belongs s = same_row s.0 (guesses (folds_of.spans by s.1))
 
-  abbrev pub weight_values : List Value × RangeRow → List Value
-  weight_values s = value.Int (pos (sure_copies s)) ∷ value.Flag (is_sure_copy s) ∷ value.Flag (is_guessed_copy s) ∷ []
+  abbrev pub test_values : List Value × List Value → List Value
+  test_values s = value.Flag (fold_sure s) ∷ value.Flag (fold_belongs s) ∷ []
+
+  abbrev pub sure_copy : List Value × List Value → Bool
+  sure_copy s = fold_sure s && folds_of.sure_of by s.1
+
+  abbrev pub guessed_copy : List Value × List Value → Bool
+  guessed_copy s = fold_belongs s && folds_of.guess_of by s.1
+
+  abbrev pub weight_values : List Value × List Value → List Value
+  weight_values s = value.Flag (sure_copy s) ∷ value.Flag (guessed_copy s) ∷ []
 
   -- all that is added to a joined row
-  abbrev pub all_values : List Agg → List Value × RangeRow → List Value
+  abbrev pub all_values : List Agg → List Value × List Value → List Value
   all_values aggs s = test_values s ++ (weight_values s ++ values aggs s)
 
-  module _ (s : List Value × RangeRow) (v : IsPair s) where
+  module _ (s : List Value × List Value) (v : IsPair s) where
+    -- the rows of the fold are alike, and there is one
+    abbrev Alike : RangeRow → Type 0
+    Alike r = folds_of.Same by s.1 r
+
+    all_alike : AllByRecursion Alike (rows_of s.1)
+    all_alike = folds_of.all_same by folded rows ok s.1
+
+    some_row : 0 < length (rows_of s.1)
+    some_row = subst (λ rs. 0 < length rs) (sym v.1.is) (omega arith)
+
+    sure_is : (r : RangeRow) → Alike r → is_sure (s.0, r) ≡ fold_sure s
+    sure_is r h = ap (λ xs. all_certain xs && all_certain (group_at s.0).box) (sym h.ranges)
+
+    belongs_is : (r : RangeRow) → Alike r → belongs_to s.0 r ≡ fold_belongs s
+    belongs_is r h = ap (λ xs. same_row s.0 (guesses xs)) (sym h.ranges)
+
+    sure_copy_is : (r : RangeRow) → Alike r → is_sure_copy (s.0, r) ≡ sure_copy s
+    sure_copy_is r h = λ i. sure_is r h i && sym h.sure i
+
+    guessed_copy_is : (r : RangeRow) → Alike r → is_guessed_copy (s.0, r) ≡ guessed_copy s
+    guessed_copy_is r h = λ i. belongs_is r h i && sym h.guess i
+
     abbrev pub row : List Value
     row = Joined s
 
@@ -226,164 +277,168 @@ module _ (by : KeyReading) (more : List PAgg) (rows : Bounded) (ok : IsRelation 
     abbrev pub weighed : List Value
     weighed = tested ++ weight_values s
 
-    abbrev t : ℕ
-    t = b + 3 * c
-
-    pub row_long : length row ≡ t + 3
+    pub row_long : length row ≡ t
     row_long =
-        let front_long = second.box_row_long by more rows ok s.0 v.0 in
-        let cells_long = cells_length IsRangeOf by.ks s.1.cells v.1.cells in
-        omega (arith, length-append (second.box_row by more rows ok s.0) (encode_row s.1), front_long, coded_long rl rs rh cl cg cm c s.1.cells s.1.annot cells_long)
+        let front_long = second.box_row_long by more folded rows ok s.0 v.0 in
+        let key_long = folds_of.key_long by folded rows ok s.1 v.1 in
+        let fives_long = folds_of.fives_long folded (rows_of s.1) in
+        omega (arith, length-append (second.box_row by more folded rows ok s.0) (folds_of.fold_row by folded rows ok s.1), front_long, length-append s.1 (folds_of.all_fold_values folded (rows_of s.1)), key_long, fives_long)
 
-    tested_long : length tested ≡ t + 5
+    tested_long : length tested ≡ t + 2
     tested_long = omega (arith, length-append row (test_values s), row_long)
 
-    pub cells : EndsOfAll rl rs rh row b s.1.cells
-    cells = second.cells_at by more rows ok s v
+    pub keys : EndsOfAll rl rs rh row b (folds_of.spans by s.1)
+    keys = second.keys_at by more folded rows ok s v
 
-    pub triple : Ends cl cg cm row t s.1.annot
-    triple =
-        let front = second.box_row by more rows ok s.0 in
-        let front_long = second.box_row_long by more rows ok s.0 v.0 in
-        let cells_long : length (encode_cells s.1.cells) ≡ 3 * c = all_ends_long rl rs rh s.1.cells ∙ ap (λ m. 3 * m) (cells_length IsRangeOf by.ks s.1.cells v.1.cells) in
-        subst (λ r. Ends cl cg cm r t s.1.annot) (append_assoc front (encode_cells s.1.cells) (encode_counts s.1.annot))
-        (ends_past cl cg cm (front ++ encode_cells s.1.cells) [] t s.1.annot (length-append front (encode_cells s.1.cells) ∙ (λ i. front_long i + cells_long i)))
-
-    sure_is : Has row (And (all_sure b by.k) (all_sure 0 by.k)) (value.Flag (is_sure s))
-    sure_is =
-        let p = sure_has row b by.k (by.keys s.1.cells) (by.long s.1 v.1) (by.shifted s.1 v.1 row b cells) in
-        let q = sure_has row 0 by.k (second.box by more rows ok s.0) (second.box_long by more rows ok s.0 v.0) (second.box_at by more rows ok s) in
+    sure_has_it : Has row (And (all_sure b by.k) (all_sure 0 by.k)) (value.Flag (fold_sure s))
+    sure_has_it =
+        let p = sure_has row b by.k (folds_of.spans by s.1) (folds_of.spans_long by folded rows ok s.1 v.1) keys in
+        let q = sure_has row 0 by.k (second.box by more folded rows ok s.0) (second.box_long by more folded rows ok s.0 v.0) (second.box_at by more folded rows ok s) in
         λ more. λ i. on_values.and (p more i) (q more i)
 
-    belongs_is : Has row (same_guesses 0 b by.k) (value.Flag (belongs_to s.0 s.1))
-    belongs_is =
-        let box = second.box by more rows ok s.0 in
-        let p = same_has row 0 b by.k box (by.keys s.1.cells) (second.box_long by more rows ok s.0 v.0) (by.long s.1 v.1) (second.box_at by more rows ok s) (by.shifted s.1 v.1 row b cells) in
-        λ added. p added ∙ (λ i. value.Flag (same_row (second.box_guess by more rows ok s.0 v.0 i) (guesses (by.keys s.1.cells))))
+    belongs_has_it : Has row (same_guesses 0 b by.k) (value.Flag (fold_belongs s))
+    belongs_has_it =
+        let box = second.box by more folded rows ok s.0 in
+        let p = same_has row 0 b by.k box (folds_of.spans by s.1) (second.box_long by more folded rows ok s.0 v.0) (folds_of.spans_long by folded rows ok s.1 v.1) (second.box_at by more folded rows ok s) keys in
+        λ added. p added ∙ (λ i. value.Flag (same_row (second.box_guess by more folded rows ok s.0 v.0 i) (guesses (folds_of.spans by s.1))))
 
     -- the tests have their values
     pub tests_mean : AllMean reading row (plans.tests places) (test_values s)
-    tests_mean = ((λ more. ap Some (sure_is more)), ((λ more. ap Some (belongs_is more)), tt))
+    tests_mean = ((λ more. ap Some (sure_has_it more)), ((λ more. ap Some (belongs_has_it more)), tt))
 
-    pub sure_column : Has tested (plans.is_sure places) (value.Flag (is_sure s))
-    sure_column = column_has tested (t + 3) (value.Flag (is_sure s)) (at_past row (test_values s) 0 (t + 3) _ (omega (arith, row_long)) refl)
+    sure_at : At tested t (value.Flag (fold_sure s))
+    sure_at = at_past row (test_values s) 0 t _ (omega (arith, row_long)) refl
 
-    belongs_at : At tested (t + 4) (value.Flag (belongs_to s.0 s.1))
-    belongs_at = at_past row (test_values s) 1 (t + 4) _ (omega (arith, row_long)) refl
+    belongs_at : At tested (t + 1) (value.Flag (fold_belongs s))
+    belongs_at = at_past row (test_values s) 1 (t + 1) _ (omega (arith, row_long)) refl
 
-    pub belongs_column : Has tested (plans.belongs places) (value.Flag (belongs_to s.0 s.1))
-    belongs_column = column_has tested (t + 4) (value.Flag (belongs_to s.0 s.1)) belongs_at
-
-    pub tested_triple : Ends cl cg cm tested t s.1.annot
-    tested_triple = ends_more cl cg cm row (test_values s) t s.1.annot triple
-
-    pub least_column : Has tested (lo t) (cl s.1.annot)
-    least_column = column_has tested t (cl s.1.annot) tested_triple.lo
-
-    pub guess_column : Has tested (sg t) (cg s.1.annot)
-    guess_column = column_has tested (t + 1) (cg s.1.annot) tested_triple.sg
+    -- the tests of the fold
+    flags_at : At row (b + 3 * by.k) (value.Flag (folds_of.sure_of by s.1)) × At row (b + 3 * by.k + 1) (value.Flag (folds_of.guess_of by s.1))
+    flags_at =
+        let box_row = second.box_row by more folded rows ok s.0 in
+        let cells = encode_cells (folds_of.spans by s.1) in
+        let behind = second.behind_keys by more folded rows ok s.1 in
+        let front_long = second.box_row_long by more folded rows ok s.0 v.0 in
+        let cells_long : length cells ≡ 3 * by.k = all_ends_long rl rs rh (folds_of.spans by s.1) ∙ ap (λ m. 3 * m) (folds_of.spans_long by folded rows ok s.1 v.1) in
+        let both_long = length-append box_row cells in
+        let whole : (box_row ++ cells) ++ behind ≡ row = append_assoc box_row cells behind ∙ ap (λ f. box_row ++ f) (sym (second.fold_row_is by more folded rows ok s.1 v.1)) in
+        subst (λ r. At r (b + 3 * by.k) (value.Flag (folds_of.sure_of by s.1)) × At r (b + 3 * by.k + 1) (value.Flag (folds_of.guess_of by s.1))) whole
+        (at_past (box_row ++ cells) behind 0 (b + 3 * by.k) _ (omega (arith, both_long, front_long, cells_long)) refl, at_past (box_row ++ cells) behind 1 (b + 3 * by.k + 1) _ (omega (arith, both_long, front_long, cells_long)) refl)
 
     -- and so have the weights
     pub weights_mean : AllMean reading tested (plans.weights places) (weight_values s)
-    weights_mean = (
-      (λ more. (λ i. Some (on_values.choose (sure_column more i) (least_column more i) (value.Int (pos 0)))) ∙ ap Some (count_if (is_sure s) s.1.annot.least)),
-      (
-        (λ more.
-            (λ i. Some (value.Flag (is_true (sure_column more i) && below (value.Int (pos 0)) (least_column more i))))
-            ∙ (λ i. Some (value.Flag (is_sure s && below_zero s.1.annot.least i)))),
-        (
-          (λ more.
-              (λ i. Some (value.Flag (is_true (belongs_column more i) && below (value.Int (pos 0)) (guess_column more i))))
-              ∙ (λ i. Some (value.Flag (belongs_to s.0 s.1 && below_zero s.1.annot.guess i)))),
-          tt,
-        ),
-      ),
-    )
+    weights_mean =
+        let sure = column_has tested t _ sure_at in
+        let same = column_has tested (t + 1) _ belongs_at in
+        let has_sure = column_has tested (b + 3 * by.k) _ (at_more row (test_values s) (b + 3 * by.k) _ flags_at.0) in
+        let has_guess = column_has tested (b + 3 * by.k + 1) _ (at_more row (test_values s) (b + 3 * by.k + 1) _ flags_at.1) in (
+          (λ more. λ i. Some (on_values.and (sure more i) (has_sure more i))),
+          ((λ more. λ i. Some (on_values.and (same more i) (has_guess more i))), tt),
+        )
 
-    -- what the columns of the aggregates read
-    pub weighed_cells : EndsOfAll rl rs rh weighed b s.1.cells
-    weighed_cells = all_ends_more rl rs rh tested (weight_values s) b s.1.cells (all_ends_more rl rs rh row (test_values s) b s.1.cells cells)
+    sure_column : Has weighed (plans.is_sure places) (value.Flag (fold_sure s))
+    sure_column = column_has weighed t _ (at_more tested (weight_values s) t _ sure_at)
 
-    pub weighed_triple : Ends cl cg cm weighed t s.1.annot
-    weighed_triple = ends_more cl cg cm tested (weight_values s) t s.1.annot tested_triple
+    belongs_column : Has weighed (plans.belongs places) (value.Flag (fold_belongs s))
+    belongs_column = column_has weighed (t + 1) _ (at_more tested (weight_values s) (t + 1) _ belongs_at)
 
-    guess_is : Has weighed (sg t) (cg s.1.annot)
-    guess_is = column_has weighed (t + 1) (cg s.1.annot) weighed_triple.sg
+    surely_is : Has weighed (plans.surely places) (value.Flag (sure_copy s))
+    surely_is = column_has weighed (t + 2) _ (at_past tested (weight_values s) 0 (t + 2) _ (omega (arith, tested_long)) refl)
 
-    most_is : Has weighed (hi t) (cm s.1.annot)
-    most_is = column_has weighed (t + 2) (cm s.1.annot) weighed_triple.hi
+    guessed_is : Has weighed (plans.guessed places) (value.Flag (guessed_copy s))
+    guessed_is = column_has weighed (t + 3) _ (at_past tested (weight_values s) 1 (t + 3) _ (omega (arith, tested_long)) refl)
 
-    belonging_is : Has weighed (plans.belongs places) (value.Flag (belongs_to s.0 s.1))
-    belonging_is = column_has weighed (t + 4) (value.Flag (belongs_to s.0 s.1)) (at_more tested (weight_values s) (t + 4) (value.Flag (belongs_to s.0 s.1)) belongs_at)
+    -- the values of the fold
+    abbrev FivesAt : List Value → ℕ → List Agg → Type 0
+    FivesAt r y aggs = ValuesAt r y (rows_of s.1) aggs
 
-    count_is : Has weighed (plans.sure_count places) (value.Int (pos (sure_copies s)))
-    count_is = column_has weighed (t + 5) (value.Int (pos (sure_copies s))) (at_past tested (weight_values s) 0 (t + 5) _ (omega (arith, tested_long)) refl)
+    pub fives : FivesAt weighed (b + 3 * by.k + 2) folded
+    fives =
+        let box_row = second.box_row by more folded rows ok s.0 in
+        let values_of = folds_of.all_fold_values folded (rows_of s.1) in
+        let front_long = second.box_row_long by more folded rows ok s.0 v.0 in
+        let key_long = folds_of.key_long by folded rows ok s.1 v.1 in
+        values_more tested (weight_values s) (b + 3 * by.k + 2) (rows_of s.1) folded
+        (values_more row (test_values s) (b + 3 * by.k + 2) (rows_of s.1) folded
+        (subst (λ r. FivesAt r (b + 3 * by.k + 2) folded) (append_assoc box_row s.1 values_of)
+        (folds_of.fold_values_at (box_row ++ s.1) (b + 3 * by.k + 2) (rows_of s.1) folded (omega (arith, length-append box_row s.1, front_long, key_long)))))
 
-    surely_is : Has weighed (plans.surely places) (value.Flag (is_sure_copy s))
-    surely_is = column_has weighed (t + 6) (value.Flag (is_sure_copy s)) (at_past tested (weight_values s) 1 (t + 6) _ (omega (arith, tested_long)) refl)
-
-    guessed_is : Has weighed (plans.guessed places) (value.Flag (is_guessed_copy s))
-    guessed_is = column_has weighed (t + 7) (value.Flag (is_guessed_copy s)) (at_past tested (weight_values s) 2 (t + 7) _ (omega (arith, tested_long)) refl)
-
-    -- the cell of an aggregate's column
-    pub cell_there : (d : ℕ) → d < c → Ends rl rs rh weighed (b + 3 * d) (cell s.1.cells d)
-    cell_there d inside =
-        ends_at rl rs rh weighed b d (b + 3 * d) s.1.cells (cell s.1.cells d) weighed_cells
-        (at_own s.1.cells d (certain (value.Int (pos 0))) (omega (arith, cells_length IsRangeOf by.ks s.1.cells v.1.cells, inside))) refl
+    -- a sum for all members with one for certain members alone
+    with_sure_has : (y z : ℕ) (f g h : RangeRow → ℤ) → At weighed y (summed f (rows_of s.1)) → At weighed z (summed g (rows_of s.1)) → ((r : RangeRow) → h r ≡ (if is_sure (s.0, r) then f r +ℤ g r else f r)) → Has weighed (plans.with_sure places y z) (summed h (rows_of s.1))
+    with_sure_has y z f g h p q is =
+        let all = column_has weighed y _ p in
+        let sure = column_has weighed z _ q in
+        λ more.
+        (λ i. on_values.choose (sure_column more i) (on_values.add (all more i) (sure more i)) (all more i))
+        ∙ (sum_if_sure (λ r. is_sure (s.0, r)) f g h is (fold_sure s) (rows_of s.1) (all_from Alike (λ r. is_sure (s.0, r) ≡ fold_sure s) (rows_of s.1) sure_is all_alike))
 
     -- The columns of the aggregates have their values.
-    pub members_mean : (q : ℕ) (aggs : List Agg) → AllByRecursion (IsOn c) aggs → KeptAt weighed q s.0 aggs → AllMean reading weighed (each_member_columns places q aggs) (values aggs s)
-    members_mean q [] ok_aggs kept = (
-      (λ more. (λ i. Some (on_values.choose (surely_is more i) (value.Int (pos 1)) (value.Int (pos 0)))) ∙ ap Some (flag_counted (is_sure_copy s))),
+    pub members_mean : (q y : ℕ) (aggs : List Agg) → KeptAt weighed q s.0 aggs → FivesAt weighed y aggs → AllMean reading weighed (each_member_columns places q y aggs) (values aggs s)
+    members_mean q y [] kept five = (
+      (λ more. (λ i. Some (on_values.choose (surely_is more i) (value.Int (pos 1)) (value.Int (pos 0)))) ∙ ap Some (flag_counted (sure_copy s) ∙ sym (greatest_all (λ r. counted (is_sure_copy (s.0, r))) (counted (sure_copy s)) (rows_of s.1) some_row (all_from Alike (λ r. counted (is_sure_copy (s.0, r)) ≡ counted (sure_copy s)) (rows_of s.1) (λ r h. ap counted (sure_copy_is r h)) all_alike)))),
       tt,
     )
-    members_mean q (agg.Sum d ∷ aggs) ok_aggs kept =
-        let x = cell s.1.cells d in
-        let e = cell_there d ok_aggs.0 in (
-          (λ more. ap Some (signed_has weighed (hi t) (plans.sure_count places) (lo (b + 3 * d)) s.1.annot.most (sure_copies s) x.lo most_is count_is (lo_has weighed (b + 3 * d) x e) more)),
+    members_mean q y (agg.Sum d ∷ aggs) kept five =
+        let g = group_at s.0 in
+        let guess = column_has weighed (y + 1) _ five.0.1 in (
+          (λ more. ap Some (with_sure_has y (y + 3) (low_term d) (sure_low_term d) (lower_term g d) five.0.0 five.0.3 (λ r. lower_is g d r) more)),
           (
-            (λ more. (λ i. Some (on_values.choose (belonging_is more i) (on_values.multiply (guess_is more i) (sg_has weighed (b + 3 * d) x e more i)) (value.Int (pos 0)))) ∙ ap Some (int_if (belongs_to s.0 s.1) (guess_term d s.1))),
+            (λ more.
+                (λ i. Some (on_values.choose (belongs_column more i) (guess more i) (value.Int (pos 0))))
+                ∙ ap Some (summed_if (belongs_to s.0) (guess_term d) (fold_belongs s) (rows_of s.1) (all_from Alike (λ r. belongs_to s.0 r ≡ fold_belongs s) (rows_of s.1) belongs_is all_alike))),
             (
-              (λ more. ap Some (signed_has weighed (plans.sure_count places) (hi t) (hi (b + 3 * d)) (sure_copies s) s.1.annot.most x.hi count_is most_is (hi_has weighed (b + 3 * d) x e) more)),
-              ((λ more. refl), members_mean (q + 2) aggs ok_aggs.1 kept.1),
+              (λ more. ap Some (with_sure_has (y + 2) (y + 4) (high_term d) (sure_high_term d) (upper_term g d) five.0.2 five.0.4 (λ r. upper_is g d r) more)),
+              ((λ more. refl), members_mean (q + 2) (y + 5) aggs kept.1 five.1),
             ),
           ),
         )
-    members_mean q (agg.Min d ∷ aggs) ok_aggs kept =
-        let x = cell s.1.cells d in
-        let e = cell_there d ok_aggs.0 in
+    members_mean q y (agg.Min d ∷ aggs) kept five =
+        let a = column_has weighed y _ five.0.0 in
+        let b2 = column_has weighed (y + 1) _ five.0.1 in
+        let b3 = column_has weighed (y + 2) _ five.0.2 in
+        let b4 = column_has weighed (y + 3) _ five.0.3 in
         let g = column_has weighed (q + 1) (keep s.0 (Max (3 * d + 1))) kept.0.1 in
         let h = column_has weighed q (keep s.0 (Max (3 * d + 2))) kept.0.0 in (
-          (λ more. ap Some (lo_has weighed (b + 3 * d) x e more)),
+          (λ more. ap Some (a more)),
           (
-            (λ more. λ i. Some (on_values.choose (guessed_is more i) (sg_has weighed (b + 3 * d) x e more i) (g more i))),
+            (λ more.
+                (λ i. Some (on_values.choose (guessed_is more i) (b2 more i) (g more i)))
+                ∙ ap Some (least_if_all (λ r. is_guessed_copy (s.0, r)) (λ r. (range_at d r).sg) (keep s.0 (Max (3 * d + 1))) (guessed_copy s) (rows_of s.1) some_row (all_from Alike (λ r. is_guessed_copy (s.0, r) ≡ guessed_copy s) (rows_of s.1) guessed_copy_is all_alike))),
             (
-              (λ more. λ i. Some (on_values.choose (surely_is more i) (hi_has weighed (b + 3 * d) x e more i) (h more i))),
-              ((λ more. ap Some (hi_has weighed (b + 3 * d) x e more)), members_mean (q + 2) aggs ok_aggs.1 kept.1),
+              (λ more.
+                  (λ i. Some (on_values.choose (surely_is more i) (b3 more i) (h more i)))
+                  ∙ ap Some (least_if_all (λ r. is_sure_copy (s.0, r)) (λ r. (range_at d r).hi) (keep s.0 (Max (3 * d + 2))) (sure_copy s) (rows_of s.1) some_row (all_from Alike (λ r. is_sure_copy (s.0, r) ≡ sure_copy s) (rows_of s.1) sure_copy_is all_alike))),
+              ((λ more. ap Some (b4 more)), members_mean (q + 2) (y + 5) aggs kept.1 five.1),
             ),
           ),
         )
-    members_mean q (agg.Max d ∷ aggs) ok_aggs kept =
-        let x = cell s.1.cells d in
-        let e = cell_there d ok_aggs.0 in
+    members_mean q y (agg.Max d ∷ aggs) kept five =
+        let a = column_has weighed y _ five.0.0 in
+        let b2 = column_has weighed (y + 1) _ five.0.1 in
+        let b3 = column_has weighed (y + 2) _ five.0.2 in
+        let b4 = column_has weighed (y + 3) _ five.0.3 in
         let g = column_has weighed (q + 1) (keep s.0 (Min (3 * d + 1))) kept.0.1 in
         let h = column_has weighed q (keep s.0 (Min (3 * d))) kept.0.0 in (
-          (λ more. ap Some (hi_has weighed (b + 3 * d) x e more)),
+          (λ more. ap Some (a more)),
           (
-            (λ more. λ i. Some (on_values.choose (guessed_is more i) (sg_has weighed (b + 3 * d) x e more i) (g more i))),
+            (λ more.
+                (λ i. Some (on_values.choose (guessed_is more i) (b2 more i) (g more i)))
+                ∙ ap Some (greatest_if_all (λ r. is_guessed_copy (s.0, r)) (λ r. (range_at d r).sg) (keep s.0 (Min (3 * d + 1))) (guessed_copy s) (rows_of s.1) some_row (all_from Alike (λ r. is_guessed_copy (s.0, r) ≡ guessed_copy s) (rows_of s.1) guessed_copy_is all_alike))),
             (
-              (λ more. λ i. Some (on_values.choose (surely_is more i) (lo_has weighed (b + 3 * d) x e more i) (h more i))),
-              ((λ more. ap Some (lo_has weighed (b + 3 * d) x e more)), members_mean (q + 2) aggs ok_aggs.1 kept.1),
+              (λ more.
+                  (λ i. Some (on_values.choose (surely_is more i) (b3 more i) (h more i)))
+                  ∙ ap Some (greatest_if_all (λ r. is_sure_copy (s.0, r)) (λ r. (range_at d r).lo) (keep s.0 (Min (3 * d))) (sure_copy s) (rows_of s.1) some_row (all_from Alike (λ r. is_sure_copy (s.0, r) ≡ sure_copy s) (rows_of s.1) sure_copy_is all_alike))),
+              ((λ more. ap Some (b4 more)), members_mean (q + 2) (y + 5) aggs kept.1 five.1),
             ),
           ),
         )
 
     -- All that is added to a joined row.
-    pub members_added : (q : ℕ) (aggs : List Agg) → AllByRecursion (IsOn c) aggs → KeptAt row q s.0 aggs → add_columns reading (all_member_columns places q aggs) row ≡ Some (row ++ all_values aggs s)
-    members_added q aggs ok_aggs kept =
-        let each = each_member_columns places q aggs in
-        let there = kept_more tested (weight_values s) q s.0 aggs (kept_more row (test_values s) q s.0 aggs kept) in
-        then_adds reading (plans.tests places) (plans.weights places ++ each) row tested (Some (row ++ all_values aggs s)) (adds reading row (plans.tests places) (test_values s) tests_mean)
-        (then_adds reading (plans.weights places) each tested weighed (Some (row ++ all_values aggs s)) (adds reading tested (plans.weights places) (weight_values s) weights_mean)
-        (adds reading weighed each (values aggs s) (members_mean q aggs ok_aggs there)
-        ∙ ap Some (append_assoc tested (weight_values s) (values aggs s) ∙ append_assoc row (test_values s) (weight_values s ++ values aggs s))))
+    pub members_added : (q : ℕ) → KeptAt row q s.0 folded → add_columns reading (all_member_columns places q folded) row ≡ Some (row ++ all_values folded s)
+    members_added q kept =
+        let each = each_member_columns places q (b + 3 * by.k + 2) folded in
+        let there = kept_more tested (weight_values s) q s.0 folded (kept_more row (test_values s) q s.0 folded kept) in
+        then_adds reading (plans.tests places) (plans.weights places ++ each) row tested (Some (row ++ all_values folded s)) (adds reading row (plans.tests places) (test_values s) tests_mean)
+        (then_adds reading (plans.weights places) each tested weighed (Some (row ++ all_values folded s)) (adds reading tested (plans.weights places) (weight_values s) weights_mean)
+        (adds reading weighed each (values folded s) (members_mean q (b + 3 * by.k + 2) folded there fives)
+        ∙ ap Some (append_assoc tested (weight_values s) (values folded s) ∙ append_assoc row (test_values s) (weight_values s ++ values folded s))))

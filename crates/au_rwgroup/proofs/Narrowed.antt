@@ -19,7 +19,7 @@ absorb true b c h = refl
 absorb false true c h = absurd (true≢false (sym (h refl)))
 absorb false false c h = refl
 
-filter_valid : {A : Type 0} (P : A → Type 0) (f g : A → Bool) (xs : List A) → AllByRecursion P xs → ((x : A) → P x → f x ≡ g x) → filter f xs ≡ filter g xs
+pub filter_valid : {A : Type 0} (P : A → Type 0) (f g : A → Bool) (xs : List A) → AllByRecursion P xs → ((x : A) → P x → f x ≡ g x) → filter f xs ≡ filter g xs
 filter_valid P f g [] v same = refl
 filter_valid P f g (x ∷ xs) v same = λ i. cond (same x v.0 i) (x ∷ filter_valid P f g xs v.1 same i) (filter_valid P f g xs v.1 same i)
 

@@ -1,17 +1,18 @@
--- Group as a plan: the boxes joined with the rows that overlap them, grouped once more by the boxes.
+-- Group as a plan: the boxes joined with the folds of the rows that overlap them, grouped once more by the boxes.
 use Rattle.std.specs.Prelude.{ℕ, ◌+◌, ◌*◌, List, [], ◌∷◌, ◌++◌, length, flat_map}
 use Rattle.au_algebra.specs.declared.query.Agg.{Agg}
 use Rattle.au_algebra.specs.declared.query.Agg.TheVariants as agg
 use Rattle.au_plain.specs.declared.plan.PAgg.{PAgg}
-use Rattle.au_plain.specs.declared.plan.PAgg.TheVariants.{Sum, Min, Max}
-use Rattle.au_plain.specs.PTerms.{PTerm, Column, Multiply, And, Case}
+use Rattle.au_plain.specs.declared.plan.PAgg.TheVariants.{Min, Max}
+use Rattle.au_plain.specs.PTerms.{PTerm, Column, Add, And, Case}
 use Rattle.au_plain.specs.Plans.{PlanTree, Keep, Join, Group, extend_all}
-use Rattle.au_rwexpr.specs.Flatten.{lo, sg, hi, three}
+use Rattle.au_rwexpr.specs.Flatten.{sg, three}
 use Rattle.au_rwexpr.specs.Counts.{zero_term, one_term, positive}
 use Rattle.au_rwexpr.specs.Cells.{cell_places, run, three_places}
 use Rattle.au_rwexpr.specs.Meets.{meets_term, same_guesses}
+use Rattle.au_rwgroup.specs.Folds.{folds, fold_width}
 use Rattle.au_rwgroup.specs.Groups.{all_sure, first_grouping}
-use Rattle.au_rwgroup.specs.Totals.{signed}
+use Rattle.au_rwgroup.specs.MemberAggs.{member_aggs}
 
 -- what the first grouping keeps for each aggregate: for Min no belonging row has a greater hi or guess, for Max no
 -- lesser lo or guess
@@ -20,75 +21,69 @@ kept_for (agg.Sum c) = Min (3 * c) ∷ Min (3 * c) ∷ []
 kept_for (agg.Min c) = Max (3 * c + 2) ∷ Max (3 * c + 1) ∷ []
 kept_for (agg.Max c) = Min (3 * c) ∷ Min (3 * c + 1) ∷ []
 
--- how many keys there are, and the places in a joined row: of the row's cells, and of its triple, behind which the
--- tests are added
+-- how many keys there are, and the places in a joined row: of the fold, and behind it of the tests, which are added
 pub record Places : Type 0 where
   pub keys : ℕ
-  pub row : ℕ
-  pub triple : ℕ
+  pub fold : ℕ
+  pub tests : ℕ
 
--- the places of this many keys, with the row's cells and its triple from there on
+-- the places of this many keys, with the fold and the tests from there on
 abbrev pub places : ℕ → ℕ → ℕ → Places
-places k row triple = record { keys = k; row = row; triple = triple }
+places k fold tests = record { keys = k; fold = fold; tests = tests }
 
--- whether the row's keys and the box are certain, and whether the row belongs to the box
+-- whether the fold's keys and the box are certain, and whether the fold belongs to the box
 abbrev pub tests : Places → List PTerm
-tests p = And (all_sure p.row p.keys) (all_sure 0 p.keys) ∷ same_guesses 0 p.row p.keys ∷ []
+tests p = And (all_sure p.fold p.keys) (all_sure 0 p.keys) ∷ same_guesses 0 p.fold p.keys ∷ []
 
 abbrev pub is_sure : Places → PTerm
-is_sure p = Column (p.triple + 3)
+is_sure p = Column p.tests
 
 abbrev pub belongs : Places → PTerm
-belongs p = Column (p.triple + 4)
+belongs p = Column (p.tests + 1)
 
--- how many copies are surely in each group, whether one is, and whether one is in the guess world
+-- whether its rows surely have copies in each group, and whether they have copies in the guess world
 abbrev pub weights : Places → List PTerm
 weights p =
-    Case (is_sure p) (lo p.triple) zero_term
-    ∷ And (is_sure p) (positive (lo p.triple))
-    ∷ And (belongs p) (positive (sg p.triple))
+    And (is_sure p) (Column (p.fold + 3 * p.keys))
+    ∷ And (belongs p) (Column (p.fold + 3 * p.keys + 1))
     ∷ []
-
-abbrev pub sure_count : Places → PTerm
-sure_count p = Column (p.triple + 5)
 
 abbrev pub surely : Places → PTerm
-surely p = Column (p.triple + 6)
+surely p = Column (p.tests + 2)
 
 abbrev pub guessed : Places → PTerm
-guessed p = Column (p.triple + 7)
+guessed p = Column (p.tests + 3)
 
--- four columns for an aggregate whose kept columns stand at q
-abbrev pub member_columns : Places → ℕ → Agg → List PTerm
-member_columns p q (agg.Sum c) =
-    let x = p.row + 3 * c in
-    signed (hi p.triple) (sure_count p) (lo x)
-    ∷ Case (belongs p) (Multiply (sg p.triple) (sg x)) zero_term
-    ∷ signed (sure_count p) (hi p.triple) (hi x)
-    ∷ zero_term
+-- a sum that counts for all members, with one that counts for certain members alone
+abbrev pub with_sure : Places → ℕ → ℕ → PTerm
+with_sure p all sure = Case (is_sure p) (Add (Column all) (Column sure)) (Column all)
+
+-- an end for MIN or MAX where its rows have copies, and else what was kept
+abbrev pub end_columns : Places → ℕ → ℕ → List PTerm
+end_columns p q y =
+    Column y
+    ∷ Case (guessed p) (Column (y + 1)) (Column (q + 1))
+    ∷ Case (surely p) (Column (y + 2)) (Column q)
+    ∷ Column (y + 3)
     ∷ []
-member_columns p q (agg.Min c) =
-    let x = p.row + 3 * c in
-    lo x ∷ Case (guessed p) (sg x) (Column (q + 1)) ∷ Case (surely p) (hi x) (Column q) ∷ hi x ∷ []
-member_columns p q (agg.Max c) =
-    let x = p.row + 3 * c in
-    hi x ∷ Case (guessed p) (sg x) (Column (q + 1)) ∷ Case (surely p) (lo x) (Column q) ∷ lo x ∷ []
 
--- the columns of each, and whether the member is surely there
-abbrev pub each_member_columns : Places → ℕ → List Agg → List PTerm
-each_member_columns p q [] = Case (surely p) one_term zero_term ∷ []
-each_member_columns p q (a ∷ aggs) = member_columns p q a ++ each_member_columns p (q + 2) aggs
+-- four columns for an aggregate whose kept columns stand at q, and those of the fold at y
+abbrev pub member_columns : Places → ℕ → ℕ → Agg → List PTerm
+member_columns p q y (agg.Sum c) =
+    with_sure p y (y + 3) ∷ Case (belongs p) (Column (y + 1)) zero_term ∷ with_sure p (y + 2) (y + 4) ∷ zero_term ∷ []
+member_columns p q y (agg.Min c) = end_columns p q y
+member_columns p q y (agg.Max c) = end_columns p q y
 
--- what is added to a joined row: eight places behind its triple stand the columns of the aggregates
+-- the columns of each, and whether the members are surely there
+abbrev pub each_member_columns : Places → ℕ → ℕ → List Agg → List PTerm
+each_member_columns p q y [] = Case (surely p) one_term zero_term ∷ []
+each_member_columns p q y (a ∷ aggs) = member_columns p q y a ++ each_member_columns p (q + 2) (y + 5) aggs
+
+-- what is added to a joined row: four places behind the fold stand the columns of the aggregates
 abbrev pub all_member_columns : Places → ℕ → List Agg → List PTerm
-all_member_columns p q aggs = tests p ++ (weights p ++ each_member_columns p q aggs)
+all_member_columns p q aggs = tests p ++ (weights p ++ each_member_columns p q (p.fold + 3 * p.keys + 2) aggs)
 
 -- their aggregates, from a place on
-abbrev pub member_aggs : ℕ → Agg → List PAgg
-member_aggs n (agg.Sum c) = Sum n ∷ Sum (n + 1) ∷ Sum (n + 2) ∷ Sum (n + 3) ∷ []
-member_aggs n (agg.Min c) = Min n ∷ Min (n + 1) ∷ Min (n + 2) ∷ Max (n + 3) ∷ []
-member_aggs n (agg.Max c) = Max n ∷ Max (n + 1) ∷ Max (n + 2) ∷ Min (n + 3) ∷ []
-
 abbrev pub all_member_aggs : ℕ → List Agg → List PAgg
 all_member_aggs n [] = Max n ∷ []
 all_member_aggs n (a ∷ aggs) = member_aggs n a ++ all_member_aggs (n + 4) aggs
@@ -108,9 +103,9 @@ all_result_columns there has_guess z [] = []
 all_result_columns there has_guess z (a ∷ aggs) =
     result_columns there has_guess z a ++ all_result_columns there has_guess (z + 4) aggs
 
--- the boxes joined with the rows that overlap them, with further columns, grouped by the boxes
+-- the boxes joined with the folds that overlap them, with further columns, grouped by the boxes
 abbrev pub second_grouping : ℕ → ℕ → List PTerm → List PAgg → PlanTree → PlanTree → PlanTree
-second_grouping k b columns aggs boxes rows = Group (run 0 b) aggs (extend_all columns (Join (meets_term b 0 k) boxes rows))
+second_grouping k b columns aggs boxes folds = Group (run 0 b) aggs (extend_all columns (Join (meets_term b 0 k) boxes folds))
 
 -- a group's columns: the hulls of its keys, the ranges of the aggregates behind their results, and its triple
 abbrev pub result_places : ℕ → ℕ → ℕ → List ℕ
@@ -120,9 +115,9 @@ abbrev pub group_plan : ℕ → ℕ → List Agg → PlanTree → PlanTree
 group_plan c k aggs p =
     let kept = flat_map kept_for aggs in
     let b = 3 * k + 3 + length kept in
-    let joined = places k b (b + 3 * c) in
+    let joined = places k b (b + fold_width k (length aggs)) in
     let there = b + 4 * length aggs in
     Keep (result_places k (there + 1) (length aggs))
     (extend_all (all_result_columns (positive (Column there)) (positive (sg (3 * k))) b aggs)
-    (second_grouping k b (all_member_columns joined (3 * k + 3) aggs) (all_member_aggs (b + 3 * c + 8) aggs)
-    (first_grouping c k kept p) p))
+    (second_grouping k b (all_member_columns joined (3 * k + 3) aggs) (all_member_aggs (joined.tests + 4) aggs)
+    (first_grouping c k kept p) (folds c k aggs p)))

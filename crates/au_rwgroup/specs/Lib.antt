@@ -1,6 +1,8 @@
 -- The definitions, in the order in which they are to be read.
 pub mod Groups
 pub mod Totals
+pub mod MemberAggs
+pub mod Folds
 pub mod GroupPlan
 pub mod Gives
 pub mod Adds

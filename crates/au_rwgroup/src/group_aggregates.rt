@@ -1,6 +1,8 @@
-//! The aggregates of both groupings.
+//! The aggregates of the three groupings.
 ghost use Rattle.std.specs.Prelude.{◌≡◌, ◌+◌, ◌*◌, ◌<◌, ◌^◌, ◌++◌, ◌∷◌, [], IfOk, OnOk, flat_map, length};
-ghost use Rattle.au_rwgroup.specs.GroupPlan.{all_member_aggs, kept_for, member_aggs};
+ghost use Rattle.au_rwgroup.specs.Folds.{fold_aggs};
+ghost use Rattle.au_rwgroup.specs.GroupPlan.{all_member_aggs, kept_for};
+ghost use Rattle.au_rwgroup.specs.MemberAggs.{member_aggs};
 
 use au_algebra::Agg;
 use au_plain::PAgg;
@@ -57,6 +59,29 @@ pub(crate) fn member_aggregates(
         place += 4;
     }
     all.push(PAgg::Max(place))?;
+    Ok(all)
+}
+
+/// The aggregates of the folds over the columns from a place on, five for each.
+///
+/// `NoMemory` comes also where a row cannot have so many columns.
+pub(crate) fn fold_aggregates(
+    alloc: Global,
+    from: usize,
+    aggs: &[Agg],
+) -> Result<Vec<PAgg>, NoMemory>
+    ensures { IfOk result (λ v. v.items ≡ fold_aggs from aggs.now) }
+{
+    let mut all = Vec::new(alloc);
+    let mut place = from;
+    for agg in aggs {
+        let Some(next) = place.checked_add(5) else {
+            return Err(NoMemory);
+        };
+        push_members(&mut all, place, *agg)?;
+        all.push(PAgg::Sum(place + 4))?;
+        place = next;
+    }
     Ok(all)
 }
 

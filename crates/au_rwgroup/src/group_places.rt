@@ -1,5 +1,6 @@
-//! The places in the rows of both groupings of Group.
+//! The places in the rows of the groupings of Group.
 ghost use Rattle.std.specs.Prelude.{◌≡◌, ◌+◌, ◌*◌, ◌<◌, ◌^◌, IfOk};
+ghost use Rattle.au_rwgroup.specs.Folds.{fold_width};
 
 use crate::joined_row::JoinedRow;
 use crate::result_columns::GroupTests;
@@ -14,23 +15,19 @@ pub(crate) struct GroupPlaces {
     pub joined: JoinedRow,
     pub there: usize,
     pub aggs: usize,
-    ghost members: { joined.triple + 8 + 4 * aggs < 2 ^ 64 },
+    ghost values: { joined.fold + 3 * joined.keys + 2 + 5 * aggs < 2 ^ 64 },
+    ghost members: { joined.tests + 4 + 4 * aggs < 2 ^ 64 },
     ghost results: { there + 1 + 3 * aggs < 2 ^ 64 },
 }
 
 impl GroupPlaces {
-    /// The places for so many keys, kept columns, columns and aggregates. `NoMemory` comes where a row cannot have so
-    /// many columns.
-    pub(crate) fn of(
-        keys: usize,
-        kept: usize,
-        columns: usize,
-        aggs: usize,
-    ) -> Result<GroupPlaces, NoMemory>
+    /// The places for so many keys, kept columns and aggregates. `NoMemory` comes where a row cannot have so many
+    /// columns.
+    pub(crate) fn of(keys: usize, kept: usize, aggs: usize) -> Result<GroupPlaces, NoMemory>
         ensures triple { IfOk result (λ g. g.triple.first ≡ 3 * keys) }
         ensures keys { IfOk result (λ g. g.joined.keys ≡ keys) }
-        ensures row { IfOk result (λ g. g.joined.row ≡ 3 * keys + 3 + kept) }
-        ensures counts { IfOk result (λ g. g.joined.triple ≡ 3 * keys + 3 + kept + 3 * columns) }
+        ensures fold { IfOk result (λ g. g.joined.fold ≡ 3 * keys + 3 + kept) }
+        ensures tests { IfOk result (λ g. g.joined.tests ≡ 3 * keys + 3 + kept + fold_width keys aggs) }
         ensures there { IfOk result (λ g. g.there ≡ 3 * keys + 3 + kept + 4 * aggs) }
         ensures aggs { IfOk result (λ g. g.aggs ≡ aggs) }
     {
@@ -39,7 +36,7 @@ impl GroupPlaces {
         let Some(width) = first.first.checked_add(kept) else {
             return Err(NoMemory);
         };
-        let joined = JoinedRow::of(keys, width, columns)?;
+        let joined = JoinedRow::of(keys, width, aggs)?;
         let Some(four_each) = aggs.checked_mul(4) else {
             return Err(NoMemory);
         };

@@ -9,10 +9,12 @@ ghost use Rattle.au_plain.specs.Plans.{extend_all as extended};
 ghost use Rattle.au_rwexpr.specs.Meets as meeting;
 ghost use Rattle.au_rwgroup.specs.Adds.{AddsByGroup};
 ghost use Rattle.au_rwgroup.specs.Gives.{Groups};
+ghost use Rattle.au_rwgroup.specs.Folds.{folds as folded};
 ghost use Rattle.au_rwgroup.specs.Groups as first;
 ghost use Rattle.au_rwgroup.specs.GroupPlan as plan;
 ghost use Rattle.au_rwgroup.specs.JoinedPlaces.{places_of};
 
+use crate::folds::folds;
 use crate::group_aggregates::{kept_aggregates, member_aggregates};
 use crate::group_places::GroupPlaces;
 use crate::guessed_keys::first_grouping;
@@ -59,9 +61,9 @@ fn group_plan(
     ensures columns { OnOk result (keys + length aggs.now < 2 ^ 64) }
 {
     let (kept, of) = beside(kept_aggregates(alloc, aggs), of)?;
-    let places = GroupPlaces::of(keys, kept.len(), layout.columns, aggs.len());
+    let places = GroupPlaces::of(keys, kept.len(), aggs.len());
     let (places, (kept, of)) = beside(places, (kept, of))?;
-    let columns = all_result_columns(alloc, places.tests(), places.joined.row, aggs);
+    let columns = all_result_columns(alloc, places.tests(), places.joined.fold, aggs);
     let shown = result_places(alloc, places.triple, keys, places.there + 1, places.aggs);
     let groups = with_members(alloc, of, layout.columns, kept, places, aggs);
     let (shown, (columns, groups)) = both(shown, both(columns, groups))?;
@@ -69,7 +71,7 @@ fn group_plan(
     keep(alloc, shown, made)
 }
 
-// Each box with the results over the rows that overlap it.
+// Each box with the results over the folds that overlap it.
 fn with_members(
     alloc: Global,
     of: Plan,
@@ -80,29 +82,30 @@ fn with_members(
 ) -> Result<Plan, NoMemory>
     requires aggs { places.aggs ≡ length aggs.now }
     requires kept { places.triple.first + 3 + 2 * length aggs.now < 2 ^ 64 }
-    ensures { IfOk result (λ p. plan_tree p ≡ plan.second_grouping places.joined.keys places.joined.row (plan.all_member_columns (places_of places.joined) (places.triple.first + 3) aggs.now) (plan.all_member_aggs (places.joined.triple + 8) aggs.now) (first.first_grouping columns places.joined.keys kept.items (plan_tree of)) (plan_tree of)) }
+    ensures { IfOk result (λ p. plan_tree p ≡ plan.second_grouping places.joined.keys places.joined.fold (plan.all_member_columns (places_of places.joined) (places.triple.first + 3) aggs.now) (plan.all_member_aggs (places.joined.tests + 4) aggs.now) (first.first_grouping columns places.joined.keys kept.items (plan_tree of)) (folded columns places.joined.keys aggs.now (plan_tree of))) }
 {
     let joined = places.joined;
-    let plans = boxes_and_rows(alloc, of, columns, joined.keys, kept);
-    let ((added, over), (boxes, rows)) = both(member_parts(alloc, places, aggs), plans)?;
-    second_grouping(alloc, joined, added, over, boxes, rows)
+    let plans = boxes_and_folds(alloc, of, columns, joined.keys, kept, aggs);
+    let ((added, over), (boxes, folds)) = both(member_parts(alloc, places, aggs), plans)?;
+    second_grouping(alloc, joined, added, over, boxes, folds)
 }
 
-// The boxes of a plan's rows, and the rows once more.
-fn boxes_and_rows(
+// The boxes of a plan's rows, and their folds.
+fn boxes_and_folds(
     alloc: Global,
     of: Plan,
     columns: usize,
     keys: usize,
     kept: Vec<PAgg>,
+    aggs: &[Agg],
 ) -> Result<(Plan, Plan), NoMemory>
     ensures boxes { IfOk result (λ r. plan_tree r.0 ≡ first.first_grouping columns keys kept.items (plan_tree of)) }
-    ensures rows { IfOk result (λ r. plan_tree r.1 ≡ plan_tree of) }
+    ensures folds { IfOk result (λ r. plan_tree r.1 ≡ folded columns keys aggs.now (plan_tree of)) }
 {
-    let rows = copy_plan(alloc, &of);
+    let (rows, (of, kept)) = beside(copy_plan(alloc, &of), (of, kept))?;
     let boxes = first_grouping(alloc, of, columns, keys, kept);
-    let (boxes, rows) = both(boxes, rows)?;
-    Ok((boxes, rows))
+    let (boxes, folds) = both(boxes, folds(alloc, rows, columns, keys, aggs))?;
+    Ok((boxes, folds))
 }
 
 // The columns that are added to each pair, and the aggregates over them.
@@ -114,7 +117,7 @@ fn member_parts(
     requires aggs { places.aggs ≡ length aggs.now }
     requires kept { places.triple.first + 3 + 2 * length aggs.now < 2 ^ 64 }
     ensures added { IfOk result (λ r. map pterm r.0.items ≡ plan.all_member_columns (places_of places.joined) (places.triple.first + 3) aggs.now) }
-    ensures over { IfOk result (λ r. r.1.items ≡ plan.all_member_aggs (places.joined.triple + 8) aggs.now) }
+    ensures over { IfOk result (λ r. r.1.items ≡ plan.all_member_aggs (places.joined.tests + 4) aggs.now) }
 {
     let joined = places.joined;
     let added = all_member_columns(alloc, joined, places.triple.first + 3, aggs);
@@ -123,52 +126,52 @@ fn member_parts(
     Ok((added, over))
 }
 
-// The boxes joined with the rows that overlap them, with further columns, grouped by the boxes.
+// The boxes joined with the folds that overlap them, with further columns, grouped by the boxes.
 fn second_grouping(
     alloc: Global,
     joined: JoinedRow,
     columns: Vec<PExpr>,
     aggs: Vec<PAgg>,
     boxes: Plan,
-    rows: Plan,
+    folds: Plan,
 ) -> Result<Plan, NoMemory>
-    ensures { IfOk result (λ p. plan_tree p ≡ plan.second_grouping joined.keys joined.row (map pterm columns.items) aggs.items (plan_tree boxes) (plan_tree rows)) }
+    ensures { IfOk result (λ p. plan_tree p ≡ plan.second_grouping joined.keys joined.fold (map pterm columns.items) aggs.items (plan_tree boxes) (plan_tree folds)) }
 {
-    let wide = member_pairs(alloc, joined, columns, boxes, rows);
+    let wide = member_pairs(alloc, joined, columns, boxes, folds);
     let (wide, aggs) = beside(wide, aggs)?;
     let (keys, (wide, aggs)) = beside(box_places(alloc, joined), (wide, aggs))?;
     grouped(alloc, keys, aggs, wide)
 }
 
-// The boxes joined with the rows that overlap them, with further columns.
+// The boxes joined with the folds that overlap them, with further columns.
 fn member_pairs(
     alloc: Global,
     joined: JoinedRow,
     columns: Vec<PExpr>,
     boxes: Plan,
-    rows: Plan,
+    folds: Plan,
 ) -> Result<Plan, NoMemory>
-    ensures { IfOk result (λ p. plan_tree p ≡ extended (map pterm columns.items) (tree.Join (meeting.meets_term joined.row 0 joined.keys) (plan_tree boxes) (plan_tree rows))) }
+    ensures { IfOk result (λ p. plan_tree p ≡ extended (map pterm columns.items) (tree.Join (meeting.meets_term joined.fold 0 joined.keys) (plan_tree boxes) (plan_tree folds))) }
 {
-    let held = (boxes, rows, columns);
-    let (overlap, (boxes, rows, columns)) = beside(box_overlap(alloc, joined), held)?;
-    let (pairs, columns) = beside(join(alloc, overlap, boxes, rows), columns)?;
+    let held = (boxes, folds, columns);
+    let (overlap, (boxes, folds, columns)) = beside(box_overlap(alloc, joined), held)?;
+    let (pairs, columns) = beside(join(alloc, overlap, boxes, folds), columns)?;
     extend_all(alloc, columns, pairs)
 }
 
-// Whether the row overlaps the box.
+// Whether the fold overlaps the box.
 fn box_overlap(alloc: Global, joined: JoinedRow) -> Result<PExpr, NoMemory>
-    ensures { IfOk result (λ e. pterm e ≡ meeting.meets_term joined.row 0 joined.keys) }
+    ensures { IfOk result (λ e. pterm e ≡ meeting.meets_term joined.fold 0 joined.keys) }
 {
-    let row = RangeColumns::at(joined.row)?;
-    meets(alloc, row, RangeColumns::at(0)?, joined.keys)
+    let fold = RangeColumns::at(joined.fold)?;
+    meets(alloc, fold, RangeColumns::at(0)?, joined.keys)
 }
 
 // The places of the box.
 fn box_places(alloc: Global, joined: JoinedRow) -> Result<Vec<usize>, NoMemory>
-    ensures { IfOk result (λ v. v.items ≡ run 0 joined.row) }
+    ensures { IfOk result (λ v. v.items ≡ run 0 joined.fold) }
 {
     let mut keys = Vec::new(alloc);
-    push_run(&mut keys, 0, joined.row)?;
+    push_run(&mut keys, 0, joined.fold)?;
     Ok(keys)
 }

@@ -15,6 +15,7 @@
 
 mod count_terms;
 mod distinct_rows;
+mod folds;
 mod group_aggregates;
 mod group_places;
 mod grouping;

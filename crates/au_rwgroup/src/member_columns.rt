@@ -1,25 +1,21 @@
-//! What a row offers to the aggregates of a box that it may belong to.
-ghost use Rattle.std.specs.Prelude.{◌≡◌, ◌+◌, ◌*◌, ◌<◌, ◌^◌, ◌++◌, ◌∷◌, [], IfOk, OnOk, length, map};
+//! What a fold offers to the aggregates of a box that its rows may belong to.
+ghost use Rattle.std.specs.Prelude.{◌≡◌, ◌+◌, ◌*◌, ◌<◌, ◌^◌, ◌++◌, IfOk, OnOk, length, map};
 ghost use Rattle.au_algebra.specs.declared.query.Agg.TheVariants as agg;
 ghost use Rattle.au_plain.specs.PTerms.{pterm};
-ghost use Rattle.au_plain.specs.PTerms as term;
-ghost use Rattle.au_rwexpr.specs.Counts.{one_term, zero_term};
-ghost use Rattle.au_rwexpr.specs.Flatten.{sg};
 ghost use Rattle.au_rwgroup.specs.GroupPlan as plan;
 ghost use Rattle.au_rwgroup.specs.JoinedPlaces.{places_of};
 
-use crate::count_terms::{one, signed, zero};
+use crate::count_terms::{one, zero};
 use crate::guessed_keys::four;
 use crate::joined_row::JoinedRow;
 use crate::pair_tests::push_tests;
 use au_algebra::Agg;
-use au_plain::{PExpr, case, multiply};
-use au_rwexpr::RangeColumns;
+use au_plain::{PExpr, add, case};
 use au_value::{NoMemory, both};
 use std::alloc::Global;
 
-/// The columns that are added to each pair of a box and a row: the tests, four for each aggregate, and whether the row
-/// is surely there. What the first grouping kept for the aggregates stands from a place on, two columns for each.
+/// The columns that are added to each pair of a box and a fold: the tests, four for each aggregate, and whether the rows
+/// are surely there. What the first grouping kept for the aggregates stands from a place on, two columns for each.
 ///
 /// `NoMemory` comes also where a row cannot have so many columns.
 pub(crate) fn all_member_columns(
@@ -28,7 +24,8 @@ pub(crate) fn all_member_columns(
     kept: usize,
     aggs: &[Agg],
 ) -> Result<Vec<PExpr>, NoMemory>
-    requires { kept + 2 * length aggs.now < 2 ^ 64 }
+    requires kept { kept + 2 * length aggs.now < 2 ^ 64 }
+    requires values { joined.fold + 3 * joined.keys + 2 + 5 * length aggs.now < 2 ^ 64 }
     ensures { IfOk result (λ v. map pterm v.items ≡ plan.all_member_columns (places_of joined) kept aggs.now) }
 {
     let mut columns = Vec::new(alloc);
@@ -37,7 +34,7 @@ pub(crate) fn all_member_columns(
     Ok(columns)
 }
 
-// Adds the columns of each aggregate, and whether the row is surely there.
+// Adds the columns of each aggregate, and whether the rows are surely there.
 fn push_each(
     alloc: Global,
     joined: JoinedRow,
@@ -45,13 +42,16 @@ fn push_each(
     aggs: &[Agg],
     columns: &mut Vec<PExpr>,
 ) -> Result<(), NoMemory>
-    requires { from + 2 * length aggs.now < 2 ^ 64 }
-    ensures { OnOk result (map pterm columns.new.items ≡ map pterm columns.old.items ++ plan.each_member_columns (places_of joined) from aggs.now) }
+    requires kept { from + 2 * length aggs.now < 2 ^ 64 }
+    requires values { joined.fold + 3 * joined.keys + 2 + 5 * length aggs.now < 2 ^ 64 }
+    ensures { OnOk result (map pterm columns.new.items ≡ map pterm columns.old.items ++ plan.each_member_columns (places_of joined) from (joined.fold + 3 * joined.keys + 2) aggs.now) }
 {
     let mut kept = from;
+    let mut value = joined.values();
     for agg in aggs {
-        push_member(alloc, joined, kept, *agg, columns)?;
+        push_member(alloc, joined, kept, value, *agg, columns)?;
         kept += 2;
+        value += 5;
     }
     columns.push(case(alloc, joined.surely(), one(), zero())?)?;
     Ok(())
@@ -62,18 +62,21 @@ fn push_member(
     alloc: Global,
     joined: JoinedRow,
     kept: usize,
+    value: usize,
     agg: Agg,
     columns: &mut Vec<PExpr>,
 ) -> Result<(), NoMemory>
-    requires { kept + 1 < 2 ^ 64 }
-    ensures { OnOk result (map pterm columns.new.items ≡ map pterm columns.old.items ++ plan.member_columns (places_of joined) kept agg) }
+    requires kept { kept + 1 < 2 ^ 64 }
+    requires value { value + 4 < 2 ^ 64 }
+    ensures { OnOk result (map pterm columns.new.items ≡ map pterm columns.old.items ++ plan.member_columns (places_of joined) kept value agg) }
 {
-    let own = member_columns(alloc, joined, kept, agg)?;
+    let own = member_columns(alloc, joined, kept, value, agg)?;
     push_own(columns, own)?;
     Ok(())
 }
 
-fn push_own(columns: &mut Vec<PExpr>, own: Vec<PExpr>) -> Result<(), NoMemory>
+/// Adds columns behind others.
+pub(crate) fn push_own(columns: &mut Vec<PExpr>, own: Vec<PExpr>) -> Result<(), NoMemory>
     ensures { OnOk result (columns.new.items ≡ columns.old.items ++ own.items) }
 {
     for column in own {
@@ -86,79 +89,74 @@ fn member_columns(
     alloc: Global,
     joined: JoinedRow,
     kept: usize,
+    value: usize,
     agg: Agg,
 ) -> Result<Vec<PExpr>, NoMemory>
-    requires { kept + 1 < 2 ^ 64 }
-    ensures { IfOk result (λ v. map pterm v.items ≡ plan.member_columns (places_of joined) kept agg) }
+    requires kept { kept + 1 < 2 ^ 64 }
+    requires value { value + 4 < 2 ^ 64 }
+    ensures { IfOk result (λ v. map pterm v.items ≡ plan.member_columns (places_of joined) kept value agg) }
 {
     match agg {
-        Agg::Sum(column) => sum_columns(alloc, joined, kept, column),
-        Agg::Min(column) => min_columns(alloc, joined, kept, column),
-        Agg::Max(column) => max_columns(alloc, joined, kept, column),
+        Agg::Sum(_) => sum_columns(alloc, joined, kept, value),
+        Agg::Min(_) | Agg::Max(_) => end_columns(alloc, joined, kept, value),
     }
 }
 
-// The least and the greatest that the row adds to a sum, and between them what it adds in the guess world.
+// The least and the greatest that the rows add to a sum, and between them what they add in the guess world.
 fn sum_columns(
     alloc: Global,
     joined: JoinedRow,
     kept: usize,
-    column: usize,
+    value: usize,
 ) -> Result<Vec<PExpr>, NoMemory>
-    ensures { IfOk result (λ v. map pterm v.items ≡ plan.member_columns (places_of joined) kept (agg.Sum column)) }
+    requires { value + 4 < 2 ^ 64 }
+    ensures { IfOk result (λ v. map pterm v.items ≡ plan.member_columns (places_of joined) kept value (agg.Sum 0)) }
 {
-    let cell = joined.cell(column)?;
-    let counts = joined.counts()?;
-    let least = signed(alloc, counts.hi(), joined.sure_count(), cell.first);
-    let most = signed(alloc, joined.sure_count(), counts.hi(), cell.first + 2);
+    let least = with_sure(alloc, joined, value, value + 3);
+    let most = with_sure(alloc, joined, value + 2, value + 4);
     let ends = both(least, most);
-    let (guess, (least, most)) = both(guessed_term(alloc, joined, counts, cell), ends)?;
+    let guess = case(alloc, joined.belongs(), PExpr::Column(value + 1), zero());
+    let (guess, (least, most)) = both(guess, ends)?;
     four(alloc, least, guess, most, zero())
 }
 
-// What the row adds to a sum in the guess world.
-fn guessed_term(
-    alloc: Global,
-    joined: JoinedRow,
-    counts: RangeColumns,
-    cell: RangeColumns,
-) -> Result<PExpr, NoMemory>
-    ensures { IfOk result (λ e. pterm e ≡ term.Case (plan.belongs (places_of joined)) (term.Multiply (sg counts.first) (sg cell.first)) zero_term) }
+// A sum that counts for all members, with one that counts for certain members alone.
+fn with_sure(alloc: Global, joined: JoinedRow, all: usize, sure: usize) -> Result<PExpr, NoMemory>
+    ensures { IfOk result (λ e. pterm e ≡ plan.with_sure (places_of joined) all sure) }
 {
-    let product = multiply(alloc, counts.sg(), cell.sg())?;
-    case(alloc, joined.belongs(), product, zero())
+    let sum = add(alloc, PExpr::Column(all), PExpr::Column(sure))?;
+    case(alloc, joined.is_sure(), sum, PExpr::Column(all))
 }
 
-// The guess and the upper end, where these count, between the ends of the row's range.
-fn min_columns(
+// The guess and the inner end, where these count, between the ends of the rows' ranges.
+fn end_columns(
     alloc: Global,
     joined: JoinedRow,
     kept: usize,
-    column: usize,
+    value: usize,
 ) -> Result<Vec<PExpr>, NoMemory>
-    requires { kept + 1 < 2 ^ 64 }
-    ensures { IfOk result (λ v. map pterm v.items ≡ plan.member_columns (places_of joined) kept (agg.Min column)) }
+    requires kept { kept + 1 < 2 ^ 64 }
+    requires value { value + 4 < 2 ^ 64 }
+    ensures { IfOk result (λ v. map pterm v.items ≡ plan.end_columns (places_of joined) kept value) }
 {
-    let cell = joined.cell(column)?;
-    let guess = case(alloc, joined.guessed(), cell.sg(), PExpr::Column(kept + 1));
-    let upper = case(alloc, joined.surely(), cell.hi(), PExpr::Column(kept));
-    let (guess, upper) = both(guess, upper)?;
-    four(alloc, cell.lo(), guess, upper, cell.hi())
-}
-
-// The guess and the lower end, where these count, between the ends of the row's range.
-fn max_columns(
-    alloc: Global,
-    joined: JoinedRow,
-    kept: usize,
-    column: usize,
-) -> Result<Vec<PExpr>, NoMemory>
-    requires { kept + 1 < 2 ^ 64 }
-    ensures { IfOk result (λ v. map pterm v.items ≡ plan.member_columns (places_of joined) kept (agg.Max column)) }
-{
-    let cell = joined.cell(column)?;
-    let guess = case(alloc, joined.guessed(), cell.sg(), PExpr::Column(kept + 1));
-    let lower = case(alloc, joined.surely(), cell.lo(), PExpr::Column(kept));
-    let (guess, lower) = both(guess, lower)?;
-    four(alloc, cell.hi(), guess, lower, cell.lo())
+    let guess = case(
+        alloc,
+        joined.guessed(),
+        PExpr::Column(value + 1),
+        PExpr::Column(kept + 1),
+    );
+    let inner = case(
+        alloc,
+        joined.surely(),
+        PExpr::Column(value + 2),
+        PExpr::Column(kept),
+    );
+    let (guess, inner) = both(guess, inner)?;
+    four(
+        alloc,
+        PExpr::Column(value),
+        guess,
+        inner,
+        PExpr::Column(value + 3),
+    )
 }

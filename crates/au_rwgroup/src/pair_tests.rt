@@ -1,22 +1,21 @@
-//! What is asked of each pair of a box and a row, once for all aggregates.
-ghost use Rattle.std.specs.Prelude.{◌≡◌, ◌++◌, IfOk, OnOk, map};
+//! What is asked of each pair of a box and a fold, once for all aggregates.
+ghost use Rattle.std.specs.Prelude.{◌≡◌, ◌++◌, ◌+◌, ◌*◌, IfOk, OnOk, map};
 ghost use Rattle.au_plain.specs.PTerms.{pterm};
 ghost use Rattle.au_plain.specs.PTerms as term;
-ghost use Rattle.au_rwexpr.specs.Counts.{positive as is_positive, zero_term};
-ghost use Rattle.au_rwexpr.specs.Flatten.{lo, sg};
 ghost use Rattle.au_rwexpr.specs.Meets as meeting;
 ghost use Rattle.au_rwgroup.specs.Groups.{all_sure as are_sure};
 ghost use Rattle.au_rwgroup.specs.GroupPlan.{belongs, is_sure, tests, weights};
 ghost use Rattle.au_rwgroup.specs.JoinedPlaces.{places_of};
 
-use crate::count_terms::{all_sure, positive, zero};
+use crate::count_terms::all_sure;
 use crate::joined_row::JoinedRow;
-use au_plain::{PExpr, and, case};
+use au_plain::{PExpr, and};
 use au_rwexpr::{RangeColumns, same_guesses};
 use au_value::{NoMemory, both};
 use std::alloc::Global;
 
-/// Adds the tests, and then how many copies are sure, whether one is, and whether one is in the guess world.
+/// Adds the tests, and then whether the rows of the fold surely have copies in each group, and whether they have some in
+/// the guess world.
 ///
 /// `NoMemory` comes also where a row cannot have so many columns.
 pub(crate) fn push_tests(
@@ -28,50 +27,39 @@ pub(crate) fn push_tests(
 {
     columns.push(keys_are_sure(alloc, joined)?)?;
     columns.push(belongs_to_box(alloc, joined)?)?;
-    columns.push(sure_copies(alloc, joined)?)?;
     columns.push(has_sure_copy(alloc, joined)?)?;
     columns.push(has_guessed_copy(alloc, joined)?)?;
     Ok(())
 }
 
-// Whether the row's keys and the box are certain.
+// Whether the fold's keys and the box are certain.
 fn keys_are_sure(alloc: Global, joined: JoinedRow) -> Result<PExpr, NoMemory>
-    ensures { IfOk result (λ e. pterm e ≡ term.And (are_sure joined.row joined.keys) (are_sure 0 joined.keys)) }
+    ensures { IfOk result (λ e. pterm e ≡ term.And (are_sure joined.fold joined.keys) (are_sure 0 joined.keys)) }
 {
-    let (row, own) = (RangeColumns::at(joined.row)?, RangeColumns::at(0)?);
-    let row = all_sure(alloc, row, joined.keys);
-    let (row, own) = both(row, all_sure(alloc, own, joined.keys))?;
-    and(alloc, row, own)
+    let (fold, own) = (RangeColumns::at(joined.fold)?, RangeColumns::at(0)?);
+    let fold = all_sure(alloc, fold, joined.keys);
+    let (fold, own) = both(fold, all_sure(alloc, own, joined.keys))?;
+    and(alloc, fold, own)
 }
 
-// Whether the row has the guesses of the box.
+// Whether the fold has the guesses of the box.
 fn belongs_to_box(alloc: Global, joined: JoinedRow) -> Result<PExpr, NoMemory>
-    ensures { IfOk result (λ e. pterm e ≡ meeting.same_guesses 0 joined.row joined.keys) }
+    ensures { IfOk result (λ e. pterm e ≡ meeting.same_guesses 0 joined.fold joined.keys) }
 {
     let first = RangeColumns::at(0)?;
-    same_guesses(alloc, first, RangeColumns::at(joined.row)?, joined.keys)
+    same_guesses(alloc, first, RangeColumns::at(joined.fold)?, joined.keys)
 }
 
-// The least of the triple where the keys and the box are certain, and else 0.
-fn sure_copies(alloc: Global, joined: JoinedRow) -> Result<PExpr, NoMemory>
-    ensures { IfOk result (λ e. pterm e ≡ term.Case (is_sure (places_of joined)) (lo joined.triple) zero_term) }
-{
-    let counts = joined.counts()?;
-    case(alloc, joined.is_sure(), counts.lo(), zero())
-}
-
-// Whether that is not 0.
+// Whether the keys and the box are certain, and the rows surely have copies.
 fn has_sure_copy(alloc: Global, joined: JoinedRow) -> Result<PExpr, NoMemory>
-    ensures { IfOk result (λ e. pterm e ≡ term.And (is_sure (places_of joined)) (is_positive (lo joined.triple))) }
+    ensures { IfOk result (λ e. pterm e ≡ term.And (is_sure (places_of joined)) (term.Column (joined.fold + 3 * joined.keys))) }
 {
-    let some = positive(alloc, joined.counts()?.lo())?;
-    and(alloc, joined.is_sure(), some)
+    and(alloc, joined.is_sure(), joined.has_sure_copy())
 }
 
-// Whether the row belongs to the box and has a copy in the guess world.
+// Whether the fold belongs to the box, and its rows have copies in the guess world.
 fn has_guessed_copy(alloc: Global, joined: JoinedRow) -> Result<PExpr, NoMemory>
-    ensures { IfOk result (λ e. pterm e ≡ term.And (belongs (places_of joined)) (is_positive (sg joined.triple))) }
+    ensures { IfOk result (λ e. pterm e ≡ term.And (belongs (places_of joined)) (term.Column (joined.fold + 3 * joined.keys + 1))) }
 {
-    let some = positive(alloc, joined.counts()?.sg())?;
-    and(alloc, joined.belongs(), some)
+    and(alloc, joined.belongs(), joined.has_guessed_copy())
 }

@@ -37,8 +37,8 @@ fn read_alternatives(alternatives: &[Alternative])
     }
 }
 
-// Each cell.
-fn read_cells(cells: &[Cell])
+/// Nothing but that the numbers of some cells lie in the range of 128 bits: each of them is read.
+pub fn read_cells(cells: &[Cell])
     ensures { AllByRecursion FitSpan cells.now }
 {
     for cell in cells {

@@ -2,8 +2,8 @@
 //!
 //! [`bounded`] makes a row of ranges with a triple of each block, and [`encoded`] the same rows as plain rows, which
 //! [`encoded_by`] makes by several workers; [`bounded_rows`] and [`encoded_blocks`] make those of some of a table's blocks,
-//! and [`encoded_places_by`] only the values in some places of the plain rows; [`read_numbers`] tells that the numbers of
-//! rows which are not made lie in the range, too. [`guessed`] gives the rows of the guess world, each with its number of copies. [`bounded_answer_holds`] is the law on
+//! and [`encoded_places_by`] only the values in some places of the plain rows; [`read_numbers`] and
+//! [`read_cells`] tell that the numbers of rows which are not made lie in the range, too. [`guessed`] gives the rows of the guess world, each with its number of copies. [`bounded_answer_holds`] is the law on
 //! whole queries over such tables: the bounded answer bounds the ordinary answer in every world, and its guesses are the
 //! ordinary answer in the guess world.
 //!
@@ -29,7 +29,7 @@ mod theorems;
 pub use encoding_pieces::encoded_by;
 pub use encodings::{encoded, encoded_blocks};
 pub use guesses::guessed;
-pub use held_numbers::read_numbers;
+pub use held_numbers::{read_cells, read_numbers};
 pub use kept_pieces::encoded_places_by;
 pub use relations::{bounded, bounded_rows};
 pub use theorems::bounded_answer_holds;

@@ -2,13 +2,13 @@ mod AllPlaces
 mod BlockCounts
 pub mod BlockRows
 mod CertainValues
-mod Comparisons
-mod EveryWorld
+pub mod CountedAnswers
+mod CountedFits
+pub mod EveryWorld
 pub mod GuessFits
 mod LeastPlaces
-mod PairRows
+pub mod PairRows
 mod Parts
-mod PositiveCounts
 pub mod PrintedFits
 mod Sizes
 mod SameCells

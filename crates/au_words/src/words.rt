@@ -14,6 +14,7 @@ use crate::words::asking::read_words;
 use au_value::{NoMemory, Word};
 use std::alloc::Global;
 use std::marker::Model;
+use thiserror::Error;
 
 /// A command that answers a query.
 #[derive(Clone, Copy, Debug, PartialEq, Eq)]
@@ -101,19 +102,15 @@ pub enum Asked<'a> {
 }
 
 /// Why a command line is not read.
-#[derive(Clone, Copy, Debug, PartialEq, Eq)]
+#[derive(Clone, Copy, Debug, PartialEq, Eq, Error)]
 pub enum WordsFault {
     /// The words are refused.
+    #[error(transparent)]
     Usage(UsageFault),
 
     /// Memory was refused.
+    #[error("out of memory")]
     NoMemory,
-}
-
-impl From<NoMemory> for WordsFault {
-    fn from(_: NoMemory) -> WordsFault {
-        WordsFault::NoMemory
-    }
 }
 
 /// The words of a command line, without the program's name. Contracts see their texts.

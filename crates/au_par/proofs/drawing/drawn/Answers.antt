@@ -21,7 +21,7 @@ loop-number-preserved g c =
     let state = c.in-Ok.state in
     let states = c.loop-number.states.items in
     let inv = c.loop-number.invariant in
-    let pass = c.in-Some.ensures.pass in
+    let pass = c.in-Some.ensures.step.2 in
     let stands_here = subst (stands state) c.piece_at.ensures c.in-Ok.ensures.stands in
     record {
       board = ap (λ p. p.board) pass ∙ inv.board;

@@ -5,6 +5,7 @@ use Rattle.au_plain.specs.declared.plan.PAgg.{PAgg}
 use Rattle.au_plain.specs.PTerms.{pterm, Column}
 use Rattle.au_plain.specs.Plans.{PlanTree, plan_tree, Keep}
 use Rattle.au_rwexpr.specs.Counts.{positive}
+use Rattle.au_rwgroup.specs.Folds.{folds}
 use Rattle.au_rwgroup.specs.Groups.{first_grouping}
 use Rattle.au_rwgroup.specs.GroupPlan.{all_member_aggs, all_member_columns, all_result_columns, second_grouping}
 use Rattle.au_rwgroup.specs.JoinedPlaces.{places_of}
@@ -28,27 +29,27 @@ returns-clause-plan c =
     let groups = plan_tree parts.groups in
     let at = placed.ensures.values.0 in
     let both_are = IfOk-at_ok _ parts.ensures.values.1 c.both.ensures.values in
-    let row_is = IfOk-at_ok _ at c.of-places.ensures.row in
-    let counts_is = IfOk-at_ok _ at c.of-places.ensures.counts in
+    let fold_is = IfOk-at_ok _ at c.of-places.ensures.fold in
+    let tests_is = IfOk-at_ok _ at c.of-places.ensures.tests in
     let there_is = IfOk-at_ok _ at c.of-places.ensures.there in
     let aggs_are = IfOk-at_ok _ at c.of-places.ensures.aggs in
-    let are : PlacesAre columns k aggs kept places.triple.first joined.keys joined.row joined.triple places.there places.aggs =
+    let are : PlacesAre k aggs kept places.triple.first joined.keys joined.fold joined.tests places.there places.aggs =
     record {
       kept_is = IfOk-at_ok _ found.ensures.values.0 c.kept_aggregates.ensures;
       counts_is = IfOk-at_ok _ at c.of-places.ensures.triple;
       keys_is = IfOk-at_ok _ at c.of-places.ensures.keys;
-      row_is = omega (arith, row_is, c.len.ensures);
-      triple_is = omega (arith, counts_is, c.len.ensures);
+      fold_is = omega (arith, fold_is, c.len.ensures);
+      tests_is = omega (arith, tests_is, aggs_are, c.len.ensures);
       there_is = omega (arith, there_is, aggs_are, c.len.ensures);
       number_is = aggs_are;
     } in
     let ranges_are = IfOk-at_ok _ both_are.0 c.all_result_columns-columns.ensures
-    ∙ (λ i. all_result_columns (positive (Column (c.tests.ensures.there i))) (positive (Column (c.tests.ensures.guess i))) joined.row aggs) in
+    ∙ (λ i. all_result_columns (positive (Column (c.tests.ensures.there i))) (positive (Column (c.tests.ensures.guess i))) joined.fold aggs) in
     let grouped : List PAgg → PlanTree → PlanTree = λ ks p.
-    second_grouping joined.keys joined.row (all_member_columns (places_of joined) (places.triple.first + 3) aggs) (all_member_aggs (joined.triple + 8) aggs) (first_grouping columns joined.keys ks p) p in
+    second_grouping joined.keys joined.fold (all_member_columns (places_of joined) (places.triple.first + 3) aggs) (all_member_aggs (joined.tests + 4) aggs) (first_grouping columns joined.keys ks p) (folds columns joined.keys aggs p) in
     let groups_are = IfOk-at_ok _ both_are.1 c.with_members-groups.ensures ∙ ap (λ r. grouped r.0.items (plan_tree r.1)) placed.ensures.values.1
     ∙ ap (λ p. grouped kept (plan_tree p)) found.ensures.values.1 in
     IfOk-weaker c.keep.result _ _ (λ p is.
-    (plan_is columns k aggs kept places.triple.first joined.keys joined.row joined.triple places.there places.aggs are (plan_tree c.args.of) groups (plan_tree p) shown ranges ranges_are
+    (plan_is columns k aggs kept places.triple.first joined.keys joined.fold joined.tests places.there places.aggs are (plan_tree c.args.of) groups (plan_tree p) shown ranges ranges_are
     (IfOk-at_ok _ parts.ensures.values.0 c.result_places-shown.ensures) groups_are
     (is ∙ ap (λ v. Keep v.items (plan_tree made.made)) made.ensures.values.1 ∙ ap (Keep shown) (IfOk-at_ok _ made.ensures.values.0 c.extend_all.ensures)))) c.keep.ensures

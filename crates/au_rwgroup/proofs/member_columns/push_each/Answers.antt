@@ -11,7 +11,8 @@ loop-agg-preserved c =
     let new = map pterm c.push_member.new.columns.items in
     record {
       columns =
-          members_step c.args.aggs.now c.loop-agg.agg-index c.loop-agg-test.true _ (places_of c.args.joined) c.loop-agg.kept old new c.in_ok-push_member.ensures
+          members_step c.args.aggs.now c.loop-agg.agg-index c.loop-agg-test.true _ (places_of c.args.joined) c.loop-agg.kept c.loop-agg.value old new c.in_ok-push_member.ensures
           ∙ c.loop-agg.invariant.columns;
       place = omega (arith, c.loop-agg.invariant.place);
+      value = omega (arith, c.loop-agg.invariant.value);
     }

@@ -1,0 +1,11 @@
+-- There is a kind for each name.
+use Rattle.std.proofs.Common.{ap, length, sym, ◌∙◌}
+use Rattle.au_parse.specs.Views.{statement_tree}
+use Rattle.au_evaltests.proofs.AnswerColumns.{as_many_kinds}
+use Rattle.au_evaltests.proofs.ua_tests.with_pairs.Goals as goal
+
+pub ua_text-requires-clause-columns : goal.ua_text-requires-clause-columns
+ua_text-requires-clause-columns g c =
+    ap length c.as_slice-in-Ok.ensures.value
+    ∙ as_many_kinds c.args.tables.now (statement_tree c.args.statement.now) c.in-Ok.answer.names.items c.in-Ok.answer.kinds.items c.in-Ok.ensures.names c.in-Ok.ensures.kinds
+    ∙ ap length (sym c.as_slice.ensures.value)

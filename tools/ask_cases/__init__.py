@@ -1,0 +1,1 @@
+"""The tests of tools/ask, which tools/ask_test.py runs."""
