@@ -2,7 +2,7 @@
 ghost use Rattle.au_parse.specs.Views.{statement_tree};
 ghost use Rattle.au_parse.specs.Whole.{WholeQuery};
 
-use crate::cases::{Call, given_and_wanted, judge};
+use crate::cases::given_and_wanted;
 use crate::query_tables::tables_of;
 use crate::row_texts::relation_text;
 use au_blocks::Table;
@@ -108,21 +108,28 @@ pub(crate) fn in_guess_world(
     }
 }
 
-struct Guessed;
-
-impl Call for Guessed {
-    fn outcome(
-        rt: &(impl Abort + Threads + Sync),
-        alloc: Global,
-        given: &str,
-    ) -> Result<String, Fail> {
-        let (query, tables) = given.split_once(" | ").ok_or("tables")?;
-        let tables = tables_of(alloc, tables)?;
-        match read_query(alloc, query) {
-            Ok(statement) => in_guess_world(rt, alloc, &statement, tables.as_slice()),
-            Err(fault) => Ok(format!(in alloc; "{fault:?}")?),
-        }
+// The answer of a query over the guess world of tables.
+fn guessed(rt: &(impl Abort + Threads + Sync), alloc: Global, given: &str) -> Result<String, Fail> {
+    let (query, tables) = given.split_once(" | ").ok_or("tables")?;
+    let tables = tables_of(alloc, tables)?;
+    match read_query(alloc, query) {
+        Ok(statement) => in_guess_world(rt, alloc, &statement, tables.as_slice()),
+        Err(fault) => Ok(format!(in alloc; "{fault:?}")?),
     }
+}
+
+// Whether the answer over the guess world is for each line what is wanted.
+fn judge_guesses(
+    rt: &(impl Abort + Threads + Sync),
+    alloc: Global,
+    cases: &str,
+) -> Result<(), Fail> {
+    for line in cases.lines() {
+        let (given, wanted) = given_and_wanted(rt, line);
+        let found = guessed(rt, alloc, given)?;
+        assert_eq!(rt; found.as_str(), wanted, "{given}");
+    }
+    Ok(())
 }
 
 // The six comparisons of two ranges, of each kind.
@@ -238,5 +245,5 @@ fn answers_of_queries(rt: HostRuntime) -> Result<(), Fail> {
 
 #[test]
 fn guesses_of_queries(rt: HostRuntime) -> Result<(), Fail> {
-    judge::<Guessed>(&rt, rt.alloc(), GUESSES)
+    judge_guesses(&rt, rt.alloc(), GUESSES)
 }

@@ -10,7 +10,7 @@ ghost use Rattle.au_parse.specs.Views.{statement_tree};
 ghost use Rattle.au_parse.specs.Whole.{WholeQuery};
 ghost use Rattle.au_ua.specs.NotPositive.{not_positive as not_positive_of};
 
-use crate::cases::{Call, judge};
+use crate::cases::{Call, given_and_wanted, judge};
 use crate::query_tables::tables_of;
 use crate::query_tests::lines_of;
 use crate::relations::number;
@@ -163,24 +163,34 @@ fn with_pairs(
 }
 
 // The answer with pairs of a query over tables.
-struct Answered;
-
-impl Call for Answered {
-    fn outcome(
-        rt: &(impl Abort + Threads + Sync),
-        alloc: Global,
-        given: &str,
-    ) -> Result<String, Fail> {
-        let (query, tables) = given.split_once(" | ").ok_or("tables")?;
-        let tables = tables_of(alloc, tables)?;
-        match read_query(alloc, query) {
-            Ok(statement) => match not_positive(&statement) {
-                None => with_pairs(rt, alloc, &statement, tables.as_slice()),
-                Some(place) => Ok(format!(in alloc; "not positive at {place}")?),
-            },
-            Err(fault) => Ok(format!(in alloc; "{fault:?}")?),
-        }
+fn answered(
+    rt: &(impl Abort + Threads + Sync),
+    alloc: Global,
+    given: &str,
+) -> Result<String, Fail> {
+    let (query, tables) = given.split_once(" | ").ok_or("tables")?;
+    let tables = tables_of(alloc, tables)?;
+    match read_query(alloc, query) {
+        Ok(statement) => match not_positive(&statement) {
+            None => with_pairs(rt, alloc, &statement, tables.as_slice()),
+            Some(place) => Ok(format!(in alloc; "not positive at {place}")?),
+        },
+        Err(fault) => Ok(format!(in alloc; "{fault:?}")?),
     }
+}
+
+// Whether the answer with pairs is for each line what is wanted.
+fn judge_answers(
+    rt: &(impl Abort + Threads + Sync),
+    alloc: Global,
+    cases: &str,
+) -> Result<(), Fail> {
+    for line in cases.lines() {
+        let (given, wanted) = given_and_wanted(rt, line);
+        let found = answered(rt, alloc, given)?;
+        assert_eq!(rt; found.as_str(), wanted, "{given}");
+    }
+    Ok(())
 }
 
 const PLACES: &str = "SELECT city FROM orders -> Ok(None)
@@ -220,7 +230,7 @@ fn pairs_of_blocks(rt: HostRuntime) -> Result<(), Fail> {
 
 #[test]
 fn answers_with_pairs(rt: HostRuntime) -> Result<(), Fail> {
-    judge::<Answered>(&rt, rt.alloc(), ANSWERS)
+    judge_answers(&rt, rt.alloc(), ANSWERS)
 }
 
 #[test]
