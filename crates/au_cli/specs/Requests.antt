@@ -1,5 +1,5 @@
 -- What a request is given by told files, what it is refused by, and what is printed for it.
-use Rattle.std.specs.Prelude.{ℕ, ◌≡◌, ◌&&◌, Bool, true, false, List, [], ◌∷◌, length, Option, Some, None, option_map, Result, Ok, Err, if◌then◌else◌, nat_lt, ⊤}
+use Rattle.std.specs.Prelude.{ℕ, ◌≡◌, ◌&&◌, Bool, true, List, [], ◌∷◌, length, Option, Some, None, option_map, Result, Ok, Err, if◌then◌else◌, nat_lt, ⊤}
 use Rattle.std.specs.Option.{option_or}
 use Rattle.au_io.specs.Files.{File}
 use Rattle.au_parse.specs.Tree.{QueryTree}
@@ -21,6 +21,8 @@ use Rattle.au_engine.specs.Answers.{IsDefect, Named, RowsHold, answer_fits, answ
 use Rattle.au_engine.specs.Certainty.{UaHolds, ua_answer_fits, ua_rows}
 use Rattle.au_engine.specs.Exchange.{IsPlanText}
 use Rattle.au_words.specs.Words.{Request}
+use Rattle.au_words.specs.declared.answer_form.Form.{Form}
+use Rattle.au_words.specs.declared.answer_form.Form.TheVariants as form
 use Rattle.au_words.specs.declared.words.Command.{Command}
 use Rattle.au_words.specs.declared.words.Command.TheVariants.{Answer, Direct, Guess, Ua, Rewrite}
 use Rattle.au_cli.specs.declared.outcome.Outcome.{Outcome}
@@ -100,16 +102,16 @@ given_of r files = unless_refused r files (refused_request r)
 
 -- ---- what is printed
 
-abbrev pub bounded_rows_text : Bool → List (List ℕ) → List Kind → Bounded → List ℕ
-bounded_rows_text false names kinds rows = csv_text names kinds rows
-bounded_rows_text true names kinds rows = table_text names kinds rows
+abbrev pub bounded_rows_text : Form → List (List ℕ) → List Kind → Bounded → List ℕ
+bounded_rows_text form.Csv names kinds rows = csv_text names kinds rows
+bounded_rows_text form.Table names kinds rows = table_text names kinds rows
 
 -- A text is what is printed: the bounded answer's, with `answer` from compressed products where that is asked for, or that
 -- of the ordinary answer in the guess world, or that of its rows with how often each is certain, or that of a plan which
 -- gives the bounded answer's rows over encoded tables.
 abbrev pub IsTextBy : Command → Request → List Named → QueryTree → List ℕ → Type 0
-IsTextBy Answer r ts s text = text ≡ bounded_rows_text r.table (answer_names ts s) (answer_kinds ts s) (asked_rows r.compress r.combine ts s)
-IsTextBy Direct r ts s text = text ≡ bounded_rows_text r.table (answer_names ts s) (answer_kinds ts s) (answer_rows r.combine ts s)
+IsTextBy Answer r ts s text = text ≡ bounded_rows_text r.form (answer_names ts s) (answer_kinds ts s) (asked_rows r.compress r.combine ts s)
+IsTextBy Direct r ts s text = text ≡ bounded_rows_text r.form (answer_names ts s) (answer_kinds ts s) (answer_rows r.combine ts s)
 IsTextBy Guess r ts s text = text ≡ world_text (answer_names ts s) (answer_kinds ts s) (guess_answer ts s)
 IsTextBy Ua r ts s text = text ≡ ua_text (answer_names ts s) (answer_kinds ts s) (ua_rows ts s)
 IsTextBy Rewrite r ts s text = IsPlanText ts s text

@@ -22,7 +22,7 @@ use au_parse::Statement;
 use au_print::{Answer, csv_text, csv_text_by, guess_text, table_text};
 use au_ua::ua_text;
 use au_value::{NoMemory, Word};
-use au_words::{Command, Request};
+use au_words::{Command, Form, Request};
 use std::alloc::Global;
 use std::thread::Threads;
 
@@ -55,9 +55,9 @@ pub(crate) fn answer_text<R: Threads + Sync, G: Gate + Sync>(
                 workers: request.workers,
                 compress: request.compress,
             };
-            planned_text(rt, alloc, statement, tables, options, request.table, gate)
+            planned_text(rt, alloc, statement, tables, options, request.form, gate)
         }
-        Command::Direct => direct_text(alloc, statement, tables, request.combine, request.table),
+        Command::Direct => direct_text(alloc, statement, tables, request.combine, request.form),
         Command::Guess => guess_world_text(rt, alloc, statement, tables, gate),
         Command::Ua => certain_text(rt, alloc, statement, tables, gate),
         Command::Rewrite => rewritten_text(alloc, statement, tables),
@@ -71,20 +71,20 @@ fn planned_text<R: Threads + Sync, G: Gate + Sync>(
     statement: &Statement,
     tables: &[(Word, Table)],
     options: Options,
-    table: bool,
+    form: Form,
     gate: G,
 ) -> Result<Vec<u8>, EngineFault>
     requires whole { WholeQuery (statement_tree statement.now) }
     requires workers { (1 ≤ options.workers) × (options.workers ≤ 64) }
     requires compression { IsCompression options.compress }
     ensures typed { OnOk result (statement_defects tables.now (statement_tree statement.now) ≡ []) }
-    ensures text { IfOk result (λ t. t.items ≡ bounded_rows_text table (answer_names tables.now (statement_tree statement.now)) (answer_kinds tables.now (statement_tree statement.now)) (asked_rows options.compress options.combine tables.now (statement_tree statement.now))) }
+    ensures text { IfOk result (λ t. t.items ≡ bounded_rows_text form (answer_names tables.now (statement_tree statement.now)) (answer_kinds tables.now (statement_tree statement.now)) (asked_rows options.compress options.combine tables.now (statement_tree statement.now))) }
     ensures holds { OnOk result (RowsHold tables.now (statement_tree statement.now) (asked_rows options.compress options.combine tables.now (statement_tree statement.now))) }
     ensures refused { IfErr result (AnswerCause (statement_defects tables.now (statement_tree statement.now)) (asked_fits options.compress options.combine tables.now (statement_tree statement.now))) }
 {
     let workers = options.workers;
     match answer(rt, alloc, statement, tables, options, gate) {
-        Ok(answer) => match rows_text_by(rt, alloc, workers, answer, table) {
+        Ok(answer) => match rows_text_by(rt, alloc, workers, answer, form) {
             Ok(text) => Ok(text),
             Err(NoMemory) => Err(EngineFault::NoMemory),
         },
@@ -98,17 +98,17 @@ fn direct_text(
     statement: &Statement,
     tables: &[(Word, Table)],
     combine: bool,
-    table: bool,
+    form: Form,
 ) -> Result<Vec<u8>, EngineFault>
     requires { WholeQuery (statement_tree statement.now) }
     ensures typed { OnOk result (statement_defects tables.now (statement_tree statement.now) ≡ []) }
-    ensures text { IfOk result (λ t. t.items ≡ bounded_rows_text table (answer_names tables.now (statement_tree statement.now)) (answer_kinds tables.now (statement_tree statement.now)) (answer_rows combine tables.now (statement_tree statement.now))) }
+    ensures text { IfOk result (λ t. t.items ≡ bounded_rows_text form (answer_names tables.now (statement_tree statement.now)) (answer_kinds tables.now (statement_tree statement.now)) (answer_rows combine tables.now (statement_tree statement.now))) }
     ensures holds { OnOk result (RowsHold tables.now (statement_tree statement.now) (answer_rows combine tables.now (statement_tree statement.now))) }
     ensures fits { OnOk result (answer_fits combine tables.now (statement_tree statement.now) ≡ true) }
     ensures refused { IfErr result (AnswerCause (statement_defects tables.now (statement_tree statement.now)) (answer_fits combine tables.now (statement_tree statement.now))) }
 {
     match answer_directly(alloc, statement, tables, combine) {
-        Ok(answer) => match rows_text(alloc, &answer, table) {
+        Ok(answer) => match rows_text(alloc, &answer, form) {
             Ok(text) => Ok(text),
             Err(NoMemory) => Err(EngineFault::NoMemory),
         },
@@ -117,36 +117,50 @@ fn direct_text(
 }
 
 // An answer as a table for the eye, or as CSV.
-fn rows_text(alloc: Global, answer: &Answer, table: bool) -> Result<Vec<u8>, NoMemory>
+fn rows_text(alloc: Global, answer: &Answer, form: Form) -> Result<Vec<u8>, NoMemory>
     requires columns { length answer.now.kinds.items ≡ length answer.now.names.items }
     requires rows { AllByRecursion (λ r. length r.cells ≡ length answer.now.names.items) answer.now.rows }
-    ensures { IfOk result (λ t. t.items ≡ bounded_rows_text table answer.now.names.items answer.now.kinds.items answer.now.rows) }
+    ensures { IfOk result (λ t. t.items ≡ bounded_rows_text form answer.now.names.items answer.now.kinds.items answer.now.rows) }
 {
-    if table {
-        table_text(alloc, answer)
-    } else {
-        csv_text(alloc, answer)
+    match form {
+        Form::Csv => csv_text(alloc, answer),
+        Form::Table => table_text(alloc, answer),
     }
 }
 
-// The same, where the workers write the rows as CSV. An answer of many rows is given back beside what comes next.
+// The same, where the workers write the rows as CSV.
+fn shared_text<R: Threads + Sync>(
+    rt: &R,
+    alloc: Global,
+    workers: usize,
+    answer: &Answer,
+    form: Form,
+) -> Result<Vec<u8>, NoMemory>
+    requires workers { 1 ≤ workers }
+    requires columns { length answer.now.kinds.items ≡ length answer.now.names.items }
+    requires rows { AllByRecursion (λ r. length r.cells ≡ length answer.now.names.items) answer.now.rows }
+    ensures { IfOk result (λ t. t.items ≡ bounded_rows_text form answer.now.names.items answer.now.kinds.items answer.now.rows) }
+{
+    match form {
+        Form::Csv => csv_text_by(rt, alloc, workers, answer),
+        Form::Table => table_text(alloc, answer),
+    }
+}
+
+// The same of an answer that is let go. One of many rows is given back beside what comes next.
 fn rows_text_by<R: Threads + Sync>(
     rt: &R,
     alloc: Global,
     workers: usize,
     answer: Answer,
-    table: bool,
+    form: Form,
 ) -> Result<Vec<u8>, NoMemory>
     requires workers { 1 ≤ workers }
     requires columns { length answer.kinds.items ≡ length answer.names.items }
     requires rows { AllByRecursion (λ r. length r.cells ≡ length answer.names.items) answer.rows }
-    ensures { IfOk result (λ t. t.items ≡ bounded_rows_text table answer.names.items answer.kinds.items answer.rows) }
+    ensures { IfOk result (λ t. t.items ≡ bounded_rows_text form answer.names.items answer.kinds.items answer.rows) }
 {
-    let text = if table {
-        table_text(alloc, &answer)
-    } else {
-        csv_text_by(rt, alloc, workers, &answer)
-    };
+    let text = shared_text(rt, alloc, workers, &answer, form);
     let workers = if answer.rows.rows().len() < FEW {
         1
     } else {

@@ -99,19 +99,19 @@ plain|p.sql|t=a.csv|T=b.csv| -> Err(Usage(SameTable(0, 1)))";
 
 // Options stand anywhere, a table word is cut at its first equal sign, and a command's name may be a query.
 const ASKED: &str =
-    r#"answer|Q|t=a.csv| -> Ok(Query(Request { command: Answer, table: false, combine: false, workers: 1, compress: None, query: "Q", tables: [TableWord { name: "t", path: "a.csv" }] }))
-answer|--table|Q|t=a.csv| -> Ok(Query(Request { command: Answer, table: true, combine: false, workers: 1, compress: None, query: "Q", tables: [TableWord { name: "t", path: "a.csv" }] }))
-answer|Q|--combine|t=a.csv| -> Ok(Query(Request { command: Answer, table: false, combine: true, workers: 1, compress: None, query: "Q", tables: [TableWord { name: "t", path: "a.csv" }] }))
-direct|Q|t=a.csv|--table| -> Ok(Query(Request { command: Direct, table: true, combine: false, workers: 1, compress: None, query: "Q", tables: [TableWord { name: "t", path: "a.csv" }] }))
-direct|--combine|Q|t=a.csv|--table| -> Ok(Query(Request { command: Direct, table: true, combine: true, workers: 1, compress: None, query: "Q", tables: [TableWord { name: "t", path: "a.csv" }] }))
-guess|Q|t=a.csv| -> Ok(Query(Request { command: Guess, table: false, combine: false, workers: 1, compress: None, query: "Q", tables: [TableWord { name: "t", path: "a.csv" }] }))
-answer|demo|a=b=c|--table|B=-| -> Ok(Query(Request { command: Answer, table: true, combine: false, workers: 1, compress: None, query: "demo", tables: [TableWord { name: "a", path: "b=c" }, TableWord { name: "B", path: "-" }] }))
+    r#"answer|Q|t=a.csv| -> Ok(Query(Request { command: Answer, form: Csv, combine: false, workers: 1, compress: None, query: "Q", tables: [TableWord { name: "t", path: "a.csv" }] }))
+answer|--table|Q|t=a.csv| -> Ok(Query(Request { command: Answer, form: Table, combine: false, workers: 1, compress: None, query: "Q", tables: [TableWord { name: "t", path: "a.csv" }] }))
+answer|Q|--combine|t=a.csv| -> Ok(Query(Request { command: Answer, form: Csv, combine: true, workers: 1, compress: None, query: "Q", tables: [TableWord { name: "t", path: "a.csv" }] }))
+direct|Q|t=a.csv|--table| -> Ok(Query(Request { command: Direct, form: Table, combine: false, workers: 1, compress: None, query: "Q", tables: [TableWord { name: "t", path: "a.csv" }] }))
+direct|--combine|Q|t=a.csv|--table| -> Ok(Query(Request { command: Direct, form: Table, combine: true, workers: 1, compress: None, query: "Q", tables: [TableWord { name: "t", path: "a.csv" }] }))
+guess|Q|t=a.csv| -> Ok(Query(Request { command: Guess, form: Csv, combine: false, workers: 1, compress: None, query: "Q", tables: [TableWord { name: "t", path: "a.csv" }] }))
+answer|demo|a=b=c|--table|B=-| -> Ok(Query(Request { command: Answer, form: Table, combine: false, workers: 1, compress: None, query: "demo", tables: [TableWord { name: "a", path: "b=c" }, TableWord { name: "B", path: "-" }] }))
 demo|0|1| -> Ok(Demo { start: 0, blocks: 1, workers: 1 })
 demo|1|3| -> Ok(Demo { start: 1, blocks: 3, workers: 1 })
-answer|--workers=64|Q|t=a.csv|--compress=1000| -> Ok(Query(Request { command: Answer, table: false, combine: false, workers: 64, compress: Some(1000), query: "Q", tables: [TableWord { name: "t", path: "a.csv" }] }))
+answer|--workers=64|Q|t=a.csv|--compress=1000| -> Ok(Query(Request { command: Answer, form: Csv, combine: false, workers: 64, compress: Some(1000), query: "Q", tables: [TableWord { name: "t", path: "a.csv" }] }))
 demo|4294967295|100000| -> Ok(Demo { start: 4294967295, blocks: 100000, workers: 1 })
 demo|1|3|--workers=7| -> Ok(Demo { start: 1, blocks: 3, workers: 7 })
-rewrite|Q|t=a.csv| -> Ok(Query(Request { command: Rewrite, table: false, combine: false, workers: 1, compress: None, query: "Q", tables: [TableWord { name: "t", path: "a.csv" }] }))
+rewrite|Q|t=a.csv| -> Ok(Query(Request { command: Rewrite, form: Csv, combine: false, workers: 1, compress: None, query: "Q", tables: [TableWord { name: "t", path: "a.csv" }] }))
 encode|t=a.csv| -> Ok(Encode(TableWord { name: "t", path: "a.csv" }))
 plain|p=1|t=a.csv|U=b| -> Ok(Plain { plan: "p=1", tables: [TableWord { name: "t", path: "a.csv" }, TableWord { name: "U", path: "b" }] })"#;
 

@@ -35,7 +35,7 @@ seen_table table = (table.name.now, table.path.now)
 abbrev pub seen_request : Request → words.Request
 seen_request r = record {
   command = r.command;
-  table = r.table;
+  form = r.form;
   combine = r.combine;
   workers = r.workers;
   compress = r.compress;

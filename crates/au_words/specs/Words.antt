@@ -1,6 +1,6 @@
 -- The words of a command line, without the program's name: a command, its options and its positional words.
 -- A word that begins with `-` is an option. Options stand anywhere behind the command, each at most once.
-use Rattle.std.specs.Prelude.{ℕ, ◌==◌, ◌&&◌, ◌||◌, not, Bool, List, [], ◌∷◌, ◌++◌, length, drop, map, Option, Some, None, Result, Ok, Err, if◌then◌else◌, codes, slice_index, slice_index_or, bytes_eq, nat_lt, nat_le, position, find, option_map, unwrap_or}
+use Rattle.std.specs.Prelude.{ℕ, ◌==◌, ◌&&◌, ◌||◌, not, Bool, true, false, List, [], ◌∷◌, ◌++◌, length, drop, map, Option, Some, None, Result, Ok, Err, if◌then◌else◌, codes, slice_index, slice_index_or, bytes_eq, nat_lt, nat_le, position, find, option_map, unwrap_or}
 use Rattle.std.specs.Option.{option_or}
 use Rattle.std.specs.Result.{result_err}
 use Rattle.std.specs.List.{list_all, list_any, filter, before_first, after_first}
@@ -12,6 +12,8 @@ use Rattle.au_words.specs.declared.fault.UsageFault.{UsageFault}
 use Rattle.au_words.specs.declared.fault.UsageFault.TheVariants.{Words, BadTable, SameTable}
 use Rattle.au_words.specs.declared.words.Command.{Command}
 use Rattle.au_words.specs.declared.words.Command.TheVariants.{Answer, Direct, Guess, Ua, Rewrite}
+use Rattle.au_words.specs.declared.answer_form.Form.{Form}
+use Rattle.au_words.specs.declared.answer_form.Form.TheVariants.{Csv, Table}
 use Rattle.au_words.specs.declared.words.form.Verb.{Verb}
 use Rattle.au_words.specs.declared.words.form.Verb.TheVariants as verb
 
@@ -104,10 +106,15 @@ table_fault words =
 
 -- ---- what is asked
 
+-- the form of a bounded answer, by whether a table is asked for
+abbrev pub form_asked : Bool → Form
+form_asked false = Csv
+form_asked true = Table
+
 -- the answer of a query over tables, each with a name and a path
 pub record Request : Type 0 where
   pub command : Command
-  pub table : Bool
+  pub form : Form
   pub combine : Bool
   pub workers : ℕ
   pub compress : Option ℕ
@@ -166,7 +173,7 @@ later_words words = drop 1 (positionals words)
 abbrev pub request_of : Command → List Text → Request
 request_of command words = record {
   command = command;
-  table = list_any (bytes_eq (codes "--table")) words;
+  form = form_asked (list_any (bytes_eq (codes "--table")) words);
   combine = list_any (bytes_eq (codes "--combine")) words;
   workers = unwrap_or (number_of (codes "--workers") words) 1;
   compress = number_of (codes "--compress") words;

@@ -14,8 +14,10 @@
 //! ```
 #![tactic(auto)]
 
+mod answer_form;
 mod fault;
 mod words;
 
+pub use answer_form::Form;
 pub use fault::UsageFault;
 pub use words::{Asked, Command, CommandLine, Request, TableWord, WordsFault};

@@ -9,6 +9,7 @@ mod numbers;
 mod reader;
 mod table_words;
 
+use crate::answer_form::Form;
 use crate::fault::UsageFault;
 use crate::words::asking::read_words;
 use au_value::{NoMemory, Word};
@@ -51,13 +52,13 @@ pub struct Request<'a> {
     /// The command.
     pub command: Command,
 
-    /// Whether the answer is printed as an aligned table.
-    pub table: bool,
+    /// The form of the bounded answer.
+    pub form: Form,
 
     /// Whether the rows of the answer are combined.
     pub combine: bool,
 
-    /// How many workers a join is split among, 1 to 64.
+    /// How many workers share the work, 1 to 64.
     pub workers: usize,
 
     /// To how many rows each side of a join is compressed, 1 to 1,000, if that is asked for.
@@ -84,7 +85,7 @@ pub enum Asked<'a> {
         /// The number of blocks.
         blocks: u32,
 
-        /// How many workers a join is split among, 1 to 64.
+        /// How many workers share the work, 1 to 64.
         workers: usize,
     },
 

@@ -2,11 +2,12 @@
 ghost use Rattle.std.specs.Prelude.{◌≡◌, ◌<◌, None, Some, Ok, Err, codes, drop, length, map, option_and_then, unwrap_or, if◌then◌else◌, IfOk, IfErr, MatchOption};
 ghost use Rattle.std.specs.Str.Parse.{digits_value};
 ghost use Rattle.clap.specs.Words.{first_of, found_of, rows_of};
-ghost use Rattle.au_words.specs.Words.{asked_by, asked_of, first_word, is_number, later_words, positionals, request_of, table_fault, named_path};
+ghost use Rattle.au_words.specs.Words.{asked_by, asked_of, first_word, form_asked, is_number, later_words, positionals, request_of, table_fault, named_path};
 ghost use Rattle.au_words.specs.CommandLine.{HasForm, IsUsage, seen, seen_request, seen_table, texts};
 ghost use Rattle.au_words.specs.declared.fault.UsageFault.TheVariants.{Words};
 ghost use Rattle.au_words.specs.declared.words.form.Verb.TheVariants as verb;
 
+use crate::answer_form::Form;
 use crate::fault::UsageFault;
 use crate::words::form::{MAX_COMPRESS, MAX_WORKERS, Verb, is_form, verb_of};
 use crate::words::numbers::read_number;
@@ -29,6 +30,13 @@ fn workers_at(matches: &ArgMatches<'_>) -> usize
     }
 }
 
+// The form of an answer, by whether a table is asked for.
+fn form_asked(table: bool) -> Form
+    ensures { result ≡ form_asked table }
+{
+    if table { Form::Table } else { Form::Csv }
+}
+
 // Reads a query's words, of its form.
 fn read_query<'a>(
     alloc: Global,
@@ -43,7 +51,7 @@ fn read_query<'a>(
     let Ok(matches) = matches_of(alloc, Verb::Query(command), words) else {
         return Err(WordsFault::NoMemory);
     };
-    let table = has_flag(&matches, "table");
+    let form = form_asked(has_flag(&matches, "table"));
     let combine = has_flag(&matches, "combine");
     let workers = workers_at(&matches);
     let compress = number_at(&matches, "compress", MAX_COMPRESS);
@@ -51,7 +59,7 @@ fn read_query<'a>(
     match read_tables(alloc, texts_at(&matches, "LATER")) {
         Ok(tables) => Ok(Request {
             command,
-            table,
+            form,
             combine,
             workers,
             compress,
