@@ -11,7 +11,7 @@ use Rattle.au_words.specs.declared.words.form.Verb.TheVariants as verb
 use Rattle.au_words.specs.CommandLine.{HasForm}
 use Rattle.au_words.specs.Words as words
 use Rattle.au_value.specs.Texts.{Text}
-use Rattle.au_words.specs.Words.{Asked, asked_by, asked_of, asked_of_verb, first_word, is_form, is_number, is_plain, later_words, number_of, positionals, request_of, table_fault, named_path, unless, option_value, verb_of}
+use Rattle.au_words.specs.Words.{Asked, asked_by, asked_of, asked_of_verb, first_word, greatest_workers, is_form, is_number, is_plain, later_words, number_of, positionals, request_of, table_fault, named_path, unless, option_value, verb_of}
 use Rattle.au_words.proofs.AskedWords.{compress_read, read, workers_read}
 
 -- ---- a number that is read lies in its range
@@ -41,9 +41,9 @@ compressed (Some n) h = h n refl
 
 -- ---- the options of words of a command's form
 
-workers_range : (v : Verb) (all : List Text) → HasForm v all → (1 ≤ unwrap_or (number_of (codes "--workers") (drop 1 all)) 1) × (unwrap_or (number_of (codes "--workers") (drop 1 all)) 1 ≤ 64)
+workers_range : (v : Verb) (all : List Text) → HasForm v all → (1 ≤ unwrap_or (number_of (codes "--workers") (drop 1 all)) 1) × (unwrap_or (number_of (codes "--workers") (drop 1 all)) 1 ≤ greatest_workers)
 workers_range v all form =
-    or_one 64 (number_of (codes "--workers") (drop 1 all)) (omega arith) (λ n e. found_range 64 (option_value (codes "--workers") (drop 1 all)) n (workers_read v all form ∙ e))
+    or_one greatest_workers (number_of (codes "--workers") (drop 1 all)) (omega arith) (λ n e. found_range greatest_workers (option_value (codes "--workers") (drop 1 all)) n (workers_read v all form ∙ e))
 
 compress_range : (v : Verb) (all : List Text) → HasForm v all → IsCompression (number_of (codes "--compress") (drop 1 all))
 compress_range v all form =
@@ -71,8 +71,8 @@ has_form (word ∷ rest) asked h = by_verb word rest (verb_of word) asked refl h
 
 -- the numbers of what is asked lie in their ranges
 abbrev pub AreInRange : Asked → Type 0
-AreInRange (words.query r) = ((1 ≤ r.workers) × (r.workers ≤ 64)) × IsCompression r.compress
-AreInRange (words.demo start blocks workers) = ((1 ≤ blocks) × (blocks ≤ 100000)) × (1 ≤ workers) × (workers ≤ 64)
+AreInRange (words.query r) = ((1 ≤ r.workers) × (r.workers ≤ greatest_workers)) × IsCompression r.compress
+AreInRange (words.demo start blocks workers) = ((1 ≤ blocks) × (blocks ≤ 100000)) × (1 ≤ workers) × (workers ≤ greatest_workers)
 AreInRange (words.encode table) = Unit {0}
 AreInRange (words.plain plan tables) = Unit {0}
 

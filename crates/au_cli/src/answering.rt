@@ -11,6 +11,7 @@ ghost use Rattle.au_engine.specs.Compressing.{IsCompression};
 ghost use Rattle.au_engine.specs.Certainty.{UaHolds, ua_answer_fits, ua_rows};
 ghost use Rattle.au_cli.specs.Requests.{FitsBy, HoldsBy, IsTextBy, fit_by, refused_place, bounded_rows_text};
 ghost use Rattle.au_words.specs.CommandLine.{seen_request};
+ghost use Rattle.au_words.specs.Words.{greatest_workers};
 
 use au_blocks::Table;
 use au_engine::{
@@ -38,7 +39,7 @@ pub(crate) fn answer_text<R: Threads + Sync, G: Gate + Sync>(
     tables: &[(Word, Table)],
     gate: G,
 ) -> Result<Vec<u8>, EngineFault>
-    requires workers { (1 ≤ request.now.workers) × (request.now.workers ≤ 64) }
+    requires workers { (1 ≤ request.now.workers) × (request.now.workers ≤ greatest_workers) }
     requires compression { IsCompression request.now.compress }
     requires whole { WholeQuery (statement_tree statement.now) }
     requires taken { refused_place request.now.command (statement_tree statement.now) ≡ None }
@@ -75,7 +76,7 @@ fn planned_text<R: Threads + Sync, G: Gate + Sync>(
     gate: G,
 ) -> Result<Vec<u8>, EngineFault>
     requires whole { WholeQuery (statement_tree statement.now) }
-    requires workers { (1 ≤ options.workers) × (options.workers ≤ 64) }
+    requires workers { (1 ≤ options.workers) × (options.workers ≤ greatest_workers) }
     requires compression { IsCompression options.compress }
     ensures typed { OnOk result (statement_defects tables.now (statement_tree statement.now) ≡ []) }
     ensures text { IfOk result (λ t. t.items ≡ bounded_rows_text form (answer_names tables.now (statement_tree statement.now)) (answer_kinds tables.now (statement_tree statement.now)) (asked_rows options.compress options.combine tables.now (statement_tree statement.now))) }

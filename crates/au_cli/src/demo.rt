@@ -7,6 +7,7 @@ ghost use Rattle.au_gen.specs.Generator.{text as text_of};
 ghost use Rattle.au_print.specs.DemoTexts.{demo_text as lines_of};
 ghost use Rattle.au_engine.specs.Answers.{RowsHold, answer_fits, answer_rows, statement_defects};
 ghost use Rattle.au_engine.specs.Reading.{statement_of};
+ghost use Rattle.au_words.specs.Words.{greatest_workers};
 ghost use Rattle.au_cli.specs.Demo.{Demonstrates, demo_name, demo_query};
 
 use au_blocks::{Table, TableFault, read_table_by};
@@ -99,7 +100,7 @@ fn answered<R: Threads + Sync, G: Gate + Sync>(
     workers: usize,
     gate: G,
 ) -> Result<Answer, EvalFault>
-    requires workers { (1 ≤ workers) × (workers ≤ 64) }
+    requires workers { (1 ≤ workers) × (workers ≤ greatest_workers) }
     requires whole { WholeQuery (statement_tree statement.now) }
     requires typed { statement_defects ((demo_name, table) ∷ []) (statement_tree statement.now) ≡ [] }
     ensures rows { IfOk result (λ a. a.rows ≡ answer_rows false ((demo_name, table) ∷ []) (statement_tree statement.now)) }
@@ -138,7 +139,7 @@ pub(crate) fn demonstration<R: Threads + Sync, G: Gate + Sync>(
 ) -> Result<Vec<u8>, EvalFault>
     requires some { 1 ≤ blocks }
     requires few { blocks ≤ 100000 }
-    requires workers { (1 ≤ workers) × (workers ≤ 64) }
+    requires workers { (1 ≤ workers) × (workers ≤ greatest_workers) }
     ensures text { IfOk result (λ v. Demonstrates start blocks (λ ts s. v.items ≡ lines_of (answer_rows false ts s))) }
     ensures holds { OnOk result (Demonstrates start blocks (λ ts s. RowsHold ts s (answer_rows false ts s))) }
     ensures overflow { result ≡ Err EvalFault.Overflow → Demonstrates start blocks (λ ts s. answer_fits false ts s ≡ false) }

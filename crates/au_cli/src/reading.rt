@@ -3,6 +3,7 @@ ghost use Rattle.std.specs.Prelude.{◌≡◌, ◌≤◌, ◌<◌, ◌+◌, ℕ,
 ghost use Rattle.std.specs.Io.KnownBytes.{Consumes};
 ghost use Rattle.au_io.specs.Counts.{Rose};
 ghost use Rattle.au_io.specs.Files.{Lacks, Opens, bytes_at};
+ghost use Rattle.au_cli.specs.Files.{greatest_size};
 
 use au_io::{Shelf, StartFault};
 use std::alloc::Global;
@@ -70,12 +71,12 @@ fn read_to_end<S: Shelf>(
     ensures files { S.files shelf.new ≡ S.files shelf.old }
     ensures counts { (S.faults shelf.old ≤ S.faults shelf.new) × (S.absences shelf.old ≤ S.absences shelf.new) }
 
-    ensures size { IfOk result (λ bytes. vec_len bytes ≤ 8388608) }
+    ensures size { IfOk result (λ bytes. vec_len bytes ≤ greatest_size) }
     ensures read { IfOk result (λ bytes. IfSome (S.left shelf.old) (λ left. left ≡ bytes.items)) }
 
     ensures failed { IsErrOf result ReadingFault.Failed → Rose (S.faults shelf.old) (S.faults shelf.new) }
-    ensures too_large { IsErrOf result ReadingFault.TooLarge → IfSome (S.left shelf.old) (λ left. 8388608 < length left) }
-    ensures taken { IsErrOf result ReadingFault.TooLarge → IfSome (S.left shelf.old) (λ left. S.left shelf.new ≡ Some (drop 8388609 left)) }
+    ensures too_large { IsErrOf result ReadingFault.TooLarge → IfSome (S.left shelf.old) (λ left. greatest_size < length left) }
+    ensures taken { IsErrOf result ReadingFault.TooLarge → IfSome (S.left shelf.old) (λ left. S.left shelf.new ≡ Some (drop (greatest_size + 1) left)) }
     ensures not_absent { ¬ IsErrOf result ReadingFault.Absent }
 {
     let mut bytes = Vec::new(alloc);
@@ -94,12 +95,12 @@ fn read_started<S: Shelf>(alloc: Global, shelf: &mut S) -> Result<Vec<u8>, Readi
     ensures files { S.files shelf.new ≡ S.files shelf.old }
     ensures counts { (S.faults shelf.old ≤ S.faults shelf.new) × (S.absences shelf.old ≤ S.absences shelf.new) }
 
-    ensures size { IfOk result (λ bytes. vec_len bytes ≤ 8388608) }
+    ensures size { IfOk result (λ bytes. vec_len bytes ≤ greatest_size) }
     ensures read { IfOk result (λ bytes. IfSome (S.left shelf.old) (λ left. left ≡ bytes.items)) }
 
     ensures failed { IsErrOf result ReadingFault.Failed → Rose (S.faults shelf.old) (S.faults shelf.new) }
-    ensures too_large { IsErrOf result ReadingFault.TooLarge → IfSome (S.left shelf.old) (λ left. 8388608 < length left) }
-    ensures taken { IsErrOf result ReadingFault.TooLarge → IfSome (S.left shelf.old) (λ left. S.left shelf.new ≡ Some (drop 8388609 left)) }
+    ensures too_large { IsErrOf result ReadingFault.TooLarge → IfSome (S.left shelf.old) (λ left. greatest_size < length left) }
+    ensures taken { IsErrOf result ReadingFault.TooLarge → IfSome (S.left shelf.old) (λ left. S.left shelf.new ≡ Some (drop (greatest_size + 1) left)) }
     ensures not_absent { ¬ IsErrOf result ReadingFault.Absent }
 {
     let Ok(mut buffer) = vec![in alloc; 0u8; PIECE] else {
@@ -136,13 +137,13 @@ pub fn read_file<S: Shelf>(
     ensures files { S.files shelf.new ≡ S.files shelf.old }
     ensures counts { (S.faults shelf.old ≤ S.faults shelf.new) × (S.absences shelf.old ≤ S.absences shelf.new) }
 
-    ensures size { IfOk result (λ bytes. vec_len bytes ≤ 8388608) }
+    ensures size { IfOk result (λ bytes. vec_len bytes ≤ greatest_size) }
     ensures read { IfOk result (λ bytes. IfSome (S.files shelf.old) (λ files. bytes_at files path.now ≡ Some bytes.items)) }
 
     ensures absent { IsErrOf result ReadingFault.Absent → Rose (S.absences shelf.old) (S.absences shelf.new) × Lacks (S.files shelf.old) path.now }
     ensures failed { IsErrOf result ReadingFault.Failed → Rose (S.faults shelf.old) (S.faults shelf.new) }
-    ensures too_large { IsErrOf result ReadingFault.TooLarge → IfSome (S.files shelf.old) (λ files. IsSomeAnd (bytes_at files path.now) (λ bytes. 8388608 < length bytes)) }
-    ensures taken { IsErrOf result ReadingFault.TooLarge → IfSome (S.files shelf.old) (λ files. IsSomeAnd (bytes_at files path.now) (λ bytes. S.left shelf.new ≡ Some (drop 8388609 bytes))) }
+    ensures too_large { IsErrOf result ReadingFault.TooLarge → IfSome (S.files shelf.old) (λ files. IsSomeAnd (bytes_at files path.now) (λ bytes. greatest_size < length bytes)) }
+    ensures taken { IsErrOf result ReadingFault.TooLarge → IfSome (S.files shelf.old) (λ files. IsSomeAnd (bytes_at files path.now) (λ bytes. S.left shelf.new ≡ Some (drop (greatest_size + 1) bytes))) }
 {
     start_file(alloc, shelf, path)?;
     read_started(alloc, shelf)

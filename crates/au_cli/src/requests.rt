@@ -5,6 +5,7 @@ ghost use Rattle.au_parse.specs.Whole.{WholeQuery};
 ghost use Rattle.au_engine.specs.Compressing.{IsCompression};
 ghost use Rattle.au_engine.specs.Reading.{TextCause, refused_text, statement_of};
 ghost use Rattle.au_words.specs.CommandLine.{seen_request};
+ghost use Rattle.au_words.specs.Words.{greatest_workers};
 ghost use Rattle.au_cli.specs.Causes.{ToldGive, IsRead, IsRefusedBefore, RequestCause, StatementCause};
 ghost use Rattle.au_cli.specs.Requests.{IsAnswer, ended as ended_of, refused_place as refused_place_of, refused_request};
 
@@ -29,7 +30,7 @@ pub(crate) fn request_text<R: Threads + Sync, S: Shelf, G: Gate + Sync>(
     request: &Request<'_>,
     gate: G,
 ) -> Result<Vec<u8>, Outcome>
-    requires workers { (1 ≤ request.now.workers) × (request.now.workers ≤ 64) }
+    requires workers { (1 ≤ request.now.workers) × (request.now.workers ≤ greatest_workers) }
     requires compression { IsCompression request.now.compress }
     ensures text { IfOk result (λ t. IsRead (seen_request request.now) × ToldGive (S.files shelf.old) (seen_request request.now) (IsAnswer (seen_request request.now) t.items)) }
     ensures refused { IfErr result (RequestCause (seen_request request.now) (S.files shelf.old) (S.faults shelf.old) (S.faults shelf.new) (S.absences shelf.old) (S.absences shelf.new)) }
@@ -82,7 +83,7 @@ fn statement_text<R: Threads + Sync, S: Shelf, G: Gate + Sync>(
     statement: &Statement,
     gate: G,
 ) -> Result<Vec<u8>, Outcome>
-    requires workers { (1 ≤ request.now.workers) × (request.now.workers ≤ 64) }
+    requires workers { (1 ≤ request.now.workers) × (request.now.workers ≤ greatest_workers) }
     requires compression { IsCompression request.now.compress }
     requires whole { WholeQuery (statement_tree statement.now) }
     requires allowed { refused_request (seen_request request.now) ≡ None }

@@ -4,7 +4,7 @@ ghost use Rattle.std.specs.Io.KnownBytes.{Appends};
 ghost use Rattle.au_io.specs.Counts.{Rose};
 ghost use Rattle.au_io.specs.Files.{AppendsFront, File};
 ghost use Rattle.au_words.specs.declared.fault.UsageFault.{UsageFault};
-ghost use Rattle.au_words.specs.Words.{asked_of, first_usage_fault};
+ghost use Rattle.au_words.specs.Words.{asked_of, first_usage_fault, greatest_workers};
 ghost use Rattle.au_cli.specs.Lines.{fault_text};
 ghost use Rattle.au_engine.specs.declared.faults.QueryFault.TheVariants.{NotPositive};
 ghost use Rattle.au_cli.specs.Causes.{AskedCause, AskedNotPositive, DemoCause, Ends, IsAskedText, LinePut, PrintsAsked, PrintsAskedFront, TextPut, DemoText, fault_counts};
@@ -154,7 +154,7 @@ fn demo_text<R: Threads + Sync, G: Gate + Sync>(
 ) -> Result<Vec<u8>, Outcome>
     requires some { 1 ≤ blocks }
     requires few { blocks ≤ 100000 }
-    requires workers { (1 ≤ workers) × (workers ≤ 64) }
+    requires workers { (1 ≤ workers) × (workers ≤ greatest_workers) }
     ensures text { IfOk result (λ text. Demonstrates start blocks (λ ts s. text.items ≡ DemoText ts s)) }
     ensures refused { IfErr result (DemoCause start blocks) }
 {

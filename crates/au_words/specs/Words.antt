@@ -47,6 +47,10 @@ is_option word = slice_index word 0 == 45
 abbrev pub positionals : List Text → List Text
 positionals words = filter (λ word. not (is_option word)) words
 
+-- the greatest number of workers
+abbrev pub greatest_workers : ℕ
+greatest_workers = 64
+
 -- an option stands alone, or has a number from 1 on behind `=`: its name, and the greatest such number
 abbrev pub OptionWord : Type 0
 OptionWord = Text × Option ℕ
@@ -63,7 +67,7 @@ abbrev pub is_taken : List OptionWord → Text → Bool
 is_taken taken word = not (is_option word) || list_any (λ option. is_written option word) taken
 
 abbrev pub all_options : List OptionWord
-all_options = (codes "--table", None) ∷ (codes "--combine", None) ∷ (codes "--workers", Some 64) ∷ (codes "--compress", Some 1000) ∷ []
+all_options = (codes "--table", None) ∷ (codes "--combine", None) ∷ (codes "--workers", Some greatest_workers) ∷ (codes "--compress", Some 1000) ∷ []
 
 -- whether the options are among these, each at most once
 abbrev pub are_options : List OptionWord → List Text → Bool
@@ -152,7 +156,7 @@ verb_of word =
 abbrev pub options_of : Verb → List OptionWord
 options_of (verb.Query Answer) = all_options
 options_of (verb.Query Direct) = (codes "--table", None) ∷ (codes "--combine", None) ∷ []
-options_of verb.Demo = (codes "--workers", Some 64) ∷ []
+options_of verb.Demo = (codes "--workers", Some greatest_workers) ∷ []
 options_of _ = []
 
 -- whether there are so many positional words as a command takes: two numbers, a table, or a first word and tables

@@ -2,7 +2,7 @@
 ghost use Rattle.std.specs.Prelude.{◌≡◌, ◌<◌, None, Some, Ok, Err, codes, drop, length, map, option_and_then, unwrap_or, if◌then◌else◌, IfOk, IfErr, MatchOption};
 ghost use Rattle.std.specs.Str.Parse.{digits_value};
 ghost use Rattle.clap.specs.Words.{first_of, found_of, rows_of};
-ghost use Rattle.au_words.specs.Words.{asked_by, asked_of, first_word, form_asked, is_number, later_words, positionals, request_of, table_fault, named_path};
+ghost use Rattle.au_words.specs.Words.{asked_by, asked_of, first_word, form_asked, greatest_workers, is_number, later_words, positionals, request_of, table_fault, named_path};
 ghost use Rattle.au_words.specs.CommandLine.{HasForm, IsUsage, seen, seen_request, seen_table, texts};
 ghost use Rattle.au_words.specs.declared.fault.UsageFault.TheVariants.{Words};
 ghost use Rattle.au_words.specs.declared.words.form.Verb.TheVariants as verb;
@@ -22,7 +22,7 @@ const MAX_BLOCKS: u32 = 100_000;
 
 // The number of workers, which is 1 where the option was not given.
 fn workers_at(matches: &ArgMatches<'_>) -> usize
-    ensures { result ≡ unwrap_or (option_and_then (λ text. if is_number 1 64 text then Some (digits_value 10 text) else None) (first_of (codes "workers") (rows_of (found_of matches.now)))) 1 }
+    ensures { result ≡ unwrap_or (option_and_then (λ text. if is_number 1 greatest_workers text then Some (digits_value 10 text) else None) (first_of (codes "workers") (rows_of (found_of matches.now)))) 1 }
 {
     match number_at(matches, "workers", MAX_WORKERS) {
         Some(workers) => workers as usize,

@@ -2,6 +2,7 @@
 use Rattle.std.proofs.Common.{◌≡◌, ◌∙◌, ◌∷◌, ◌++◌, ◌+◌, [], ℕ, List, Option, Some, None, ap, sym, refl, drop, length, arith}
 use Rattle.std.specs.Prelude.{IfSome}
 use Rattle.std.specs.Io.KnownBytes.{Consumes}
+use Rattle.au_cli.specs.Files.{greatest_size}
 use Rattle.au_cli.proofs.reading.read_to_end.Goals as goal
 
 rest_of : (bytes rest : List ℕ) → drop (length bytes) (bytes ++ rest) ≡ rest
@@ -16,5 +17,5 @@ taken n (Some left) (Some rest) bytes consumed size = rw (consumed, ← size) (a
 pub returns-clause-taken : goal.returns-clause-taken
 returns-clause-taken g c is =
     let end = c.loop-bytes in
-    let size : length end.bytes.items ≡ 8388609 = grind (arith, end.invariant.size, end.bytes.ok.0) in
-    taken 8388609 _ _ end.bytes.items end.invariant.so_far size
+    let size : length end.bytes.items ≡ greatest_size + 1 = grind (arith, end.invariant.size, end.bytes.ok.0) in
+    taken (greatest_size + 1) _ _ end.bytes.items end.invariant.so_far size
