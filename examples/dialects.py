@@ -58,12 +58,13 @@ class PostgreSQL:
 
     def ranges_meet(self, kind, ends, others):
         """Returns a test whether two ranges overlap that an index over ranges serves."""
-        return f"{self.span(kind, *ends)} && {self.span(kind, *others)}"
+        return f"{self.span(kind, *ends)} && {self.span(kind, *others)} AND {ends[0]} <= {others[1]} AND {others[0]} <= {ends[1]}"
 
     def span(self, kind, low, high):
-        """Returns a range of a kind."""
-        name = f"{self.schema}textrange" if kind == "text" else "numrange"
-        return f"{name}({low}::integer, {high}::integer, '[]')" if kind == "flag" else f"{name}({low}, {high}, '[]')"
+        """Returns a range of a kind, from one end to the other also where the upper one is less: such pairs meet within it."""
+        name, cast = f"{self.schema}textrange" if kind == "text" else "numrange", "::integer" if kind == "flag" else ""
+        ends = f"{low}{cast}, {high}{cast}"
+        return f"{name}(LEAST({ends}), GREATEST({ends}), '[]')"
 
     def span_index(self, table, ranges):
         """Returns the statement for an index over ranges of these kinds and ends."""

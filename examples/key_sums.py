@@ -3,7 +3,7 @@
 What a row adds to a box depends on the box through tests on its keys alone. So rows of equal keys are aggregated first, once for each
 outcome of the tests, and each box then chooses among the sums by the tests.
 """
-from plan_terms import FALSE, TRUE, Overlap, columns, folded, kind, mapped, overlaps, replaced, size, tests
+from plan_terms import FALSE, TRUE, Overlap, columns, conjuncts, folded, kind, mapped, overlaps, replaced, size, tests
 from plan_text import Column, Columns, Extend, Join, Literal
 
 LARGE = 20_000
@@ -23,7 +23,7 @@ class KeySums:
         self.join, terms = self.reached(node, [Column("", place) for _, place in wanted])
         width = self.join.left.width
         terms = [mapped(term, lambda c: Column("x", c.place) if c.place < width else Column("y", c.place - width)) for term in terms]
-        pairs, rest = overlaps(self.join.on)
+        pairs, rest = overlaps(conjuncts(self.join.on))
         self.keyed = sorted({low.place + i for _, (low, _) in pairs for i in range(3)} if self.are_columns(pairs) else ())
         self.left = {Column("x", place) for place in range(width)}
         self.inside = self.left | {Column("y", place) for place in self.keyed}

@@ -1,4 +1,4 @@
-"""What is asked of the terms of a plan: their columns, kinds and sizes, the ranges that a condition compares, and the tests in them."""
+"""What is asked of the terms of a plan: their columns, kinds and sizes, the ranges that conditions compare, and the tests in them."""
 from plan_text import Call, Case, Column, Literal, One, Truth, Two
 
 TRUE, FALSE = Truth("TRUE"), Truth("FALSE")
@@ -60,13 +60,6 @@ def conjuncts(term):
     return [] if term == TRUE else [term]
 
 
-def clauses(term):
-    """Returns the conjuncts of a condition, each test whether ranges overlap as one."""
-    if is_both(term) and not (is_at_most(term.left) and is_at_most(term.right)):
-        return clauses(term.left) + clauses(term.right)
-    return [] if term == TRUE else [term]
-
-
 def side(term):
     """Returns the one side of a join whose columns a term has, or ''."""
     sides = {column.side for column in columns(term)}
@@ -77,20 +70,37 @@ class Overlap(tuple):
     """Asks whether two ranges overlap: (lo, hi) of the left rows, (lo, hi) of the right ones."""
 
 
-def overlaps(term):
-    """Returns the tests of a condition's conjunction that ask whether a range of x and one of y overlap, and the conjuncts that
-    remain."""
-    if not is_both(term):
-        return [], conjuncts(term)
-    left, right = term.left, term.right
-    if is_at_most(left) and is_at_most(right):
-        sides = "".join(map(side, (left.left, left.right, right.left, right.right)))
-        if sides == "xyyx":
-            return [Overlap(((left.left, right.right), (right.left, left.right)))], []
-        if sides == "yxxy":
-            return [Overlap(((right.left, left.right), (left.left, right.right)))], []
-    (pairs, rest), (more, others) = overlaps(left), overlaps(right)
-    return pairs + more, rest + others
+def overlaps(terms):
+    """Returns the tests among conjuncts that ask whether a range of x and one of y overlap, each made of two of them, and the
+    conjuncts that remain. Any two make one: which are taken for the ends of a range is a matter of speed."""
+    found, rest = [], list(terms)
+    halves = [(one, other) for one in terms for other in terms if (half(one), half(other)) == ("xy", "yx")]
+    for one, other in [each for each in halves if are_of_columns(*each)] + [each for each in halves if are_beside(terms, *each)]:
+        if one in rest and other in rest:
+            found.append(Overlap(((one.left, other.right), (other.left, one.right))))
+            rest.remove(one)
+            rest.remove(other)
+    return found, rest
+
+
+def half(term):
+    """Returns the sides of a comparison between both sides of a join, or ''."""
+    sides = (side(term.left), side(term.right)) if is_at_most(term) else ()
+    return "".join(sides) if all(sides) else ""
+
+
+def are_of_columns(one, other):
+    """Whether two comparisons are of two ranges whose ends are columns, each upper end two places behind its lower one."""
+    return is_range(one.left, other.right) and is_range(other.left, one.right)
+
+
+def is_range(low, high):
+    return isinstance(low, Column) and high == Column(low.side, low.place + 2)
+
+
+def are_beside(terms, one, other):
+    """Whether two comparisons stand beside each other, and of their ends not all are columns."""
+    return abs(terms.index(one) - terms.index(other)) == 1 and not all(isinstance(end, Column) for end in (*one[1:], *other[1:]))
 
 
 def folded(term):

@@ -1,8 +1,9 @@
 """Writes a plan as several statements of SQL: the same rows, for tables past what its one text is for.
 
 - Parts of the plan that are read more than once, and the sides of a join of ranges, are made once, as tables.
-- A join whose condition asks that ranges overlap becomes four, no pair in two of them: sure with sure by equality, sure with unsure
-  by BETWEEN over an ordinary index, twice, and unsure with unsure over an index of the unsure rows alone.
+- A join whose condition asks that ranges overlap, also one that the plan has in three parts (split_joins.py), becomes four, no pair
+  in two of them: sure with sure by equality, sure with unsure by BETWEEN over an ordinary index, twice, and unsure with unsure over
+  an index of the unsure rows alone.
 - The rows that a grouping or a difference joins with its boxes are first summed by the ranges of their keys (key_sums.py).
 - A grouping of one table whose rows lie on several servers is done on each of them first.
 - A term that becomes large where a database writes it out instead of its name is fenced.
@@ -10,8 +11,9 @@
 import collections
 
 from key_sums import KeySums, NoSums
-from plan_terms import clauses, columns, kind, mapped, overlaps, size
+from plan_terms import columns, conjuncts, kind, mapped, overlaps, size
 from plan_text import Column, Columns, Extend, Filter, Group, Join, Scan, Union, Values
+from split_joins import rejoined
 
 LARGE = 200
 
@@ -58,7 +60,7 @@ class SplitPlan:
 
     def last(self, plan):
         """Returns the text of the last statement, which gives the plan's rows. The others are `statements`, in order."""
-        return self.dialect.whole(self.text(plan))
+        return self.dialect.whole(self.text(rejoined(plan)))
 
     # What is known of an operator's columns.
 
@@ -159,7 +161,7 @@ class SplitPlan:
         """Returns the text of an operator that works row by row. The conditions hold below it in its own terms."""
         below = node.child.width
         if isinstance(node, Filter):
-            text = self.text(node.child, self.kept([*conditions, *clauses(node.on)]))
+            text = self.text(node.child, self.kept([*conditions, *conjuncts(node.on)]))
             return f"SELECT * FROM {self.dialect.source(text)} x WHERE {self.dialect.show(node.on)}"
         if isinstance(node, Columns):
             down = [mapped(term, lambda column: Column("", node.places[column.place])) for term in conditions]
@@ -171,22 +173,22 @@ class SplitPlan:
 
     def kept(self, conditions):
         """Returns the conjuncts of conditions that are small enough to be looked at below."""
-        return [part for term in conditions for part in clauses(term) if size(part) <= LARGE]
+        return [part for term in conditions for part in conjuncts(term) if size(part) <= LARGE]
 
     # Joins.
 
     def join(self, node, conditions):
         """Returns the text of a join, split where its own condition or one above asks that ranges overlap."""
         left, right = node.left, node.right
-        down, pairs = {"x": [], "y": []}, []
-        found, rest = overlaps(node.on)
+        down, own, above = {"x": [], "y": []}, conjuncts(node.on), []
         for term in [sided(term, left.width) for term in conditions]:
             sides = {column.side for column in columns(term)}
             if len(sides) == 1:
                 down[sides.pop()].append(bare(term))
             else:
-                pairs += overlaps(term)[0]
-        pairs = list(dict.fromkeys(found + pairs))
+                above.append(term)
+        pairs, rest = overlaps(list(dict.fromkeys(own + above)))
+        rest = [term for term in rest if term in own]
         head = numbered([*names(left.width, "x.").split(", "), *names(right.width, "y.").split(", ")])
         if not pairs:
             texts = [self.dialect.source(self.text(*each)) for each in ((left, down["x"]), (right, down["y"]))]
