@@ -11,6 +11,11 @@ END_OF_COPY = re.compile(rb"(?:\A|[\r\n])\\\.(?:[\r\n]|\Z)")
 ESCAPES = str.maketrans({"\\": "\\\\", "\t": "\\t", "\n": "\\n", "\r": "\\r"})
 
 
+def opening(bare):
+    """Returns the quote that opens a field in bytes whose other quoted fields have letters in their place, or None."""
+    return OPEN.search(bare) if b'"' in bare else None
+
+
 class Misread(Refused):
     """What COPY would read otherwise than `audb`."""
 
@@ -45,7 +50,7 @@ class Pieces:
     @staticmethod
     def cut(bare):
         """Returns the end of the last whole record. The last byte may be the half of a line end, and a quoted field may go on."""
-        opened = OPEN.search(bare)
+        opened = opening(bare)
         last = opened.start() if opened else len(bare) - 1
         return max(bare.rfind(b"\n", 0, last), bare.rfind(b"\r", 0, last)) + 1
 
@@ -53,9 +58,9 @@ class Pieces:
         """Refuses what COPY would read otherwise."""
         if b"\0" in data:
             raise Misread("a zero byte")
-        if END_OF_COPY.search(data):
+        if b"\\." in data and END_OF_COPY.search(data):
             raise Misread("a line that is \\.")
-        if OPEN.search(bare):
+        if opening(bare):
             raise Misread("a quote without an end")
         if b'"' in bare:
             raise Misread("a quote inside a field")

@@ -19,8 +19,9 @@ class Failed(Refused):
 
 
 def environment():
-    """Returns the environment in which psql runs."""
-    return {**os.environ, "PGCLIENTENCODING": "UTF8", "PGOPTIONS": f"-c client_min_messages=warning {os.environ.get('PGOPTIONS', '')}"}
+    """Returns the environment in which psql runs. To compile the statements' many terms takes longer than it saves."""
+    options = f"-c client_min_messages=warning -c jit=off {os.environ.get('PGOPTIONS', '')}"
+    return {**os.environ, "PGCLIENTENCODING": "UTF8", "PGOPTIONS": options}
 
 
 class Server:

@@ -35,7 +35,8 @@ def says_equal(equal, on):
     pairs, rest = overlaps(conjuncts(on))
     ends = [{same(*map(bare, pair[side])) for pair in pairs} for side in (0, 1)]
     keys = {same(left, right) for (left, _), (right, _) in pairs}
-    return bool(pairs) and ends == [set(conjuncts(equal.left.on)), set(conjuncts(equal.right.on))] and keys | set(rest) == set(conjuncts(equal.on))
+    said = [set(conjuncts(term)) for term in (equal.left.on, equal.right.on, equal.on)]
+    return bool(pairs) and [*ends, keys | set(rest)] == said
 
 
 def same(one, other):
