@@ -50,3 +50,11 @@ def write(path, blocks):
     """Writes the table file."""
     with open(path, "w", encoding="utf-8") as file:
         file.writelines(lines(blocks))
+
+
+def multiplied(table, blocks, times):
+    """Returns the items and the source of a query whose rows are copies of an encoded table of so many blocks, each with ids and
+    keys of its own. Groups of the columns g and gw are the same in all."""
+    shifts = dict.fromkeys(range(9), blocks) | dict.fromkeys(range(15, 18), blocks // 10)
+    items = ", ".join(f"c{place} + k * {shifts[place]} AS c{place}" if place in shifts else f"c{place}" for place in range(24))
+    return f"{items} FROM {table}, generate_series(0, {times - 1}) k"
