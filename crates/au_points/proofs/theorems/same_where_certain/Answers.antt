@@ -1,0 +1,6 @@
+-- The law.
+use Rattle.au_points.proofs.SureKeys as laws
+use Rattle.au_points.proofs.theorems.same_where_certain.Goals as goal
+
+pub returns : goal.returns
+returns c = laws.same_where_certain

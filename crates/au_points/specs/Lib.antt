@@ -1,0 +1,9 @@
+-- The definitions, in the order in which they are to be read.
+pub mod Groupings
+pub mod Points
+pub mod PointLaws
+pub mod BesideGroup
+pub mod GroupingFits
+pub mod Worked
+-- What the plan is made of.
+pub mod Members
