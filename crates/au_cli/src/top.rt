@@ -29,8 +29,8 @@ use std::thread::Threads;
 /// Does all that the program does with these words: reads the tables' files from the shelf, puts the answer on `out`,
 /// and on an outcome other than `Done` one line on `err`, as far as memory and `err` allow.
 ///
-/// The gate is told of each piece that the workers of the answer begin; the program hands in `NoGate`. All clauses hold
-/// for every gate.
+/// The gate is handed to every run of a plan, and told of each piece of a join or a grouping that its workers begin; the
+/// program hands in `NoGate`. All clauses hold for every gate.
 pub fn run<R: Threads + Sync, S: Shelf, O: Sink, E: Sink, G: Gate + Sync>(
     rt: &R,
     alloc: Global,

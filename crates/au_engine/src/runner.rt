@@ -187,11 +187,11 @@ impl<'a, R: Threads + Sync, G: Gate + Sync> Runner<'a, R, G> {
         relation
     }
 
-    /// By what threads are started, and how many workers share so many rows or blocks.
-    pub(crate) fn sharing(&self, count: usize) -> (&'a R, usize)
+    /// By what threads are started, how many workers share so many rows or blocks, and the gate of their runs.
+    pub(crate) fn sharing(&self, count: usize) -> (&'a R, usize, G)
         ensures { 1 ≤ result.1 }
     {
-        (self.rt, self.workers_for(count))
+        (self.rt, self.workers_for(count), self.gate)
     }
 
     // How many workers share so many rows or blocks.

@@ -24,7 +24,7 @@ use au_algebra::{Gathered, Query, Rel, normal};
 use au_annot::Triple;
 use au_blocks::{Block, Column, Table};
 use au_expr::{EvalFault, Expr};
-use au_par::{Gate, NoGate};
+use au_par::Gate;
 use au_translate::bounded_rows;
 use au_value::{NoMemory, Range, Word};
 use std::alloc::Global;
@@ -284,48 +284,50 @@ fn in_slices<R: Threads + Sync, G: Gate + Sync>(
 }
 
 // The same by one worker of several.
-fn share_of<R: Threads + Sync>(
+fn share_of<R: Threads + Sync, G: Gate + Sync>(
     rt: &R,
     alloc: Global,
     query: &Query,
     columns: &[Column],
     blocks: &[Block],
+    gate: &G,
 ) -> Result<Gathered, EvalFault>
     requires works { WorksOver (tree query.now) columns.now blocks.now }
     ensures { Gathers (tree query.now) blocks.now result }
 {
-    let runner = Runner::new(rt, 1, NoGate);
+    let runner = Runner::new(rt, 1, *gate);
     in_slices(&runner, alloc, query, columns, blocks, SLICE)
 }
 
 // The same by so many workers, each of which gathers a share of the blocks. The shares go to threads one after the other, the
 // first one excepted, and are put together in their order.
 #[cycle(shares)]
-fn by_shares<R: Threads + Sync>(
+fn by_shares<R: Threads + Sync, G: Gate + Sync>(
     rt: &R,
     alloc: Global,
     query: &Query,
     columns: &[Column],
     blocks: &[Block],
     workers: usize,
+    gate: &G,
 ) -> Result<Gathered, EvalFault>
     requires workers { 1 ≤ workers }
     requires works { WorksOver (tree query.now) columns.now blocks.now }
     ensures { Gathers (tree query.now) blocks.now result }
 {
     if workers == 1 {
-        return share_of(rt, alloc, query, columns, blocks);
+        return share_of(rt, alloc, query, columns, blocks, gate);
     }
     let (others, share) = last_share(blocks, workers);
     let left = workers - 1;
     let back = move || -> Result<Gathered, EvalFault>
-        requires { IsSync R.row × WorksOver (tree query.now) columns.now share.now }
+        requires { IsSync R.row × IsSync G.row × WorksOver (tree query.now) columns.now share.now }
         ensures { Gathers (tree query.entry.now) share.entry.now result }
-    { share_of(rt, alloc, query, columns, share) };
+    { share_of(rt, alloc, query, columns, share, gate) };
     let front = move || -> Result<Gathered, EvalFault>
-        requires { IsSync R.row × (1 ≤ left) × WorksOver (tree query.now) columns.now others.now }
+        requires { IsSync R.row × IsSync G.row × (1 ≤ left) × WorksOver (tree query.now) columns.now others.now }
         ensures { Gathers (tree query.entry.now) others.entry.now result }
-    { by_shares(rt, alloc, query, columns, others, left) };
+    { by_shares(rt, alloc, query, columns, others, left, gate) };
     let (last, before) = join(rt, back, front);
     put_behind(alloc, before, last)
 }
@@ -422,9 +424,9 @@ fn gathered_by<R: Threads + Sync, G: Gate + Sync>(
     requires works { WorksOver (tree query.now) columns.now blocks.now }
     ensures { Gathers (tree query.now) blocks.now result }
 {
-    let (rt, workers) = runner.sharing(blocks.len());
+    let (rt, workers, gate) = runner.sharing(blocks.len());
     if 1 < workers && is_shallow(query, columns.len()) {
-        return by_shares(rt, alloc, query, columns, blocks, workers);
+        return by_shares(rt, alloc, query, columns, blocks, workers, &gate);
     }
     let size = slice_size(blocks.len(), workers);
     in_slices(runner, alloc, query, columns, blocks, size)
