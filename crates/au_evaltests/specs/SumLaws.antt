@@ -1,10 +1,13 @@
 -- Sums of two lists put together.
-use Rattle.std.specs.Prelude.{◌≡◌, ◌+◌, ◌^◌, true, List, [], ◌∷◌, ◌++◌, ℤ, pos, ◌+ℤ◌, unsigned_abs}
+use Rattle.std.specs.Prelude.{◌≡◌, ◌+◌, ◌^◌, true, false, List, [], ◌∷◌, ◌++◌, ℤ, pos, ◌+ℤ◌, unsigned_abs, Result, Ok, Err, MatchResult}
 use Rattle.std.proofs.Common.{sym, ap, ◌∙◌, arith, le-leb, leb-true}
 use Rattle.std.proofs.lemmas.Int.{ints}
 use Rattle.au_value.specs.Adding.{Sum, sum_of, no_terms}
 use Rattle.au_value.specs.Joining.{joined_sum}
-use Rattle.au_evaltests.specs.Summed.{summed, too_large}
+use borrow.Author.Tests.{lt-leb}
+use Rattle.au_expr.specs.declared.fault.EvalFault.{EvalFault}
+use Rattle.au_expr.specs.declared.fault.EvalFault.TheVariants as fault
+use Rattle.au_evaltests.specs.Summed.{IsSummed, summed, too_large}
 
 -- adding nothing
 pub joined_none : (s : Sum) → joined_sum no_terms s ≡ s
@@ -27,3 +30,8 @@ front_large xs ys h = let a = leb-true (2 ^ 127) (summed xs).magnitude h in let 
 
 pub back_large : (xs ys : List ℤ) → too_large ys ≡ true → too_large (xs ++ ys) ≡ true
 back_large xs ys h = let a = leb-true (2 ^ 127) (summed ys).magnitude h in let b = magnitudes xs ys in le-leb (2 ^ 127) (summed (xs ++ ys)).magnitude (omega arith)
+
+-- a sum of terms that fits is not too large
+pub joined_fits : (r : Result Sum EvalFault) (zs : List ℤ) → MatchResult r (λ s. IsSummed s zs) (λ f. (f ≡ fault.Overflow) × (too_large zs ≡ true)) → MatchResult r (λ s. IsSummed s zs × (too_large zs ≡ false)) (λ f. f ≡ fault.Overflow → too_large zs ≡ true)
+joined_fits (Ok s) zs h = let m = ap (λ t. t.magnitude) h.0 in let small = h.1 in (h, lt-leb (2 ^ 127) (summed zs).magnitude (omega arith))
+joined_fits (Err f) zs h = λ _. h.1

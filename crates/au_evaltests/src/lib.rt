@@ -33,6 +33,8 @@ mod index_tests;
 #[cfg(test)]
 mod operator_tests;
 #[cfg(test)]
+mod parity_tests;
+#[cfg(test)]
 mod physical_tests;
 #[cfg(test)]
 mod plan_tests;

@@ -1,9 +1,9 @@
 //! Sums of pieces, which are merged.
-ghost use Rattle.std.specs.Prelude.{◌≡◌, ◌+◌, ◌^◌, ◌<◌, ◌≤◌, MatchResult, refl};
+ghost use Rattle.std.specs.Prelude.{◌≡◌, ◌+◌, ◌++◌, ◌^◌, ◌<◌, ◌≤◌, ℤ, List, MatchResult, refl, true};
 ghost use Rattle.std.proofs.Common.{sym, ◌∙◌};
 ghost use Rattle.au_expr.specs.declared.fault.EvalFault.TheVariants as fault;
 ghost use Rattle.au_value.specs.Joining.{joined_sum};
-ghost use Rattle.au_evaltests.specs.Summed.{summed, too_large};
+ghost use Rattle.au_evaltests.specs.Summed.{IsSummed, summed, too_large};
 ghost use Rattle.au_evaltests.specs.SumLaws.{front_large, back_large};
 
 use au_expr::EvalFault;
@@ -17,7 +17,7 @@ struct Summing;
 
 // The sum with the terms of these rows, too.
 fn added(rows: &[i128]) -> Result<Adder, EvalFault>
-    ensures { MatchResult result (λ s. (s ≡ summed rows.now) × (s.magnitude < 2 ^ 127)) (λ f. 2 ^ 127 ≤ (summed rows.now).magnitude) }
+    ensures { MatchResult result (λ s. IsSummed s rows.now) (λ f. 2 ^ 127 ≤ (summed rows.now).magnitude) }
 {
     let mut sum = Adder::new();
     for row in rows {
@@ -28,10 +28,20 @@ fn added(rows: &[i128]) -> Result<Adder, EvalFault>
     Ok(sum)
 }
 
+/// The sum of the terms of both.
+pub(crate) fn joined(first: &Adder, second: &Adder) -> Result<Adder, EvalFault>
+    ensures { (xs ys : List ℤ) → IsSummed first.now xs → IsSummed second.now ys → MatchResult result (λ s. IsSummed s (xs ++ ys)) (λ f. (f ≡ fault.Overflow) × (too_large (xs ++ ys) ≡ true)) }
+{
+    match first.joined(second) {
+        Ok(sum) => Ok(sum),
+        Err(_) => Err(EvalFault::Overflow),
+    }
+}
+
 impl Partial<i128, Adder> for Summing {
     ghost takes = { λ _ _. Unit {0} };
 
-    ghost stands_for = { λ _ state xs. (state ≡ summed xs) × (state.magnitude < 2 ^ 127) };
+    ghost stands_for = { λ _ state xs. IsSummed state xs };
 
     ghost overflows = { λ _ xs. too_large xs };
 
@@ -44,10 +54,7 @@ impl Partial<i128, Adder> for Summing {
     }
 
     fn merge(&self, _alloc: Global, first: Adder, second: Adder) -> Result<Adder, EvalFault> {
-        match first.joined(&second) {
-            Ok(sum) => Ok(sum),
-            Err(_) => Err(EvalFault::Overflow),
-        }
+        joined(&first, &second)
     }
 
     ghost one_meaning = { λ _ s t xs zs _ _ a b c. (b.0 ∙ (sym a.0 ∙ c.0), b.1) };
