@@ -5,8 +5,8 @@ use std::process::Abort;
 use std::test::Fail;
 use std::thread::Threads;
 
-// Answers over worlds, as CSV.
-const ANSWERS: &str =
+/// Answers over worlds, as CSV.
+pub(crate) const ANSWERS: &str =
     "answer|SELECT * FROM orders|orders=orders.csv -> 0 Done row_lo,row,row_hi,id_lo,id,id_hi,city_lo,city,city_hi,amount_lo,amount,amount_hi~1,1,1,1,1,1,Bergen,Oslo,Oslo,10,10,12~1,1,1,2,2,2,Bergen,Bergen,Bergen,5,5,5~0,1,1,3,3,3,Oslo,Oslo,Oslo,7,7,7~! 
 answer|SELECT * FROM orders WHERE city = 'Oslo'|orders=orders.csv -> 0 Done row_lo,row,row_hi,id_lo,id,id_hi,city_lo,city,city_hi,amount_lo,amount,amount_hi~0,1,1,1,1,1,Bergen,Oslo,Oslo,10,10,12~0,1,1,3,3,3,Oslo,Oslo,Oslo,7,7,7~! 
 answer|SELECT o.id, r.fee FROM orders o, rates AS r WHERE o.city = r.city|orders=orders.csv|rates=rates.csv -> 0 Done row_lo,row,row_hi,id_lo,id,id_hi,fee_lo,fee,fee_hi~0,1,1,1,1,1,3,3,3~0,0,1,1,1,1,4,4,4~1,1,1,2,2,2,4,4,4~0,1,1,3,3,3,3,3,3~! 
@@ -99,6 +99,20 @@ const BY_ROW: &str = "SELECT id, amount * 2 AS d FROM t WHERE amount > 50";
 
 const FEW_ROWS: &str = "SELECT grp FROM (SELECT * FROM t) s";
 
+// Two runs put one answer.
+fn alike<R: Abort + Threads + Sync>(
+    rt: &R,
+    alloc: Global,
+    one: &str,
+    other: &str,
+) -> Result<(), Fail> {
+    let first = answer_of(rt, alloc, one)?;
+    let second = answer_of(rt, alloc, other)?;
+    assert_eq!(rt; second.as_str(), first.as_str(), "{other}");
+    assert!(rt; first.as_str().starts_with("0 Done "), "an answer");
+    Ok(())
+}
+
 // Both roads give one answer of a query over a file.
 fn agree<R: Abort + Threads + Sync>(
     rt: &R,
@@ -107,12 +121,20 @@ fn agree<R: Abort + Threads + Sync>(
     file: &str,
 ) -> Result<(), Fail> {
     let planned = format!(in alloc; "answer|{query}|t={file}")?;
-    let planned = answer_of(rt, alloc, planned.as_str())?;
     let direct = format!(in alloc; "direct|{query}|t={file}")?;
-    let direct = answer_of(rt, alloc, direct.as_str())?;
-    assert_eq!(rt; planned.as_str(), direct.as_str());
-    assert!(rt; planned.as_str().starts_with("0 Done "), "an answer");
-    Ok(())
+    alike(rt, alloc, planned.as_str(), direct.as_str())
+}
+
+// Seven workers give the answer of one over a file.
+fn agree_in_seven<R: Abort + Threads + Sync>(
+    rt: &R,
+    alloc: Global,
+    query: &str,
+    file: &str,
+) -> Result<(), Fail> {
+    let one = format!(in alloc; "answer|--workers=1|{query}|t={file}")?;
+    let seven = format!(in alloc; "answer|--workers=7|{query}|t={file}")?;
+    alike(rt, alloc, one.as_str(), seven.as_str())
 }
 
 // A query over two files, of which one is small, over two large ones, and one that groups a file.
@@ -153,7 +175,19 @@ fn demonstrations(rt: HostRuntime) -> Result<(), Fail> {
 
 #[test]
 fn one_answer_by_both_roads(rt: HostRuntime) -> Result<(), Fail> {
+    agree_in_seven(&rt, rt.alloc(), PAIRS, "made.csv")?;
     agree(&rt, rt.alloc(), PAIRS, "made.csv")
+}
+
+#[test]
+fn one_answer_of_seven_workers(rt: HostRuntime) -> Result<(), Fail> {
+    agree_in_seven(&rt, rt.alloc(), PAIRS, "slices.csv")?;
+    alike(
+        &rt,
+        rt.alloc(),
+        "demo|--workers=1|1|20000",
+        "demo|--workers=7|1|20000",
+    )
 }
 
 #[test]

@@ -1,6 +1,10 @@
 //! Runs that encode tables, rewrite queries, and run plans from files.
-use crate::runs::{judge, turned};
+use crate::answer_tests::ANSWERS;
+use crate::runs::{answer_of, judge, turned};
+use std::alloc::Global;
+use std::process::Abort;
 use std::test::Fail;
+use std::thread::Threads;
 
 const ENCODED: &str =
     "encode|t=orders.csv -> 0 Done c0:int,c1:int,c2:int,c3:text,c4:text,c5:text,c6:int,c7:int,c8:int,c9:int,c10:int,c11:int~1,1,1,Bergen,Oslo,Oslo,10,10,12,1,1,1~2,2,2,Bergen,Bergen,Bergen,5,5,5,1,1,1~3,3,3,Oslo,Oslo,Oslo,7,7,7,0,1,1~! 
@@ -63,6 +67,40 @@ fn encoded_tables(rt: HostRuntime) -> Result<(), Fail> {
 #[test]
 fn refused_rewritings(rt: HostRuntime) -> Result<(), Fail> {
     judge(&rt, rt.alloc(), REWRITTEN)
+}
+
+// What stands in the text of a plan that has no column, or of literal rows that are none: no SQL.
+const NO_SQL: [&str; 3] = ["SELECT  FROM", "(VALUES )", "x()"];
+
+// Queries over tables, besides those that are answered.
+const FURTHER: [&str; 3] = [
+    "SELECT SUM(x) FROM t|t=sums.csv",
+    "SELECT a.grp, MAX(a.id) AS m FROM t a, t b WHERE a.amount = b.amount AND a.grp = 'g0' AND b.grp = 'g1' GROUP BY a.grp|t=made.csv",
+    "SELECT grp, COUNT(*) AS n, SUM(amount) AS total FROM t GROUP BY grp|t=made.csv",
+];
+
+// The text that a query over tables is rewritten to is SQL.
+fn judge_text<R: Abort + Threads + Sync>(rt: &R, alloc: Global, asked: &str) -> Result<(), Fail> {
+    let line = format!(in alloc; "rewrite|{asked}")?;
+    let text = answer_of(rt, alloc, line.as_str())?;
+    assert!(rt; text.as_str().starts_with("0 Done "), "{asked}");
+    for part in NO_SQL {
+        assert!(rt; !text.as_str().contains(part), "{part} of {asked}");
+    }
+    Ok(())
+}
+
+#[test]
+fn rewritten_plans_are_sql(rt: HostRuntime) -> Result<(), Fail> {
+    for case in ANSWERS.lines() {
+        let (given, _) = case.split_once(" -> ").ok_or("an arrow")?;
+        let (_, asked) = given.split_once("|").ok_or("a command")?;
+        judge_text(&rt, rt.alloc(), asked)?;
+    }
+    for asked in FURTHER {
+        judge_text(&rt, rt.alloc(), asked)?;
+    }
+    Ok(())
 }
 
 #[test]

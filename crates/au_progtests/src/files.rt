@@ -35,8 +35,11 @@ large.csv: «8388608 1»
 larger.csv: «8388609 1»
 full.csv: x:text~«8388601 a»
 byte.csv: x
-made.csv: «40 blocks»
+made.csv: «300 blocks»
 slices.csv: «5000 blocks»
+most_blocks.csv: «100000 blocks»
+two.csv: x~1~2~
+four.csv: k~1~2~3~4~
 edge.csv: x:int~170141183460469231731687303715884105727~
 bare.csv: y:int~
 nordic.csv: _block,_role,city:text~a,guess,Malmö~a,absent,~

@@ -20,6 +20,10 @@ mod fault_tests;
 #[cfg(test)]
 mod files;
 #[cfg(test)]
+mod gate_tests;
+#[cfg(test)]
+mod gates;
+#[cfg(test)]
 mod refusal_tests;
 #[cfg(test)]
 mod runs;

@@ -2,7 +2,7 @@
 use crate::files::shelf_for;
 use au_cli::{Outcome, run};
 use au_io::{MemShelf, MemSink};
-use au_par::NoGate;
+use au_par::{Gate, NoGate};
 use au_value::Word;
 use std::alloc::{AllocError, Global};
 use std::process::Abort;
@@ -114,14 +114,29 @@ pub(crate) fn cut_run<R: Threads + Sync>(
     ran(rt, alloc, line, shelf, failing, failing_lines)
 }
 
-/// What a run puts on `out`.
+/// How a run ends and what it puts, whose pieces of work are told to a gate.
+pub(crate) fn watched<R: Threads + Sync, G: Gate + Sync>(
+    rt: &R,
+    alloc: Global,
+    line: &str,
+    gate: G,
+) -> Result<String, Fail> {
+    let mut shelf = shelf_for(alloc, line, Vec::new(alloc))?;
+    let words = words_of(alloc, line)?;
+    let mut out = MemSink::new(alloc, Vec::new(alloc));
+    let mut err = MemSink::new(alloc, Vec::new(alloc));
+    let words = words.as_slice();
+    let outcome = run(rt, alloc, words, &mut shelf, &mut out, &mut err, gate);
+    told(alloc, outcome, &out, &err)
+}
+
+/// How a run ends and what it puts.
 pub(crate) fn answer_of<R: Threads + Sync>(
     rt: &R,
     alloc: Global,
     line: &str,
 ) -> Result<String, Fail> {
-    let shelf = shelf_for(alloc, line, Vec::new(alloc))?;
-    ran(rt, alloc, line, shelf, Vec::new(alloc), Vec::new(alloc))
+    watched(rt, alloc, line, NoGate)
 }
 
 // What a run puts on `out`, as bytes.
