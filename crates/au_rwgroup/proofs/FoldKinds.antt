@@ -1,8 +1,8 @@
--- The plan of the folds is typed.
+-- The plan of the folds is typed, however rows are folded.
 use Rattle.std.specs.Prelude.{◌≡◌, ℕ, ◌+◌, ◌*◌, List, [], ◌∷◌, ◌++◌, length, map, Some, None, option_and_then, if◌then◌else◌}
 use Rattle.std.specs.List.{AllByRecursion}
 use Rattle.std.proofs.Common.{arith, refl, ◌∙◌, ap, subst, append_assoc}
-use Rattle.std.proofs.lemmas.List.{length-append}
+use Rattle.std.proofs.lemmas.List.{length-append, length-map}
 use Rattle.au_value.specs.declared.kinds.Kind.{Kind}
 use Rattle.au_value.specs.declared.kinds.Kind.TheVariants.{Int, Flag}
 use Rattle.au_expr.specs.Kinds.{is_kind}
@@ -11,21 +11,24 @@ use Rattle.au_algebra.specs.declared.query.Agg.TheVariants as agg
 use Rattle.au_algebra.specs.Typing.{all_kinds}
 use Rattle.au_plain.specs.declared.expr.Comparison2.TheVariants.{Less}
 use Rattle.au_plain.specs.PTerms.{PTerm, Compare, Multiply}
-use Rattle.au_plain.specs.Plans.{PlanTree}
+use Rattle.au_plain.specs.Plans.{PlanTree, extend_all}
 use Rattle.au_plain.specs.PlanKinds.{plan_kinds, plain_kind, plain_agg_kind, kept_kinds}
 use Rattle.au_encode.specs.Encode.{encoded_kinds, triple_kinds}
-use Rattle.au_rwexpr.specs.Cells.{cell_places}
+use Rattle.au_rwexpr.specs.Cells.{cell_places, run}
 use Rattle.au_rwexpr.specs.Counts.{zero_term}
 use Rattle.au_rwexpr.specs.Flatten.{lo, sg, hi}
 use Rattle.au_rwexpr.proofs.Coded.{own}
 use Rattle.au_rwexpr.proofs.Columns.{AllMean, adds}
-use Rattle.au_rwexpr.proofs.Gives.{HasKinds, kinds-extend_all}
+use Rattle.au_rwexpr.proofs.Gives.{HasKinds, kinds-extend_all, kinds-keep}
 use Rattle.au_rwexpr.proofs.OnKinds.{HasKind, column_kind, test_kind, case_kind, multiply_kind, positive_kind}
 use Rattle.au_rwexpr.proofs.Picks.{Picks, kinds_kept, picks_more, pick_cells, coded_cells, coded_triple, coded_long}
 use Rattle.au_rwexpr.proofs.Places.{At, at_more, at_past, Ends, ends_at, EndsOfAll, all_ends_more}
+use Rattle.au_rwgroup.specs.declared.folding.Folding.{Folding}
+use Rattle.au_rwgroup.specs.declared.folding.Folding.TheVariants as folding
 use Rattle.au_rwgroup.specs.Folds.{all_fold_terms, fold_columns, fold_aggs, fold_places, folds}
 use Rattle.au_rwgroup.specs.Totals.{signed}
 use Rattle.au_rwgroup.proofs.AggregatesOn.{kind_on, OnColumn}
+use Rattle.au_rwgroup.proofs.FoldRows.{last_picks}
 
 -- each kind four times, and that of a sum
 abbrev pub fives : List Kind → List Kind
@@ -171,19 +174,37 @@ module _ (ks js : List Kind) (k : ℕ) (long : length js ≡ k) (part : (row : L
       λ i.
       option_and_then (λ u. option_and_then (λ more. Some (u ∷ more)) (option_and_then (λ v. option_and_then (λ more. Some (v ∷ more)) (option_and_then (λ w. option_and_then (λ more. Some (w ∷ more)) (option_and_then (λ x. option_and_then (λ more. Some (x ∷ more)) (option_and_then (λ z. option_and_then (λ more. Some (z ∷ more)) (rest i)) (int (n + 4) at.0.4 i))) (at.0.3 i))) (at.0.2 i))) (at.0.1 i))) (at.0.0 i)
 
-  -- The folds have their kinds.
-  pub folds_typed : (tk : List (List Kind)) (p : PlanTree) → HasKinds tk p ks → plan_kinds tk (folds c k aggs p) ≡ Some (fold_kinds js es)
-  folds_typed tk p typed =
-      let places = fold_places c k in
-      let over = fold_aggs (3 * c + 5) aggs in
-      let wider = kinds-extend_all tk (fold_columns t aggs) p row wide typed (adds plain_kind row (fold_columns t aggs) added columns_kinds) in
-      let both = Flag ∷ Flag ∷ [] in
-      let picks : Picks wide places (triple_kinds js ++ both) =
+  abbrev both : List Kind
+  both = Flag ∷ Flag ∷ []
+
+  -- the keys and the tests, and then the values
+  picks : Picks wide (fold_places c k) (triple_kinds js ++ both)
+  picks =
       picks_more wide (cell_places 0 k) ((3 * c + 3) ∷ (3 * c + 4) ∷ []) (triple_kinds js) both
       (pick_cells own own own wide 0 k js long (part wide 0 (all_ends_more own own own row added 0 ks cells))) (
         at_past row added 0 (3 * c + 3) Flag (omega (arith, row_long)) refl,
         (at_past row added 1 (3 * c + 4) Flag (omega (arith, row_long)) refl, tt),
-      ) in
-      ap (option_and_then (λ xs. option_and_then (λ ys. option_and_then (λ more. Some (ys ++ more)) (all_kinds (map (plain_agg_kind xs) over))) (kept_kinds places xs))) wider
-      ∙ (λ i. option_and_then (λ ys. option_and_then (λ more. Some (ys ++ more)) (aggs_are (3 * c + 5) aggs fives_there i)) (kinds_kept wide places (triple_kinds js ++ both) picks i))
-      ∙ ap Some (append_assoc (triple_kinds js) both (fives es))
+      )
+
+  values_picks : Picks wide (run (3 * c + 5) (5 * length aggs)) (fives es)
+  values_picks =
+      subst (λ r. Picks r (run (3 * c + 5) (5 * length aggs)) (fives es)) (append_assoc row both (fives es))
+      (last_picks (row ++ both) (fives es) (3 * c + 5) (5 * length aggs) (omega (arith, row_long, length-append row both)) (omega (arith, fives_long es, length-map aggs (kind_on ks))))
+
+  -- The folds have their kinds.
+  module _ (tk : List (List Kind)) (p : PlanTree) (typed : HasKinds tk p ks) where
+    wider : plan_kinds tk (extend_all (fold_columns t aggs) p) ≡ Some wide
+    wider = kinds-extend_all tk (fold_columns t aggs) p row wide typed (adds plain_kind row (fold_columns t aggs) added columns_kinds)
+
+    pub folds_typed : (how : Folding) → plan_kinds tk (folds how c k aggs p) ≡ Some (fold_kinds js es)
+    folds_typed folding.EqualKeys =
+        let places = fold_places c k in
+        let over = fold_aggs (3 * c + 5) aggs in
+        ap (option_and_then (λ xs. option_and_then (λ ys. option_and_then (λ more. Some (ys ++ more)) (all_kinds (map (plain_agg_kind xs) over))) (kept_kinds places xs))) wider
+        ∙ (λ i. option_and_then (λ ys. option_and_then (λ more. Some (ys ++ more)) (aggs_are (3 * c + 5) aggs fives_there i)) (kinds_kept wide places (triple_kinds js ++ both) picks i))
+        ∙ ap Some (append_assoc (triple_kinds js) both (fives es))
+    folds_typed folding.Rows =
+        let behind = run (3 * c + 5) (5 * length aggs) in
+        kinds-keep tk (fold_places c k ++ behind) (extend_all (fold_columns t aggs) p) wide ((triple_kinds js ++ both) ++ fives es) wider
+        (picks_more wide (fold_places c k) behind (triple_kinds js ++ both) (fives es) picks values_picks)
+        ∙ ap Some (append_assoc (triple_kinds js) both (fives es))

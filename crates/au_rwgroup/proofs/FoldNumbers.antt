@@ -27,7 +27,7 @@ use Rattle.au_plain.specs.Meaning.{plain_rows}
 use Rattle.au_plain.specs.PlanNumbers.{plan_numbers, magnitudes}
 use Rattle.au_plain.specs.PlanNumbers as plain
 use Rattle.au_plain.specs.Plans.{PlanTree, extend_all}
-use Rattle.au_plain.specs.PTerms.{Multiply}
+use Rattle.au_plain.specs.PTerms.{PTerm, Multiply}
 use Rattle.au_plain.specs.PlanKinds.{FitRows}
 use Rattle.au_plain.proofs.Held.{ValueFits, RowFits}
 use Rattle.au_encode.specs.Encode.{encode_row}
@@ -39,6 +39,8 @@ use Rattle.au_rwexpr.proofs.Careful.{careful_grow}
 use Rattle.au_rwexpr.proofs.Gives.{Gives}
 use Rattle.au_rwexpr.proofs.Places.{At}
 use Rattle.au_rwexpr.proofs.PlanNumbersOf.{all_made, fit_all, numbers-extend_all}
+use Rattle.au_rwgroup.specs.declared.folding.Folding.{Folding}
+use Rattle.au_rwgroup.specs.declared.folding.Folding.TheVariants as folding
 use Rattle.au_rwgroup.specs.Folds.{fold_aggs, fold_columns, fold_places, all_fold_terms, folds}
 use Rattle.au_rwgroup.specs.GroupPlan.{kept_for}
 use Rattle.au_rwgroup.specs.Totals.{signed}
@@ -52,6 +54,7 @@ use Rattle.au_rwgroup.proofs.KeyReading.{KeyReading}
 use Rattle.au_rwgroup.proofs.MemberNumbers as numbers
 use Rattle.au_rwgroup.proofs.Partition.{every_key, made_from, from_shares}
 use Rattle.au_rwgroup.proofs.SecondRows as second
+use Rattle.au_rwgroup.proofs.Sharing.{Sharing, sharing}
 use Rattle.au_rwgroup.proofs.Sizes.{sum_made, zeros, sizes_of, number_fits, each_within, sum_narrowed}
 
 -- what a row adds to sums fits
@@ -85,16 +88,19 @@ module _ (by : KeyReading) (aggs : List Agg) (on : AllByRecursion (OnColumn by.k
   guess r = guesses (by.keys r.cells)
 
   abbrev IsFold : List Value → Type 0
-  IsFold fold = folds_of.IsFold by aggs rows ok fold
+  IsFold fold = folds_of.Occurs by rows ok fold
 
   abbrev rows_of : List Value → Bounded
-  rows_of fold = folds_of.rows_of by aggs rows ok fold
+  rows_of fold = folds_of.rows_of by rows ok fold
 
   abbrev fold_keys : Rows
-  fold_keys = folds_of.fold_keys by aggs rows ok
+  fold_keys = folds_of.fold_keys by rows ok
 
   abbrev wide : RangeRow → List Value
   wide r = folds_of.wide by aggs r
+
+  abbrev shared : Sharing by rows
+  shared = sharing by rows ok folding.EqualKeys
 
   abbrev group_at : List Value → Grouped
   group_at key = grouped by.keys rows key
@@ -106,7 +112,7 @@ module _ (by : KeyReading) (aggs : List Agg) (on : AllByRecursion (OnColumn by.k
   overlaps key r = second.overlaps by (flat_map kept_for aggs) aggs rows ok key r
 
   abbrev SumsFit : List Value → ℕ → Type 0
-  SumsFit key d = numbers.SumsFit by aggs are_there rows ok key d
+  SumsFit key d = numbers.SumsFit by aggs are_there rows ok shared key d
 
   -- an end of a range of numbers is at most the other
   ends_in_order : (r : RangeRow) → IsRangeRow by.ks r → (d : ℕ) → At by.ks d kind.Int → number (range_at d r).lo ≤ℤ number (range_at d r).hi
@@ -167,7 +173,7 @@ module _ (by : KeyReading) (aggs : List Agg) (on : AllByRecursion (OnColumn by.k
     -- the magnitudes of the sums over the fold
     size : (i : ℕ) (f : RangeRow → ℤ) → ((r : RangeRow) → IsRangeRow by.ks r → At (wide r) i (value.Int (f r))) → Fit (pos (sum_by nat_abs (map f (rows_of fold))) ∷ []) → Fit (pos (sum_by (λ row. nat_abs (number (value_at row i))) (map wide (rows_of fold))) ∷ [])
     size i f at fits =
-        subst (λ m. Fit (pos m ∷ [])) (sym (sum_made (IsRangeRow by.ks) wide i f (rows_of fold) (folds_of.rows_ok by aggs rows ok fold) at)) fits
+        subst (λ m. Fit (pos m ∷ [])) (sym (sum_made (IsRangeRow by.ks) wide i f (rows_of fold) (folds_of.rows_ok by rows ok fold) at)) fits
 
     abbrev own_rows : Rows
     own_rows = map wide (rows_of fold)
@@ -179,7 +185,7 @@ module _ (by : KeyReading) (aggs : List Agg) (on : AllByRecursion (OnColumn by.k
     sizes_fit m [] h at f = refl
     sizes_fit m (agg.Sum d ∷ bs) h at f =
         let p = fit_parts (agg_numbers g (agg.Sum d)) (flat_map (agg_numbers g) bs) f in
-        let five = five_fit d h.0 (numbers.sums_of by aggs are_there rows ok (own_key fold) d p.0) in
+        let five = five_fit d h.0 (numbers.sums_of by aggs are_there rows ok shared (own_key fold) d p.0) in
         let each = λ (i : ℕ). sum_by (λ row. nat_abs (number (value_at row i))) own_rows in
         let rest = flat_map (magnitudes own_rows) (fold_aggs (m + 5) bs) in
         fit_both (pos (each m) ∷ []) (pos (each (m + 1)) ∷ pos (each (m + 2)) ∷ pos (each (m + 3)) ∷ pos (each (m + 4)) ∷ rest) (size m (low_term d) (λ r v. (at r v).0.0) five.low)
@@ -206,7 +212,7 @@ module _ (by : KeyReading) (aggs : List Agg) (on : AllByRecursion (OnColumn by.k
     terms_fit [] h f = nothing_fits (rows_of fold)
     terms_fit (agg.Sum d ∷ bs) h f =
         let p = fit_parts (agg_numbers g (agg.Sum d)) (flat_map (agg_numbers g) bs) f in
-        let five = five_fit d h.0 (numbers.sums_of by aggs are_there rows ok (own_key fold) d p.0) in
+        let five = five_fit d h.0 (numbers.sums_of by aggs are_there rows ok shared (own_key fold) d p.0) in
         let Low = λ (r : RangeRow). ValueFits (value.Int (low_term d r)) in
         let Guess = λ (r : RangeRow). ValueFits (value.Int (guess_term d r)) in
         let High = λ (r : RangeRow). ValueFits (value.Int (high_term d r)) in
@@ -252,37 +258,55 @@ module _ (by : KeyReading) (aggs : List Agg) (on : AllByRecursion (OnColumn by.k
       (reads_safe (positive (lo t)) _ (refl, tt), (reads_safe (positive (sg t)) _ (refl, tt), terms_safe r aggs terms)) f in
       (careful_grow columns row (row ++ new) added.0).1
 
-  -- The folds' plan adds no number that does not fit.
-  pub folds_fit : (ts : List Rows) (p : PlanTree) → Gives ts p rows → FitRows (plain_rows p ts) → Fit (plan_numbers p ts) → AllByRecursion (λ key. Fit (flat_map (agg_numbers (group_at key)) aggs)) (guessed_keys by.keys rows) → Fit (plan_numbers (folds c by.k aggs p) ts)
-  folds_fit ts p gives fits np sums =
-      let Sums = λ (key : List Value). Fit (flat_map (agg_numbers (group_at key)) aggs) in
-      let own : AllByRecursion (λ r. IsKey (guess r) × Sums (guess r)) rows =
-      made_from (λ key. IsKey key × Sums key) guess rows
-      (every_key (λ key. IsKey key × Sums key) (map guess rows) (all_both IsKey Sums (guessed_keys by.keys rows) (second.all_keys by (flat_map kept_for aggs) aggs rows ok) sums)) in
-      let each : AllByRecursion (λ fold. IsKey (own_key fold) × Sums (own_key fold)) fold_keys =
-      all_from IsFold (λ fold. IsKey (own_key fold) × Sums (own_key fold)) fold_keys
-      (λ fold some.
-      (let first = subst (λ rs. AllByRecursion (λ r. IsKey (guess r) × Sums (guess r)) rs) some.is (all_filter (λ r. IsKey (guess r) × Sums (guess r)) (λ r. same_row fold (folds_of.fold_key by r)) rows own) in
-      subst (λ key. IsKey key × Sums key) (ap guesses (sym (folds_of.first_same by aggs rows ok fold some).ranges)) first.0))
-      (folds_of.all_folds by aggs rows ok) in
-      let terms : AllByRecursion (TermsFit aggs) rows =
-      subst (λ rs. AllByRecursion (TermsFit aggs) rs) (filter_all rows)
-      (from_shares (folds_of.fold_key by) rows (λ fold. true) (TermsFit aggs)
-      (subst (λ fs. AllByRecursion (λ fold. AllByRecursion (TermsFit aggs) (rows_of fold)) fs) (sym (filter_all fold_keys))
-      (all_from (λ fold. IsKey (own_key fold) × Sums (own_key fold)) (λ fold. AllByRecursion (TermsFit aggs) (rows_of fold)) fold_keys (λ fold q. terms_fit fold q.0 aggs on q.1) each))) in
-      let columns = fold_columns t aggs in
-      let held : AllByRecursion (λ r. RowFits (encode_row r)) rows = made_from RowFits encode_row rows (subst FitRows gives fits) in
-      let Sound = λ (r : RangeRow). IsRangeRow by.ks r × (RowFits (encode_row r) × TermsFit aggs r) in
-      let wider : Fit (plan_numbers (extend_all columns p) ts) =
-      numbers-extend_all ts columns p np
-      (subst (λ rs. AllByRecursion (λ row. Fit (grow_numbers columns row)) rs) (sym gives)
-      (all_made Sound (λ row. Fit (grow_numbers columns row)) encode_row rows
-      (all_both (IsRangeRow by.ks) (λ r. RowFits (encode_row r) × TermsFit aggs r) rows ok (all_both (λ r. RowFits (encode_row r)) (TermsFit aggs) rows held terms))
-      (λ r q. columns_fit r q.0 q.1.0 q.1.1))) in
-      let over = fold_aggs n aggs in
-      let sizes = λ (fold : List Value). flat_map (magnitudes (map wide (rows_of fold))) over in
-      fit_both (plan_numbers (extend_all columns p) ts) (plain.group_numbers (fold_places c by.k) over (plain_rows (extend_all columns p) ts)) wider
-      (subst (λ rs. Fit (plain.group_numbers (fold_places c by.k) over rs)) (sym (folds_of.wide_rows by aggs rows ok are_there ts p gives))
-      (subst (λ ns. Fit ns) (sym (folds_of.fold_numbers by aggs rows ok are_there))
-      (fit_all sizes fold_keys
-      (all_from (λ fold. IsKey (own_key fold) × Sums (own_key fold)) (λ fold. Fit (sizes fold)) fold_keys (λ fold q. sizes_fit fold q.0 n aggs on (λ r v. folds_of.wide_at by aggs r v) q.1) each))))
+  module _ (ts : List Rows) (p : PlanTree) (gives : Gives ts p rows) (fits : FitRows (plain_rows p ts)) (np : Fit (plan_numbers p ts)) (sums : AllByRecursion (λ key. Fit (flat_map (agg_numbers (group_at key)) aggs)) (guessed_keys by.keys rows)) where
+    abbrev Sums : List Value → Type 0
+    Sums key = Fit (flat_map (agg_numbers (group_at key)) aggs)
+
+    -- the group of a fold's rows, whose sums fit
+    abbrev Grown : List Value → Type 0
+    Grown fold = IsKey (own_key fold) × Sums (own_key fold)
+
+    each_grown : AllByRecursion Grown fold_keys
+    each_grown =
+        let Own = λ (r : RangeRow). IsKey (guess r) × Sums (guess r) in
+        let own : AllByRecursion Own rows =
+        made_from (λ key. IsKey key × Sums key) guess rows
+        (every_key (λ key. IsKey key × Sums key) (map guess rows) (all_both IsKey Sums (guessed_keys by.keys rows) (second.all_keys by (flat_map kept_for aggs) aggs rows ok) sums)) in
+        all_from IsFold Grown fold_keys
+        (λ fold some.
+        (let first = subst (λ rs. AllByRecursion Own rs) some.is (all_filter Own (λ r. same_row fold (folds_of.fold_key by r)) rows own) in
+        subst (λ key. IsKey key × Sums key) (ap guesses (sym (folds_of.first_same by rows ok fold some).ranges)) first.0))
+        (folds_of.all_occurring by rows ok)
+
+    each_terms : AllByRecursion (TermsFit aggs) rows
+    each_terms =
+        subst (λ rs. AllByRecursion (TermsFit aggs) rs) (filter_all rows)
+        (from_shares (folds_of.fold_key by) rows (λ fold. true) (TermsFit aggs)
+        (subst (λ fs. AllByRecursion (λ fold. AllByRecursion (TermsFit aggs) (rows_of fold)) fs) (sym (filter_all fold_keys))
+        (all_from Grown (λ fold. AllByRecursion (TermsFit aggs) (rows_of fold)) fold_keys (λ fold q. terms_fit fold q.0 aggs on q.1) each_grown)))
+
+    abbrev columns : List PTerm
+    columns = fold_columns t aggs
+
+    -- the columns that are added to rows
+    wider : Fit (plan_numbers (extend_all columns p) ts)
+    wider =
+        let held : AllByRecursion (λ r. RowFits (encode_row r)) rows = made_from RowFits encode_row rows (subst FitRows gives fits) in
+        let Sound = λ (r : RangeRow). IsRangeRow by.ks r × (RowFits (encode_row r) × TermsFit aggs r) in
+        numbers-extend_all ts columns p np
+        (subst (λ rs. AllByRecursion (λ row. Fit (grow_numbers columns row)) rs) (sym gives)
+        (all_made Sound (λ row. Fit (grow_numbers columns row)) encode_row rows
+        (all_both (IsRangeRow by.ks) (λ r. RowFits (encode_row r) × TermsFit aggs r) rows ok (all_both (λ r. RowFits (encode_row r)) (TermsFit aggs) rows held each_terms))
+        (λ r q. columns_fit r q.0 q.1.0 q.1.1)))
+
+    -- The folds' plan adds no number that does not fit.
+    pub folds_fit : (how : Folding) → Fit (plan_numbers (folds how c by.k aggs p) ts)
+    folds_fit folding.EqualKeys =
+        let over = fold_aggs n aggs in
+        let sizes = λ (fold : List Value). flat_map (magnitudes (map wide (rows_of fold))) over in
+        fit_both (plan_numbers (extend_all columns p) ts) (plain.group_numbers (fold_places c by.k) over (plain_rows (extend_all columns p) ts)) wider
+        (subst (λ rs. Fit (plain.group_numbers (fold_places c by.k) over rs)) (sym (folds_of.wide_rows by aggs rows ok are_there ts p gives))
+        (subst (λ ns. Fit ns) (sym (folds_of.fold_numbers by aggs rows ok are_there))
+        (fit_all sizes fold_keys
+        (all_from Grown (λ fold. Fit (sizes fold)) fold_keys (λ fold q. sizes_fit fold q.0 n aggs on (λ r v. folds_of.wide_at by aggs r v) q.1) each_grown))))
+    folds_fit folding.Rows = wider

@@ -1,7 +1,9 @@
--- The rows of the folds: for each list of key ranges and tests, what the rows that have them give to each aggregate.
-use Rattle.std.specs.Prelude.{◌≡◌, ℕ, ◌+◌, ◌*◌, ◌<◌, Bool, true, List, [], ◌∷◌, ◌++◌, length, map, flat_map, ℤ, pos, nat_le, Some, unwrap_or}
+-- The rows of the folds: for each list of key ranges and tests, what the rows that have them give to each aggregate; or
+-- for each row what it gives.
+use Rattle.std.specs.Prelude.{◌≡◌, ℕ, ◌+◌, ◌*◌, ◌<◌, Bool, true, List, [], ◌∷◌, ◌++◌, length, map, flat_map, ℤ, pos, ◌+ℤ◌, nat_le, Some, unwrap_or}
 use Rattle.std.specs.List.{AllByRecursion}
 use Rattle.std.proofs.Common.{arith, refl, sym, ◌∙◌, ap, subst, append_assoc}
+use Rattle.std.proofs.lemmas.Int.{ints}
 use Rattle.std.proofs.lemmas.List.{length-append}
 use Rattle.au_value.specs.declared.value.Value.{Value}
 use Rattle.au_value.specs.declared.value.Value.TheVariants as value
@@ -25,21 +27,22 @@ use Rattle.au_plain.specs.PlanNumbers.{magnitudes, group_numbers}
 use Rattle.au_encode.specs.Encode.{encode_row, encode_cells, decode_cells}
 use Rattle.au_encode.proofs.Decoded.{cells_length}
 use Rattle.au_rwexpr.specs.Adding.{grow}
-use Rattle.au_rwexpr.specs.Cells.{cell_places}
+use Rattle.au_rwexpr.specs.Cells.{cell_places, run}
 use Rattle.au_rwexpr.specs.Flatten.{lo, hi}
 use Rattle.au_rwexpr.specs.Counts.{zero_term}
 use Rattle.au_rwexpr.proofs.Coded.{rl, rs, rh, cl, cg, cm}
 use Rattle.au_rwexpr.proofs.Columns.{AllMean, adds}
 use Rattle.au_rwexpr.proofs.Flags.{below_zero}
-use Rattle.au_rwexpr.proofs.Gives.{Gives, grow_is, rows-extend_all, map-map, map_valid}
+use Rattle.au_rwexpr.proofs.Gives.{Gives, grow_is, rows-extend_all, map-map, map_valid, same_map}
 use Rattle.au_rwexpr.proofs.OnValues.{reading, Has, lo_has, sg_has, hi_has, column_has}
 use Rattle.au_rwexpr.proofs.PlanNumbersOf.{all_passing}
-use Rattle.au_rwexpr.proofs.Picks.{kept_are, picks_more, pick_cells, coded_cells, coded_triple, coded_long, all_ends_long}
+use Rattle.au_rwexpr.proofs.Picks.{Picks, kept_are, picks_more, pick_cells, coded_cells, coded_triple, coded_long, all_ends_long}
 use Rattle.au_rwexpr.proofs.Places.{At, at_more, at_past, Ends, ends_at, EndsOfAll, all_ends_more}
-use Rattle.au_combine.proofs.BoxPlaces.{at_own}
+use Rattle.au_combine.proofs.BoxPlaces.{at_own, run_picks}
 use Rattle.au_combine.proofs.BoxRows.{cell}
 use Rattle.au_combine.proofs.Grouping as grouping
 use Rattle.au_combine.proofs.Grouping.{group_made, numbers_made, all_occur, some_with, map_groups}
+use Rattle.au_rwgroup.specs.declared.folding.Folding.TheVariants as folding
 use Rattle.au_rwgroup.specs.Folds.{fold_aggs, fold_columns, fold_places, all_fold_terms, folds}
 use Rattle.au_rwgroup.proofs.KeyReading.{KeyReading}
 use Rattle.au_rwgroup.proofs.ColumnsThere.{IsOn}
@@ -159,6 +162,31 @@ values_more row more m rows (agg.Sum d ∷ bs) h = ((at_more row more m _ h.0.0,
 values_more row more m rows (agg.Min d ∷ bs) h = ((at_more row more m _ h.0.0, at_more row more (m + 1) _ h.0.1, at_more row more (m + 2) _ h.0.2, at_more row more (m + 3) _ h.0.3, at_more row more (m + 4) _ h.0.4), values_more row more (m + 5) rows bs h.1)
 values_more row more m rows (agg.Max d ∷ bs) h = ((at_more row more m _ h.0.0, at_more row more (m + 1) _ h.0.1, at_more row more (m + 2) _ h.0.2, at_more row more (m + 3) _ h.0.3, at_more row more (m + 4) _ h.0.4), values_more row more (m + 5) rows bs h.1)
 
+-- the values of a row, and those of a fold of it alone
+terms_long : (bs : List Agg) (r : RangeRow) → length (all_term_values bs r) ≡ 5 * length bs
+terms_long [] r = refl
+terms_long (agg.Sum d ∷ bs) r = omega (arith, terms_long bs r)
+terms_long (agg.Min d ∷ bs) r = omega (arith, terms_long bs r)
+terms_long (agg.Max d ∷ bs) r = omega (arith, terms_long bs r)
+
+alone : (z : ℤ) → value.Int z ≡ value.Int (z +ℤ pos 0)
+alone z = ap value.Int (let e : z ≡ z +ℤ pos 0 = omega (arith, ints) in e)
+
+values_alone : (bs : List Agg) (r : RangeRow) → all_term_values bs r ≡ all_fold_values bs (r ∷ [])
+values_alone [] r = refl
+values_alone (agg.Sum d ∷ bs) r =
+    λ i. alone (low_term d r) i ∷ alone (guess_term d r) i ∷ alone (high_term d r) i ∷ alone (sure_low_term d r) i ∷ alone (sure_high_term d r) i ∷ values_alone bs r i
+values_alone (agg.Min d ∷ bs) r =
+    let x = range_at d r in λ i. x.lo ∷ x.sg ∷ x.hi ∷ x.hi ∷ value.Int (pos 0) ∷ values_alone bs r i
+values_alone (agg.Max d ∷ bs) r =
+    let x = range_at d r in λ i. x.hi ∷ x.sg ∷ x.lo ∷ x.lo ∷ value.Int (pos 0) ∷ values_alone bs r i
+
+-- the last columns of a row
+pub last_picks : {A : Type 0} (pre xs : List A) (i m : ℕ) → length pre ≡ i → length xs ≡ m → Picks (pre ++ xs) (run i m) xs
+last_picks {A = A} pre xs i m e l =
+    subst (λ k. Picks (pre ++ xs) (run i k) xs) l
+    (subst (λ ys. Picks (pre ++ ys) (run i (length xs)) ys) (same_map xs) (run_picks (λ (x : A). x) pre xs i e))
+
 -- cells that were coded come back from behind which others stand
 pub cells_again : (xs : List Span) (more : List Value) → decode_cells (length xs) (encode_cells xs ++ more) ≡ xs
 cells_again [] more = refl
@@ -224,6 +252,33 @@ module _ (by : KeyReading) where
 
   pub same_as : (key : List Value) (r : RangeRow) → IsRangeRow by.ks r → same_row key (fold_key r) ≡ true → Same key r
   same_as key r v e = subst (λ k. Same k r) (sym (same_row_is key (fold_key r) e)) (same_itself r v)
+
+  module _ (rows : Bounded) (ok : IsRelation by.ks rows) where
+    -- the keys of rows, and the rows with one
+    abbrev pub fold_keys : Rows
+    fold_keys = keys fold_key rows
+
+    abbrev pub rows_of : List Value → Bounded
+    rows_of key = share fold_key rows key
+
+    -- a key that occurs
+    abbrev pub Occurs : List Value → Type 0
+    Occurs key = grouping.Some fold_key key rows
+
+    pub all_occurring : AllByRecursion Occurs fold_keys
+    all_occurring = all_from (λ key. 0 < copies key (map fold_key rows)) Occurs fold_keys (λ key o. some_with fold_key key rows o) (all_occur fold_key rows)
+
+    -- these rows are of the kinds, and are alike
+    pub rows_ok : (key : List Value) → IsRelation by.ks (rows_of key)
+    rows_ok key = all_filter (IsRangeRow by.ks) (λ r. same_row key (fold_key r)) rows ok
+
+    pub all_same : (key : List Value) → AllByRecursion (Same key) (rows_of key)
+    all_same key = all_passing (IsRangeRow by.ks) (Same key) (λ r. same_row key (fold_key r)) rows ok (λ r v e. same_as key r v e)
+
+    -- and so is the first
+    pub first_same : (key : List Value) (some : Occurs key) → Same key some.first
+    first_same key some =
+        (subst (λ rs. AllByRecursion (Same key) rs) some.is (all_same key)).0
 
   module _ (aggs : List Agg) where
     -- what is added to a row
@@ -320,16 +375,30 @@ module _ (by : KeyReading) where
     row_long r v = coded_long rl rs rh cl cg cm c r.cells r.annot (cells_length IsRangeOf by.ks r.cells v.cells)
 
     -- the columns by which rows are told apart
-    pub same_key : (r : RangeRow) → IsRangeRow by.ks r → kept (fold_places c by.k) (wide r) ≡ fold_key r
-    same_key r v =
+    key_picks : (r : RangeRow) → IsRangeRow by.ks r → Picks (wide r) (fold_places c by.k) (fold_key r)
+    key_picks r v =
         let row = wide r in
         let long = row_long r v in
-        kept_are row (fold_places c by.k) (fold_key r)
-        (picks_more row (cell_places 0 by.k) ((3 * c + 3) ∷ (3 * c + 4) ∷ []) (encode_cells (by.keys r.cells)) (flags (has_sure r) (has_guess r))
+        picks_more row (cell_places 0 by.k) ((3 * c + 3) ∷ (3 * c + 4) ∷ []) (encode_cells (by.keys r.cells)) (flags (has_sure r) (has_guess r))
         (pick_cells rl rs rh row 0 by.k (by.keys r.cells) (by.long r v) (by.shifted r v row 0 (all_ends_more rl rs rh (encode_row r) (added r) 0 r.cells (cells_there r v)))) (
           at_past (encode_row r) (added r) 0 (3 * c + 3) _ (omega (arith, long)) refl,
           (at_past (encode_row r) (added r) 1 (3 * c + 4) _ (omega (arith, long)) refl, tt),
-        ))
+        )
+
+    pub same_key : (r : RangeRow) → IsRangeRow by.ks r → kept (fold_places c by.k) (wide r) ≡ fold_key r
+    same_key r v = kept_are (wide r) (fold_places c by.k) (fold_key r) (key_picks r v)
+
+    -- these, and then what the row gives
+    own_row : (r : RangeRow) → IsRangeRow by.ks r → kept (fold_places c by.k ++ run n (5 * length aggs)) (wide r) ≡ fold_key r ++ all_fold_values aggs (r ∷ [])
+    own_row r v =
+        let both = flags (has_sure r) (has_guess r) in
+        let values = all_term_values aggs r in
+        let behind : Picks (wide r) (run n (5 * length aggs)) values =
+        subst (λ row. Picks row (run n (5 * length aggs)) values) (append_assoc (encode_row r) both values)
+        (last_picks (encode_row r ++ both) values n (5 * length aggs) (omega (arith, row_long r v, length-append (encode_row r) both)) (terms_long aggs r)) in
+        kept_are (wide r) (fold_places c by.k ++ run n (5 * length aggs)) (fold_key r ++ values)
+        (picks_more (wide r) (fold_places c by.k) (run n (5 * length aggs)) (fold_key r) values (key_picks r v) behind)
+        ∙ ap (λ vs. fold_key r ++ vs) (values_alone aggs r)
 
     -- the values of a row behind any front
     values_at : (pre : List Value) (m : ℕ) (r : RangeRow) (bs : List Agg) → length pre ≡ m → FivesAt (pre ++ all_term_values bs r) m (map (λ a. term_values a r) bs)
@@ -392,68 +461,28 @@ module _ (by : KeyReading) where
         let rest = aggs_are rows v (m + 5) bs (λ r w. (at r w).1) in
         λ i. a i ∷ b i ∷ g i ∷ h i ∷ j i ∷ rest i
 
-    module _ (rows : Bounded) (ok : IsRelation by.ks rows) where
-      -- the keys of the folds, and the rows of one
-      abbrev pub fold_keys : Rows
-      fold_keys = keys fold_key rows
+    module _ (rows : Bounded) (ok : IsRelation by.ks rows) (ok_aggs : AllByRecursion (IsOn c) aggs) where
+      pub wide_rows : (ts : List Rows) (p : PlanTree) → Gives ts p rows → plain_rows (extend_all (fold_columns t aggs) p) ts ≡ map wide rows
+      wide_rows ts p g =
+          rows-extend_all (fold_columns t aggs) p ts ∙ ap (map (grow (fold_columns t aggs))) g
+          ∙ map-map encode_row (grow (fold_columns t aggs)) rows
+          ∙ map_valid (IsRangeRow by.ks) (λ r. grow (fold_columns t aggs) (encode_row r)) wide rows ok (grown ok_aggs)
 
-      abbrev pub rows_of : List Value → Bounded
-      rows_of key = share fold_key rows key
+      -- The rows of the folds, by the keys that occur.
+      pub rows_by_keys : (ts : List Rows) (p : PlanTree) → Gives ts p rows → plain_rows (folds folding.EqualKeys c by.k aggs p) ts ≡ map (λ key. key ++ all_fold_values aggs (rows_of rows ok key)) (fold_keys rows ok)
+      rows_by_keys ts p g =
+          ap (plain_group (fold_places c by.k) (fold_aggs n aggs)) (wide_rows ts p g)
+          ∙ group_made (IsRangeRow by.ks) wide fold_key (fold_places c by.k) same_key (fold_aggs n aggs) rows ok
+          ∙ map_groups fold_key rows (λ key. key ++ map (over (rows_of rows ok key)) (fold_aggs n aggs)) (λ key. key ++ all_fold_values aggs (rows_of rows ok key))
+          (λ key some. ap (λ vs. key ++ vs) (aggs_are (rows_of rows ok key) (rows_ok rows ok key) n aggs wide_at))
 
-      -- a key that occurs
-      abbrev pub IsFold : List Value → Type 0
-      IsFold key = grouping.Some fold_key key rows
+      -- The same where each row is a fold.
+      pub rows_alone : (ts : List Rows) (p : PlanTree) → Gives ts p rows → plain_rows (folds folding.Rows c by.k aggs p) ts ≡ map (λ r. fold_key r ++ all_fold_values aggs (r ∷ [])) rows
+      rows_alone ts p g =
+          let places = fold_places c by.k ++ run n (5 * length aggs) in
+          ap (map (kept places)) (wide_rows ts p g) ∙ map-map wide (kept places) rows
+          ∙ map_valid (IsRangeRow by.ks) (λ r. kept places (wide r)) (λ r. fold_key r ++ all_fold_values aggs (r ∷ [])) rows ok own_row
 
-      pub all_folds : AllByRecursion IsFold fold_keys
-      all_folds = all_from (λ key. 0 < copies key (map fold_key rows)) IsFold fold_keys (λ key o. some_with fold_key key rows o) (all_occur fold_key rows)
-
-      -- the rows of a fold are of the kinds, and have its key
-      pub rows_ok : (key : List Value) → IsRelation by.ks (rows_of key)
-      rows_ok key = all_filter (IsRangeRow by.ks) (λ r. same_row key (fold_key r)) rows ok
-
-      pub all_same : (key : List Value) → AllByRecursion (Same key) (rows_of key)
-      all_same key = all_passing (IsRangeRow by.ks) (Same key) (λ r. same_row key (fold_key r)) rows ok (λ r v e. same_as key r v e)
-
-      -- the row of a fold
-      abbrev pub fold_row : List Value → List Value
-      fold_row key = key ++ all_fold_values aggs (rows_of key)
-
-      -- its first row
-      pub first_same : (key : List Value) (some : IsFold key) → Same key some.first
-      first_same key some =
-          (subst (λ rs. AllByRecursion (Same key) rs) some.is (all_same key)).0
-
-      -- its key, by its parts
-      pub key_is : (key : List Value) → IsFold key → key ≡ encode_cells (spans key) ++ flags (sure_of key) (guess_of key)
-      key_is key some =
-          let s = first_same key some in
-          same_row_is key (fold_key some.first) some.key_is
-          ∙ (λ i. encode_cells (sym s.ranges i) ++ flags (sym s.sure i) (sym s.guess i))
-
-      pub spans_long : (key : List Value) → IsFold key → length (spans key) ≡ by.k
-      spans_long key some = let s = first_same key some in ap length s.ranges ∙ by.long some.first s.row
-
-      pub key_long : (key : List Value) → IsFold key → length key ≡ 3 * by.k + 2
-      key_long key some =
-          let both = flags (sure_of key) (guess_of key) in
-          ap length (key_is key some) ∙ length-append (encode_cells (spans key)) both
-          ∙ ap (λ m. m + 2) (all_ends_long rl rs rh (spans key) ∙ ap (λ m. 3 * m) (spans_long key some))
-
-      module _ (ok_aggs : AllByRecursion (IsOn c) aggs) where
-        pub wide_rows : (ts : List Rows) (p : PlanTree) → Gives ts p rows → plain_rows (extend_all (fold_columns t aggs) p) ts ≡ map wide rows
-        wide_rows ts p g =
-            rows-extend_all (fold_columns t aggs) p ts ∙ ap (map (grow (fold_columns t aggs))) g
-            ∙ map-map encode_row (grow (fold_columns t aggs)) rows
-            ∙ map_valid (IsRangeRow by.ks) (λ r. grow (fold_columns t aggs) (encode_row r)) wide rows ok (grown ok_aggs)
-
-        -- The rows of the folds.
-        pub fold_rows : (ts : List Rows) (p : PlanTree) → Gives ts p rows → plain_rows (folds c by.k aggs p) ts ≡ map fold_row fold_keys
-        fold_rows ts p g =
-            ap (plain_group (fold_places c by.k) (fold_aggs n aggs)) (wide_rows ts p g)
-            ∙ group_made (IsRangeRow by.ks) wide fold_key (fold_places c by.k) same_key (fold_aggs n aggs) rows ok
-            ∙ map_groups fold_key rows (λ key. key ++ map (over (rows_of key)) (fold_aggs n aggs)) fold_row
-            (λ key some. ap (λ vs. key ++ vs) (aggs_are (rows_of key) (rows_ok key) n aggs wide_at))
-
-        -- the numbers of its sums
-        pub fold_numbers : group_numbers (fold_places c by.k) (fold_aggs n aggs) (map wide rows) ≡ flat_map (λ key. flat_map (magnitudes (map wide (rows_of key))) (fold_aggs n aggs)) fold_keys
-        fold_numbers = numbers_made (IsRangeRow by.ks) wide fold_key (fold_places c by.k) same_key (fold_aggs n aggs) rows ok
+      -- the numbers of its sums
+      pub fold_numbers : group_numbers (fold_places c by.k) (fold_aggs n aggs) (map wide rows) ≡ flat_map (λ key. flat_map (magnitudes (map wide (rows_of rows ok key))) (fold_aggs n aggs)) (fold_keys rows ok)
+      fold_numbers = numbers_made (IsRangeRow by.ks) wide fold_key (fold_places c by.k) same_key (fold_aggs n aggs) rows ok

@@ -27,6 +27,7 @@ use Rattle.au_rwexpr.proofs.Picks.{Picks, kinds_kept, picks_more, pick_cells, pi
 use Rattle.au_rwexpr.proofs.Places.{At, at_more, at_past, Ends, ends_more, ends_at, EndsOfAll, all_ends_at, all_ends_more}
 use Rattle.au_combine.proofs.BoxKinds.{twice}
 use Rattle.au_combine.proofs.BoxPlaces.{first_picks}
+use Rattle.au_rwgroup.specs.declared.folding.Folding.{Folding}
 use Rattle.au_rwgroup.specs.Folds.{fold_width, folds}
 use Rattle.au_rwgroup.specs.Groups.{all_sure, first_grouping}
 use Rattle.au_rwgroup.specs.GroupPlan as plans
@@ -414,8 +415,8 @@ module _ (ks js : List Kind) (k : ℕ) (long : length js ≡ k) (part : (row : L
         first_kinds tk ks js k kept (twice es) p long (kept_long aggs) (part (encoded_kinds ks) 0 cells)
         (kept_kinds_are (encoded_kinds ks ++ four) (all_ends_more own own own (encoded_kinds ks) four 0 ks cells) aggs on) typed
 
-    pub folds_there : plan_kinds tk (folds c k aggs p) ≡ Some folded
-    folds_there = folds_typed ks js k long part aggs on tk p typed
+    pub folds_there : (how : Folding) → plan_kinds tk (folds how c k aggs p) ≡ Some folded
+    folds_there how = folds_typed ks js k long part aggs on tk p typed how
 
-    pub group_typed : HasKinds tk (group_plan c k aggs p) (js ++ es)
-    group_typed = shown_kinds tk (first_grouping c k kept p) (folds c k aggs p) boxes_typed folds_there
+    pub group_typed : (how : Folding) → HasKinds tk (group_plan how c k aggs p) (js ++ es)
+    group_typed how = shown_kinds tk (first_grouping c k kept p) (folds how c k aggs p) boxes_typed (folds_there how)

@@ -31,6 +31,8 @@ use Rattle.au_rwexpr.proofs.Counting.{scans-extend_all}
 use Rattle.au_rwexpr.proofs.Places.{EndsOfAll}
 use Rattle.au_rwexpr.proofs.PlanNumbersOf.{all_fit}
 use Rattle.au_rwgroup.specs.Gives.{Groups}
+use Rattle.au_rwgroup.specs.declared.folding.Folding.{Folding}
+use Rattle.au_rwgroup.specs.declared.folding.Folding.TheVariants as folding
 use Rattle.au_rwgroup.specs.Folds.{fold_columns, fold_width, folds}
 use Rattle.au_rwgroup.specs.Groups.{group_columns, first_grouping}
 use Rattle.au_rwgroup.specs.GroupPlan.{kept_for, places, all_member_columns, all_member_aggs, all_result_columns, second_grouping, group_plan}
@@ -58,7 +60,7 @@ parts m aggs ks js h =
     let q = and_then_is _ (all_kinds (map (agg_kind ks) aggs)) js p.1 in
     record { enough = leb-true m (length ks) p.0; others = q.0; typed = q.1; whole = some_is _ _ q.2 }
 
-module _ (kinds : List (List Kind)) (tables : List Rows) (ks : List Kind) (m : ℕ) (aggs : List Agg) (of : PlanTree) (rows : Bounded) (ns : List ℤ) (others : List Kind) (enough : m ≤ length ks) (typed : all_kinds (map (agg_kind ks) aggs) ≡ Some others) (tables_fit : FitTables tables) (g : Gives kinds tables of ks rows ns) where
+module _ (how : Folding) (kinds : List (List Kind)) (tables : List Rows) (ks : List Kind) (m : ℕ) (aggs : List Agg) (of : PlanTree) (rows : Bounded) (ns : List ℤ) (others : List Kind) (enough : m ≤ length ks) (typed : all_kinds (map (agg_kind ks) aggs) ≡ Some others) (tables_fit : FitTables tables) (g : Gives kinds tables of ks rows ns) where
   abbrev t : Typed ks aggs others
   t = typed_on ks aggs others typed
 
@@ -71,50 +73,54 @@ module _ (kinds : List (List Kind)) (tables : List Rows) (ks : List Kind) (m : �
   abbrev own_numbers : List ℤ
   own_numbers = grouping_numbers (take m) aggs rows ++ triple_numbers (bounded.group m aggs rows)
 
-  numbers_fit : Fit (ns ++ own_numbers) → Fit (plan_numbers (group_plan (length ks) m aggs of) tables)
+  numbers_fit : Fit (ns ++ own_numbers) → Fit (plan_numbers (group_plan how (length ks) m aggs of) tables)
   numbers_fit f =
       let p = fit_parts ns own_numbers f in
       let q = fit_parts (grouping_numbers (take m) aggs rows) (triple_numbers (bounded.group m aggs rows)) p.1 in
-      group_fits (first_cells ks m enough) aggs t.on rows g.relation kinds tables of g.typed tables_fit g.encoded
+      group_fits (first_cells ks m enough) aggs t.on rows g.relation how kinds tables of g.typed tables_fit g.encoded
       (gives_held kinds tables of ks rows ns g tables_fit p.0) (g.fit p.0) (λ xs h. first_fit m xs h) keys_long kinds_there
       (all_fit (λ key. flat_map (agg_numbers (grouped (take m) rows key)) aggs) (guessed_keys (take m) rows) q.0) q.1
 
-  all_given : Gives kinds tables (group_plan (length ks) m aggs of) (take m ks ++ others) (bounded.group m aggs rows) (ns ++ own_numbers)
+  all_given : Gives kinds tables (group_plan how (length ks) m aggs of) (take m ks ++ others) (bounded.group m aggs rows) (ns ++ own_numbers)
   all_given = record {
     typed =
-        group_typed ks (take m ks) m keys_long kinds_there aggs t.on kinds of g.typed
+        group_typed ks (take m ks) m keys_long kinds_there aggs t.on kinds of g.typed how
         ∙ ap (λ es. Some (encoded_kinds (take m ks ++ es))) (sym t.kinds);
     relation = group_relation ks others m aggs rows typed g.relation;
-    encoded = group_gives ks m enough aggs (are_on ks aggs t.on) tables of rows g.relation g.encoded;
+    encoded = group_gives how ks m enough aggs (are_on ks aggs t.on) tables of rows g.relation g.encoded;
     fit = numbers_fit;
   }
 
 -- the input's plan twice
-twice_scanned : (c k : ℕ) (aggs : List Agg) (p : PlanTree) → scans (group_plan c k aggs p) ≡ 2 * scans p
-twice_scanned c k aggs p =
+folds_scanned : (how : Folding) (c k : ℕ) (aggs : List Agg) (p : PlanTree) → scans (folds how c k aggs p) ≡ scans p
+folds_scanned folding.EqualKeys c k aggs p = scans-extend_all (fold_columns (3 * c) aggs) p
+folds_scanned folding.Rows c k aggs p = scans-extend_all (fold_columns (3 * c) aggs) p
+
+twice_scanned : (how : Folding) (c k : ℕ) (aggs : List Agg) (p : PlanTree) → scans (group_plan how c k aggs p) ≡ 2 * scans p
+twice_scanned how c k aggs p =
     let kept = flat_map kept_for aggs in
     let b = 3 * k + 3 + length kept in
     let t = b + fold_width k (length aggs) in
     let columns = all_member_columns (places k b t) (3 * k + 3) aggs in
     let boxes = first_grouping c k kept p in
-    let folded = folds c k aggs p in
+    let folded = folds how c k aggs p in
     let second = second_grouping k b columns (all_member_aggs (t + 4) aggs) boxes folded in
     let finish = all_result_columns (positive (Column (b + 4 * length aggs))) (positive (sg (3 * k))) b aggs in
     scans-extend_all finish second
     ∙ scans-extend_all columns (Join (meets_term b 0 k) boxes folded)
-    ∙ (let e : scans boxes + scans folded ≡ 2 * scans p = omega (arith, scans-extend_all (group_columns c k) p, scans-extend_all (fold_columns (3 * c) aggs) p) in e)
+    ∙ (let e : scans boxes + scans folded ≡ 2 * scans p = omega (arith, scans-extend_all (group_columns c k) p, folds_scanned how c k aggs p) in e)
 
-module _ (c m : ℕ) (aggs : List Agg) (of p : PlanTree) (is : p ≡ group_plan c m aggs of) where
-  group_as_is : Groups c m aggs of (group_plan c m aggs of)
+module _ (how : Folding) (c m : ℕ) (aggs : List Agg) (of p : PlanTree) (is : p ≡ group_plan how c m aggs of) where
+  group_as_is : Groups c m aggs of (group_plan how c m aggs of)
   group_as_is kinds tables ks js rows ns fits long typed g =
       let own = grouping_numbers (take m) aggs rows ++ triple_numbers (bounded.group m aggs rows) in
       let q = parts m aggs ks js typed in
-      subst (λ n. Gives kinds tables (group_plan n m aggs of) js (bounded.group m aggs rows) (ns ++ own)) long
-      (subst (λ es. Gives kinds tables (group_plan (length ks) m aggs of) es (bounded.group m aggs rows) (ns ++ own)) q.whole
-      (all_given kinds tables ks m aggs of rows ns q.others q.enough q.typed fits g))
+      subst (λ n. Gives kinds tables (group_plan how n m aggs of) js (bounded.group m aggs rows) (ns ++ own)) long
+      (subst (λ es. Gives kinds tables (group_plan how (length ks) m aggs of) es (bounded.group m aggs rows) (ns ++ own)) q.whole
+      (all_given how kinds tables ks m aggs of rows ns q.others q.enough q.typed fits g))
 
   pub group_gives_all : Groups c m aggs of p
   group_gives_all = subst (λ q. Groups c m aggs of q) (sym is) group_as_is
 
   pub group_scans : scans p ≤ 2 * scans of
-  group_scans = le_of_eq {n = scans p} {m = 2 * scans of} (ap scans is ∙ twice_scanned c m aggs of)
+  group_scans = le_of_eq {n = scans p} {m = 2 * scans of} (ap scans is ∙ twice_scanned how c m aggs of)

@@ -37,6 +37,7 @@ use Rattle.au_rwexpr.proofs.OnValues.{reading}
 use Rattle.au_rwexpr.proofs.Places.{EndsOfAll}
 use Rattle.au_rwexpr.proofs.PlanNumbersOf.{fit_all, all_made, numbers-extend_all}
 use Rattle.au_combine.proofs.JoinGroups.{pairs, with_left}
+use Rattle.au_rwgroup.specs.declared.folding.Folding.{Folding}
 use Rattle.au_rwgroup.specs.Folds.{fold_width, folds}
 use Rattle.au_rwgroup.specs.Groups.{first_grouping}
 use Rattle.au_rwgroup.specs.GroupPlan as plans
@@ -46,7 +47,6 @@ use Rattle.au_rwgroup.proofs.FirstNumbers as first
 use Rattle.au_rwgroup.proofs.FirstNumbers.{IsEnd}
 use Rattle.au_rwgroup.proofs.FirstRows.{first_rows}
 use Rattle.au_rwgroup.proofs.FoldNumbers.{folds_fit}
-use Rattle.au_rwgroup.proofs.FoldRows as folds_of
 use Rattle.au_rwgroup.proofs.FitTerms.{Reads, reads_fit, reading_columns, meets_reads}
 use Rattle.au_rwgroup.proofs.GroupKinds as kinds_of
 use Rattle.au_rwgroup.proofs.GroupRows as rows_of
@@ -54,6 +54,7 @@ use Rattle.au_rwgroup.proofs.MemberColumns as member
 use Rattle.au_rwgroup.proofs.ColumnsThere.{IsOn}
 use Rattle.au_rwgroup.proofs.MemberNumbers as numbers
 use Rattle.au_rwgroup.proofs.SecondRows as second
+use Rattle.au_rwgroup.proofs.Sharing.{Fold, Sharing, fold_row, fold_rows, sharing}
 use Rattle.au_rwgroup.proofs.KeyReading.{KeyReading}
 
 -- what the first grouping keeps are ends
@@ -84,7 +85,7 @@ of_made : {A B : Type 0} (Q : B → Type 0) (g : A → B) (xs : List A) → AllB
 of_made Q g [] h = tt
 of_made Q g (x ∷ xs) h = (h.0, of_made Q g xs h.1)
 
-module _ (by : KeyReading) (aggs : List Agg) (on : AllByRecursion (OnColumn by.ks) aggs) (rows : Bounded) (ok : IsRelation by.ks rows) where
+module _ (by : KeyReading) (aggs : List Agg) (on : AllByRecursion (OnColumn by.ks) aggs) (rows : Bounded) (ok : IsRelation by.ks rows) (how : Folding) where
   abbrev more : List PAgg
   more = flat_map kept_for aggs
 
@@ -101,7 +102,10 @@ module _ (by : KeyReading) (aggs : List Agg) (on : AllByRecursion (OnColumn by.k
   n = b + fold_width by.k (length aggs) + 4
 
   abbrev Pair : Type 0
-  Pair = List Value × List Value
+  Pair = List Value × Fold
+
+  abbrev shared : Sharing by rows
+  shared = sharing by rows ok how
 
   abbrev IsPair : Pair → Type 0
   IsPair s = second.IsPair by more aggs rows ok s
@@ -115,8 +119,8 @@ module _ (by : KeyReading) (aggs : List Agg) (on : AllByRecursion (OnColumn by.k
   abbrev box_row : List Value → List Value
   box_row key = second.box_row by more aggs rows ok key
 
-  abbrev folds_at : List Value → Rows
-  folds_at key = second.folds by more aggs rows ok key
+  abbrev folds_at : List Value → List Fold
+  folds_at key = second.folds by more aggs rows ok shared key
 
   abbrev keys_list : Rows
   keys_list = second.keys_list by more aggs rows ok
@@ -125,13 +129,13 @@ module _ (by : KeyReading) (aggs : List Agg) (on : AllByRecursion (OnColumn by.k
   all_keys = second.all_keys by more aggs rows ok
 
   abbrev all_pairs : List Pair
-  all_pairs = second.all_pairs by more aggs rows ok
+  all_pairs = second.all_pairs by more aggs rows ok shared
 
   abbrev are_there : AllByRecursion (IsOn c) aggs
   are_there = are_on by.ks aggs on
 
   abbrev TermsFit : Pair → Type 0
-  TermsFit s = numbers.TermsFit by aggs are_there rows ok aggs s
+  TermsFit s = numbers.TermsFit by aggs are_there rows ok shared aggs s
 
   abbrev columns : List PTerm
   columns = all_member_columns places (3 * by.k + 3) aggs
@@ -146,7 +150,7 @@ module _ (by : KeyReading) (aggs : List Agg) (on : AllByRecursion (OnColumn by.k
   pair_terms [] v f = tt
   pair_terms (j ∷ js) v f =
       all_append TermsFit (with_left box_row folds_at j (folds_at j)) (pairs box_row folds_at js)
-      (all_made (λ fold. TermsFit (j, fold)) TermsFit (λ fold. (j, fold)) (folds_at j) (numbers.key_terms by aggs are_there rows ok j v.0 aggs f.0) (λ fold h. h))
+      (all_made (λ fold. TermsFit (j, fold)) TermsFit (λ fold. (j, fold)) (folds_at j) (numbers.key_terms by aggs are_there rows ok shared j v.0 aggs f.0) (λ fold h. h))
       (pair_terms js v.1 f.1)
 
   module _ (tk : List (List Kind)) (ts : List Rows) (p : PlanTree) (typed : HasKinds tk p by.ks) (tables : FitTables ts) (g : Gives ts p rows) (held : AllFitRows rows) (np : Fit (plan_numbers p ts)) (part : (xs : List Span) → AllFit xs → AllFit (by.keys xs)) (kks_long : length by.kks ≡ by.k) (kind_part : (row : List Kind) (i : ℕ) → EndsOfAll own own own row i by.ks → EndsOfAll own own own row i by.kks) (sums : AllByRecursion (λ key. Fit (numbers_at key)) keys_list) (triples : Fit (triple_numbers (group_by by.keys aggs rows))) where
@@ -165,16 +169,16 @@ module _ (by : KeyReading) (aggs : List Agg) (on : AllByRecursion (OnColumn by.k
     box_rows_fit = rows_fit tk (kinds_of.box_kinds by.ks by.kks by.k kks_long kind_part aggs on) boxes ts (kinds_of.boxes_typed by.ks by.kks by.k kks_long kind_part aggs on tk p typed) tables boxes_fit
 
     abbrev folded : PlanTree
-    folded = folds c by.k aggs p
+    folded = folds how c by.k aggs p
 
     folded_fit : Fit (plan_numbers folded ts)
-    folded_fit = folds_fit by aggs on rows ok ts p g (rows_fit tk (encoded_kinds by.ks) p ts typed tables np) np sums
+    folded_fit = folds_fit by aggs on rows ok ts p g (rows_fit tk (encoded_kinds by.ks) p ts typed tables np) np sums how
 
-    folded_are : plain_rows folded ts ≡ map (second.fold_row by more aggs rows ok) (second.fold_keys by more aggs rows ok)
-    folded_are = folds_of.fold_rows by aggs rows ok are_there ts p g
+    folded_are : plain_rows folded ts ≡ map (fold_row by aggs) shared.parts
+    folded_are = fold_rows by rows ok how aggs are_there ts p g
 
     folded_typed : plan_kinds tk folded ≡ Some (kinds_of.folded by.ks by.kks by.k kks_long kind_part aggs on)
-    folded_typed = kinds_of.folds_there by.ks by.kks by.k kks_long kind_part aggs on tk p typed
+    folded_typed = kinds_of.folds_there by.ks by.kks by.k kks_long kind_part aggs on tk p typed how
 
     folded_rows_fit : FitRows (plain_rows folded ts)
     folded_rows_fit = rows_fit tk (kinds_of.folded by.ks by.kks by.k kks_long kind_part aggs on) folded ts folded_typed tables folded_fit
@@ -194,7 +198,7 @@ module _ (by : KeyReading) (aggs : List Agg) (on : AllByRecursion (OnColumn by.k
         (fit_all (term_numbers (meets_term b 0 by.k)) pair_rows (all_from RowFits (λ row. Fit (term_numbers (meets_term b 0 by.k) row)) pair_rows (λ row f. reads_fit (meets_term b 0 by.k) row f (meets_reads b 0 by.k)) pair_rows_fit))
 
     joined_are : plain_rows join ts ≡ map joined all_pairs
-    joined_are = second.joined_rows by more aggs rows ok ts boxes folded boxes_are folded_are
+    joined_are = second.joined_rows by more aggs rows ok shared ts boxes folded boxes_are folded_are
 
     joined_fit : AllByRecursion (λ s. RowFits (joined s)) all_pairs
     joined_fit = of_made RowFits joined all_pairs (subst FitRows joined_are (all_filter RowFits (passes (meets_term b 0 by.k)) pair_rows pair_rows_fit))
@@ -204,7 +208,7 @@ module _ (by : KeyReading) (aggs : List Agg) (on : AllByRecursion (OnColumn by.k
 
     all_sound : AllByRecursion Sound all_pairs
     all_sound =
-        all_both IsPair (λ s. RowFits (joined s) × TermsFit s) all_pairs (second.pairs_ok by more aggs rows ok keys_list all_keys)
+        all_both IsPair (λ s. RowFits (joined s) × TermsFit s) all_pairs (second.pairs_ok by more aggs rows ok shared keys_list all_keys)
         (all_both (λ s. RowFits (joined s)) TermsFit all_pairs joined_fit (pair_terms keys_list all_keys sums))
 
     wider_fit : Fit (plan_numbers (extend_all columns join) ts)
@@ -212,16 +216,16 @@ module _ (by : KeyReading) (aggs : List Agg) (on : AllByRecursion (OnColumn by.k
         numbers-extend_all ts columns join join_fits
         (subst (λ rs. AllByRecursion (λ row. Fit (grow_numbers columns row)) rs) (sym joined_are)
         (all_made Sound (λ row. Fit (grow_numbers columns row)) joined all_pairs all_sound
-        (λ s q. numbers.columns_fit by aggs are_there rows ok s q.0 (rows_of.kept_there by aggs are_there rows ok s q.0) q.1.0 q.1.1)))
+        (λ s q. numbers.columns_fit by aggs are_there rows ok shared s q.0 (rows_of.kept_there by aggs are_there rows ok shared s q.0) q.1.0 q.1.1)))
 
     abbrev wide : Pair → List Value
-    wide s = rows_of.wide by aggs are_there rows ok s
+    wide s = rows_of.wide by aggs are_there rows ok shared s
 
     abbrev added : Pair → List Value
     added s = member.all_values by more aggs rows ok aggs s
 
     each_added : (s : Pair) → IsPair s → add_columns reading columns (joined s) ≡ Some (joined s ++ added s)
-    each_added s v = member.members_added by more aggs rows ok s v (3 * by.k + 3) (rows_of.kept_there by aggs are_there rows ok s v)
+    each_added s v = member.members_added by more aggs rows ok s v (3 * by.k + 3) (rows_of.kept_there by aggs are_there rows ok shared s v)
 
     abbrev grouped_plan : PlanTree
     grouped_plan = second_grouping by.k b columns over boxes folded
@@ -233,14 +237,14 @@ module _ (by : KeyReading) (aggs : List Agg) (on : AllByRecursion (OnColumn by.k
     sizes_fit =
         fit_all sizes keys_list
         (all_from (λ key. IsKey key × Fit (numbers_at key)) (λ key. Fit (sizes key)) keys_list
-        (λ key q. numbers.over_fits by aggs are_there rows ok key q.0 n aggs (λ fold v. rows_of.wide_at by aggs are_there rows ok (key, fold) q.0 v) q.1)
+        (λ key q. numbers.over_fits by aggs are_there rows ok shared key q.0 n aggs (λ fold v. rows_of.wide_at by aggs are_there rows ok shared (key, fold) q.0 v) q.1)
         (all_both IsKey (λ key. Fit (numbers_at key)) keys_list all_keys sums))
 
     grouped_fit : Fit (plan_numbers grouped_plan ts)
     grouped_fit =
         fit_both (plan_numbers (extend_all columns join) ts) (plain.group_numbers (run 0 b) over (plain_rows (extend_all columns join) ts)) wider_fit
-        (subst (λ rs. Fit (plain.group_numbers (run 0 b) over rs)) (sym (second.wide_rows by more aggs rows ok columns added each_added over ts boxes folded boxes_are folded_are))
-        (subst (λ ns. Fit ns) (sym (second.second_numbers by more aggs rows ok columns added each_added over)) sizes_fit))
+        (subst (λ rs. Fit (plain.group_numbers (run 0 b) over rs)) (sym (second.wide_rows by more aggs rows ok shared columns added each_added over ts boxes folded boxes_are folded_are))
+        (subst (λ ns. Fit ns) (sym (second.second_numbers by more aggs rows ok shared columns added each_added over)) sizes_fit))
 
     grouped_rows_fit : FitRows (plain_rows grouped_plan ts)
     grouped_rows_fit =
@@ -248,7 +252,7 @@ module _ (by : KeyReading) (aggs : List Agg) (on : AllByRecursion (OnColumn by.k
         (kinds_of.second_kinds by.ks by.kks by.k kks_long kind_part aggs on tk boxes folded (kinds_of.boxes_typed by.ks by.kks by.k kks_long kind_part aggs on tk p typed) folded_typed) tables grouped_fit
 
     -- Group's plan adds no number that does not fit.
-    pub group_fits : Fit (plan_numbers (group_plan c by.k aggs p) ts)
+    pub group_fits : Fit (plan_numbers (group_plan how c by.k aggs p) ts)
     group_fits =
         let finish = all_result_columns (positive (Column (b + 4 * length aggs))) (positive (sg (3 * by.k))) b aggs in
         let reads = results_read (positive (Column (b + 4 * length aggs))) (positive (sg (3 * by.k))) b aggs (refl, tt) (refl, tt) in

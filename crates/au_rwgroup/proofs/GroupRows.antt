@@ -49,9 +49,9 @@ use Rattle.au_rwgroup.proofs.SecondRows as second
 use Rattle.au_rwgroup.proofs.MemberColumns as member
 use Rattle.au_rwgroup.proofs.MemberColumns.{sum_same}
 use Rattle.au_rwgroup.proofs.ColumnsThere.{IsOn}
-use Rattle.au_rwgroup.proofs.FoldRows as folds_of
 use Rattle.au_rwgroup.proofs.FoldRows.{summed}
-use Rattle.au_rwgroup.proofs.Partition.{some_items, least_shared, greatest_shared, int_sum_shared}
+use Rattle.au_rwgroup.proofs.Sharing.{Fold, IsFold, Sharing, fold_row}
+use Rattle.au_rwgroup.specs.declared.folding.Folding.{Folding}
 use Rattle.au_rwgroup.specs.Folds as plans_of
 use Rattle.au_rwgroup.specs.Folds.{fold_width}
 use Rattle.au_rwgroup.proofs.Defaults.{nonempty, any_filter, or_else_is, least_if, greatest_if, sure_belongs}
@@ -85,7 +85,7 @@ guess_of : (t : Bool) (r : Span) → (if t then r.sg else r.lo) ≡ (guess_if t 
 guess_of true r = refl
 guess_of false r = refl
 
-module _ (by : KeyReading) (aggs : List Agg) (ok_aggs : AllByRecursion (IsOn (length by.ks)) aggs) (rows : Bounded) (ok : IsRelation by.ks rows) where
+module _ (by : KeyReading) (aggs : List Agg) (ok_aggs : AllByRecursion (IsOn (length by.ks)) aggs) (rows : Bounded) (ok : IsRelation by.ks rows) (shared : Sharing by rows) where
   abbrev c : ℕ
   c = length by.ks
 
@@ -111,14 +111,11 @@ module _ (by : KeyReading) (aggs : List Agg) (ok_aggs : AllByRecursion (IsOn (le
   overlaps key r = second.overlaps by more aggs rows ok key r
 
   -- the folds that overlap a box
-  abbrev folds : List Value → Rows
-  folds key = second.folds by more aggs rows ok key
+  abbrev folds : List Value → List Fold
+  folds key = second.folds by more aggs rows ok shared key
 
-  abbrev IsFold : List Value → Type 0
-  IsFold fold = second.IsFold by more aggs rows ok fold
-
-  abbrev fold_row : List Value → List Value
-  fold_row fold = second.fold_row by more aggs rows ok fold
+  abbrev row_of : Fold → List Value
+  row_of fold = fold_row by aggs fold
 
   -- a key that occurs
   abbrev IsKey : List Value → Type 0
@@ -129,13 +126,13 @@ module _ (by : KeyReading) (aggs : List Agg) (ok_aggs : AllByRecursion (IsOn (le
   keep key a = member.keep by more aggs rows ok key a
 
   abbrev Pair : Type 0
-  Pair = List Value × List Value
+  Pair = List Value × Fold
 
   abbrev values : List Agg → Pair → List Value
   values bs s = member.values by more aggs rows ok bs s
 
   abbrev joined : Pair → List Value
-  joined s = box_row s.0 ++ fold_row s.1
+  joined s = box_row s.0 ++ row_of s.1
 
   -- what the tests and the weights say of a pair
   abbrev tests : Pair → List Value
@@ -204,7 +201,7 @@ module _ (by : KeyReading) (aggs : List Agg) (ok_aggs : AllByRecursion (IsOn (le
       )
 
   -- the values behind the tests and the weights
-  pub wide_at : (s : Pair) → IsKey s.0 → IsFold s.1 → ValuesAt (wide s) n s aggs
+  pub wide_at : (s : Pair) → IsKey s.0 → IsFold by s.1 → ValuesAt (wide s) n s aggs
   wide_at s some there =
       let tested = joined s ++ tests s in
       let front = tested ++ weights s in
@@ -253,46 +250,39 @@ module _ (by : KeyReading) (aggs : List Agg) (ok_aggs : AllByRecursion (IsOn (le
   members_ok : (key : List Value) → IsRelation by.ks (members key)
   members_ok key = all_filter (IsRangeRow by.ks) (overlaps key) rows ok
 
-  -- the rows of a fold
-  abbrev rows_of : List Value → Bounded
-  rows_of fold = member.rows_of by more aggs rows ok fold
-
   abbrev passes_by : List Value → List Value → Bool
   passes_by key fold = second.fold_overlaps by more aggs rows ok key fold
 
-  pub folds_ok : (key : List Value) → AllByRecursion IsFold (folds key)
-  folds_ok key = all_filter IsFold (passes_by key) (second.fold_keys by more aggs rows ok) (second.all_folds by more aggs rows ok)
+  folds_ok : (key : List Value) → AllByRecursion (IsFold by) (folds key)
+  folds_ok key = second.folds_ok by more aggs rows ok shared key
 
   -- a column of the folds
-  column_over : (key : List Value) (i : ℕ) (f : List Value → Value) → ((fold : List Value) → IsFold fold → At (wide (key, fold)) i (f fold)) → map (λ row. value_at row i) (map wide (with_left box_row folds key (folds key))) ≡ map f (folds key)
+  column_over : (key : List Value) (i : ℕ) (f : Fold → Value) → ((fold : Fold) → IsFold by fold → At (wide (key, fold)) i (f fold)) → map (λ row. value_at row i) (map wide (with_left box_row folds key (folds key))) ≡ map f (folds key)
   column_over key i f at =
       ap (map (λ row. value_at row i)) (map-map (λ fold. (key, fold)) wide (folds key))
       ∙ map-map (λ fold. wide (key, fold)) (λ row. value_at row i) (folds key)
-      ∙ map_valid IsFold (λ fold. value_at (wide (key, fold)) i) f (folds key) (folds_ok key) (λ fold v. ap (λ o. unwrap_or o (value.Int (pos 0))) (at fold v))
+      ∙ map_valid (IsFold by) (λ fold. value_at (wide (key, fold)) i) f (folds key) (folds_ok key) (λ fold v. ap (λ o. unwrap_or o (value.Int (pos 0))) (at fold v))
 
   -- a sum, a least and a greatest over the members, from those over their folds
-  one_int : (key : List Value) (i : ℕ) (f : RangeRow → ℤ) → ((fold : List Value) → IsFold fold → At (wide (key, fold)) i (summed f (rows_of fold))) → over key (Sum i) ≡ value.Int (int_sum (map f (members key)))
+  one_int : (key : List Value) (i : ℕ) (f : RangeRow → ℤ) → ((fold : Fold) → IsFold by fold → At (wide (key, fold)) i (summed f fold.rows)) → over key (Sum i) ≡ value.Int (int_sum (map f (members key)))
   one_int key i f at =
       ap value.Int (ap int_sum (ap (map (λ row. number (value_at row i))) (map-map (λ fold. (key, fold)) wide (folds key))
       ∙ map-map (λ fold. wide (key, fold)) (λ row. number (value_at row i)) (folds key)
-      ∙ map_valid IsFold (λ fold. number (value_at (wide (key, fold)) i)) (λ fold. int_sum (map f (rows_of fold))) (folds key) (folds_ok key)
+      ∙ map_valid (IsFold by) (λ fold. number (value_at (wide (key, fold)) i)) (λ fold. int_sum (map f fold.rows)) (folds key) (folds_ok key)
       (λ fold v. ap (λ o. number (unwrap_or o (value.Int (pos 0)))) (at fold v)))
-      ∙ int_sum_shared (folds_of.fold_key by) rows (passes_by key) f
+      ∙ shared.sums (passes_by key) f
       ∙ (λ j. int_sum (map f (second.members_are by more aggs rows ok key j))))
 
-  some_item : (key : List Value) → IsKey key → 0 < length (some_items (folds_of.fold_key by) rows (passes_by key))
-  some_item key some = subst (λ ms. 0 < length ms) (sym (second.members_are by more aggs rows ok key)) (second.some_member by more aggs rows ok key some)
-
-  one_least : (key : List Value) → IsKey key → (i : ℕ) (f : RangeRow → Value) → ((fold : List Value) → IsFold fold → At (wide (key, fold)) i (least (map f (rows_of fold)))) → over key (Min i) ≡ least (map f (members key))
+  one_least : (key : List Value) → IsKey key → (i : ℕ) (f : RangeRow → Value) → ((fold : Fold) → IsFold by fold → At (wide (key, fold)) i (least (map f fold.rows))) → over key (Min i) ≡ least (map f (members key))
   one_least key some i f at =
-      ap least (column_over key i (λ fold. least (map f (rows_of fold))) at)
-      ∙ least_shared (folds_of.fold_key by) rows (passes_by key) f (some_item key some)
+      ap least (column_over key i (λ fold. least (map f fold.rows)) at)
+      ∙ shared.leasts (passes_by key) f (second.some_with_fold by more aggs rows ok key some)
       ∙ (λ j. least (map f (second.members_are by more aggs rows ok key j)))
 
-  one_greatest : (key : List Value) → IsKey key → (i : ℕ) (f : RangeRow → Value) → ((fold : List Value) → IsFold fold → At (wide (key, fold)) i (greatest (map f (rows_of fold)))) → over key (Max i) ≡ greatest (map f (members key))
+  one_greatest : (key : List Value) → IsKey key → (i : ℕ) (f : RangeRow → Value) → ((fold : Fold) → IsFold by fold → At (wide (key, fold)) i (greatest (map f fold.rows))) → over key (Max i) ≡ greatest (map f (members key))
   one_greatest key some i f at =
-      ap greatest (column_over key i (λ fold. greatest (map f (rows_of fold))) at)
-      ∙ greatest_shared (folds_of.fold_key by) rows (passes_by key) f (some_item key some)
+      ap greatest (column_over key i (λ fold. greatest (map f fold.rows)) at)
+      ∙ shared.greatests (passes_by key) f (second.some_with_fold by more aggs rows ok key some)
       ∙ (λ j. greatest (map f (second.members_are by more aggs rows ok key j)))
 
   -- four results behind a front, each with what it is
@@ -307,7 +297,7 @@ module _ (by : KeyReading) (aggs : List Agg) (ok_aggs : AllByRecursion (IsOn (le
       )
 
   -- whether a sure member is there, behind all results
-  sure_at : (key : List Value) → IsKey key → (some_member : RangeRow) (other_members : Bounded) → members key ≡ some_member ∷ other_members → (pre : List Value) (z m : ℕ) → length pre ≡ z → ((fold : List Value) → IsFold fold → ValuesAt (wide (key, fold)) m (key, fold) []) → ResultsAt (pre ++ map (over key) (all_member_aggs m [])) z key []
+  sure_at : (key : List Value) → IsKey key → (some_member : RangeRow) (other_members : Bounded) → members key ≡ some_member ∷ other_members → (pre : List Value) (z m : ℕ) → length pre ≡ z → ((fold : Fold) → IsFold by fold → ValuesAt (wide (key, fold)) m (key, fold) []) → ResultsAt (pre ++ map (over key) (all_member_aggs m [])) z key []
   sure_at key some x xs is pre z m e at =
       let sure = λ (r : RangeRow). counted (is_there key r) in
       subst (λ y. At (pre ++ map (over key) (all_member_aggs m [])) z y)
@@ -320,7 +310,7 @@ module _ (by : KeyReading) (aggs : List Agg) (ok_aggs : AllByRecursion (IsOn (le
       sum_same (IsRangeRow by.ks) (overlaps key) (belongs key) (guess_term d) (λ r v h. second.belongs_overlaps by more aggs rows ok key some r v h) rows ok
 
   -- the results of a box, four of each aggregate
-  results_at : (key : List Value) → IsKey key → (some_member : RangeRow) (other_members : Bounded) → members key ≡ some_member ∷ other_members → (pre : List Value) (z m : ℕ) (bs : List Agg) → length pre ≡ z → ((fold : List Value) → IsFold fold → ValuesAt (wide (key, fold)) m (key, fold) bs) → ResultsAt (pre ++ map (over key) (all_member_aggs m bs)) z key bs
+  results_at : (key : List Value) → IsKey key → (some_member : RangeRow) (other_members : Bounded) → members key ≡ some_member ∷ other_members → (pre : List Value) (z m : ℕ) (bs : List Agg) → length pre ≡ z → ((fold : Fold) → IsFold by fold → ValuesAt (wide (key, fold)) m (key, fold) bs) → ResultsAt (pre ++ map (over key) (all_member_aggs m bs)) z key bs
   results_at key some x xs is pre z m [] e at = sure_at key some x xs is pre z m e at
   results_at key some x xs is pre z m (agg.Sum d ∷ bs) e at =
       let l = one_int key m (lower_term (g key) d) (λ r v. (at r v).0.0) in
@@ -596,27 +586,27 @@ module _ (by : KeyReading) (aggs : List Agg) (ok_aggs : AllByRecursion (IsOn (le
         ∙ ap (λ q. q ++ encode_counts (triple key)) (sym (all_ends-append rl rs rh (box key) ranges))
 
   -- the kept columns stand behind the box and its triple
-  pub kept_there : (s : Pair) → IsKey s.0 × IsFold s.1 → member.KeptAt by more aggs rows ok (joined s) (3 * by.k + 3) s.0 aggs
+  pub kept_there : (s : Pair) → IsKey s.0 × IsFold by s.1 → member.KeptAt by more aggs rows ok (joined s) (3 * by.k + 3) s.0 aggs
   kept_there s v =
       let cells = encode_cells (box s.0) in
       let three = encode_counts (triple s.0) in
       let cells_long : length cells ≡ 3 * by.k = all_ends_long rl rs rh (box s.0) ∙ ap (λ m. 3 * m) (second.box_long by more aggs rows ok s.0 v.0) in
-      subst (λ r. member.KeptAt by more aggs rows ok (r ++ fold_row s.1) (3 * by.k + 3) s.0 aggs) (append_assoc cells three (kept_values s.0))
-      (member.kept_at by more aggs rows ok (cells ++ three) (fold_row s.1) (3 * by.k + 3) s.0 aggs (omega (arith, cells_long, length-append cells three)))
+      subst (λ r. member.KeptAt by more aggs rows ok (r ++ row_of s.1) (3 * by.k + 3) s.0 aggs) (append_assoc cells three (kept_values s.0))
+      (member.kept_at by more aggs rows ok (cells ++ three) (row_of s.1) (3 * by.k + 3) s.0 aggs (omega (arith, cells_long, length-append cells three)))
 
   -- Group's plan gives the rows of the bounded operator.
-  pub group_by_gives : (ts : List Rows) (p : PlanTree) → Gives ts p rows → Gives ts (plans.group_plan c by.k aggs p) (bounded.group_by by.keys aggs rows)
-  group_by_gives ts p h =
+  pub group_by_gives : (how : Folding) (ts : List Rows) (p : PlanTree) → Gives ts p rows → plain_rows (plans_of.folds how c by.k aggs p) ts ≡ map row_of shared.parts → Gives ts (plans.group_plan how c by.k aggs p) (bounded.group_by by.keys aggs rows)
+  group_by_gives how ts p h folded_are =
       let columns = all_member_columns places (3 * by.k + 3) aggs in
       let boxes = first_grouping c by.k more p in
-      let folded = plans_of.folds c by.k aggs p in
+      let folded = plans_of.folds how c by.k aggs p in
       let grouped = second_grouping by.k b columns (all_member_aggs n aggs) boxes folded in
       let keys_list = second.keys_list by more aggs rows ok in
       let all_keys = second.all_keys by more aggs rows ok in
       let rows_are : plain_rows grouped ts ≡ map grouped_row keys_list =
-      second.second_rows by more aggs rows ok columns added
+      second.second_rows by more aggs rows ok shared columns added
       (λ s v. member.members_added by more aggs rows ok s v (3 * by.k + 3) (kept_there s v)) (all_member_aggs n aggs) ts boxes folded
-      (first_rows by ts p more rows ok h) (folds_of.fold_rows by aggs rows ok ok_aggs ts p h) in
+      (first_rows by ts p more rows ok h) folded_are in
       ap (map (kept final_places)) (rows-extend_all final_columns grouped ts ∙ ap (map (grow final_columns)) rows_are ∙ map-map grouped_row (grow final_columns) keys_list)
       ∙ map-map (λ key. grow final_columns (grouped_row key)) (kept final_places) keys_list
       ∙ map_valid IsKey (λ key. kept final_places (grow final_columns (grouped_row key))) (λ key. encode_row (out key)) keys_list all_keys each_output

@@ -26,6 +26,7 @@ pub mod Narrowed
 pub mod Partition
 pub mod PlanParts
 pub mod SecondRows
+pub mod Sharing
 pub mod Signed
 pub mod Sizes
 pub mod Steps

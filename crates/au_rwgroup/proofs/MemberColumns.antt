@@ -40,6 +40,7 @@ use Rattle.au_rwgroup.proofs.FirstGroup.{sure_has}
 use Rattle.au_rwexpr.proofs.Flags.{counted, flag_counted}
 use Rattle.au_rwexpr.proofs.Meeting.{same_has}
 use Rattle.au_rwgroup.proofs.SecondRows as second
+use Rattle.au_rwgroup.proofs.Sharing.{Fold, fold_row, key_long, spans_long}
 use Rattle.au_rwexpr.proofs.Gives.{map-map, map_valid}
 use Rattle.au_rwgroup.proofs.FirstGroup as group
 use Rattle.au_rwexpr.proofs.Coded.{rl, rs, rh}
@@ -70,15 +71,11 @@ module _ (by : KeyReading) (more : List PAgg) (folded : List Agg) (rows : Bounde
   abbrev places : Places
   places = record { keys = by.k; fold = b; tests = t }
 
-  abbrev Joined : List Value × List Value → List Value
+  abbrev Joined : List Value × Fold → List Value
   Joined s = second.joined by more folded rows ok s
 
-  abbrev IsPair : List Value × List Value → Type 0
+  abbrev IsPair : List Value × Fold → Type 0
   IsPair s = second.IsPair by more folded rows ok s
-
-  -- the rows of a fold
-  abbrev pub rows_of : List Value → Bounded
-  rows_of fold = folds_of.rows_of by folded rows ok fold
 
   abbrev pub group_at : List Value → Grouped
   group_at key = grouped by.keys rows key
@@ -121,32 +118,32 @@ module _ (by : KeyReading) (more : List PAgg) (folded : List Agg) (rows : Bounde
   value_4 (agg.Max d) s = (range_at d s.1).lo
 
   -- the four values of a box and a fold: those of the box and the fold's rows in one
-  abbrev pub fold_1 : Agg → List Value × List Value → Value
-  fold_1 (agg.Sum d) s = summed (lower_term (group_at s.0) d) (rows_of s.1)
-  fold_1 (agg.Min d) s = least (map (λ r. value_1 (agg.Min d) (s.0, r)) (rows_of s.1))
-  fold_1 (agg.Max d) s = greatest (map (λ r. value_1 (agg.Max d) (s.0, r)) (rows_of s.1))
+  abbrev pub fold_1 : Agg → List Value × Fold → Value
+  fold_1 (agg.Sum d) s = summed (lower_term (group_at s.0) d) s.1.rows
+  fold_1 (agg.Min d) s = least (map (λ r. value_1 (agg.Min d) (s.0, r)) s.1.rows)
+  fold_1 (agg.Max d) s = greatest (map (λ r. value_1 (agg.Max d) (s.0, r)) s.1.rows)
 
-  abbrev pub fold_2 : Agg → List Value × List Value → Value
-  fold_2 (agg.Sum d) s = summed (λ r. if belongs_to s.0 r then guess_term d r else pos 0) (rows_of s.1)
-  fold_2 (agg.Min d) s = least (map (λ r. value_2 (agg.Min d) (s.0, r)) (rows_of s.1))
-  fold_2 (agg.Max d) s = greatest (map (λ r. value_2 (agg.Max d) (s.0, r)) (rows_of s.1))
+  abbrev pub fold_2 : Agg → List Value × Fold → Value
+  fold_2 (agg.Sum d) s = summed (λ r. if belongs_to s.0 r then guess_term d r else pos 0) s.1.rows
+  fold_2 (agg.Min d) s = least (map (λ r. value_2 (agg.Min d) (s.0, r)) s.1.rows)
+  fold_2 (agg.Max d) s = greatest (map (λ r. value_2 (agg.Max d) (s.0, r)) s.1.rows)
 
-  abbrev pub fold_3 : Agg → List Value × List Value → Value
-  fold_3 (agg.Sum d) s = summed (upper_term (group_at s.0) d) (rows_of s.1)
-  fold_3 (agg.Min d) s = least (map (λ r. value_3 (agg.Min d) (s.0, r)) (rows_of s.1))
-  fold_3 (agg.Max d) s = greatest (map (λ r. value_3 (agg.Max d) (s.0, r)) (rows_of s.1))
+  abbrev pub fold_3 : Agg → List Value × Fold → Value
+  fold_3 (agg.Sum d) s = summed (upper_term (group_at s.0) d) s.1.rows
+  fold_3 (agg.Min d) s = least (map (λ r. value_3 (agg.Min d) (s.0, r)) s.1.rows)
+  fold_3 (agg.Max d) s = greatest (map (λ r. value_3 (agg.Max d) (s.0, r)) s.1.rows)
 
-  abbrev pub fold_4 : Agg → List Value × List Value → Value
+  abbrev pub fold_4 : Agg → List Value × Fold → Value
   fold_4 (agg.Sum d) s = value.Int (pos 0)
-  fold_4 (agg.Min d) s = greatest (map (λ r. value_4 (agg.Min d) (s.0, r)) (rows_of s.1))
-  fold_4 (agg.Max d) s = least (map (λ r. value_4 (agg.Max d) (s.0, r)) (rows_of s.1))
+  fold_4 (agg.Min d) s = greatest (map (λ r. value_4 (agg.Min d) (s.0, r)) s.1.rows)
+  fold_4 (agg.Max d) s = least (map (λ r. value_4 (agg.Max d) (s.0, r)) s.1.rows)
 
   -- whether a row is surely there
-  abbrev pub fold_there : List Value × List Value → Value
-  fold_there s = greatest (map (λ r. counted (is_sure_copy (s.0, r))) (rows_of s.1))
+  abbrev pub fold_there : List Value × Fold → Value
+  fold_there s = greatest (map (λ r. counted (is_sure_copy (s.0, r))) s.1.rows)
 
   -- the columns of a pair of a box and a fold
-  abbrev pub values : List Agg → List Value × List Value → List Value
+  abbrev pub values : List Agg → List Value × Fold → List Value
   values [] s = fold_there s ∷ []
   values (a ∷ aggs) s = fold_1 a s ∷ fold_2 a s ∷ fold_3 a s ∷ fold_4 a s ∷ values aggs s
 
@@ -223,37 +220,37 @@ module _ (by : KeyReading) (more : List PAgg) (folded : List Agg) (rows : Bounde
   kept_more row more q key (agg.Max d ∷ aggs) h = ((at_more row more q _ h.0.0, at_more row more (q + 1) _ h.0.1), kept_more row more (q + 2) key aggs h.1)
 
   -- what the tests and the weights say of a pair
-  abbrev pub fold_sure : List Value × List Value → Bool
-  fold_sure s = all_certain (folds_of.spans by s.1) && all_certain (group_at s.0).box
+  abbrev pub fold_sure : List Value × Fold → Bool
+  fold_sure s = all_certain (folds_of.spans by s.1.key) && all_certain (group_at s.0).box
 
-  abbrev pub fold_belongs : List Value × List Value → Bool
-  fold_belongs s = same_row s.0 (guesses (folds_of.spans by s.1))
+  abbrev pub fold_belongs : List Value × Fold → Bool
+  fold_belongs s = same_row s.0 (guesses (folds_of.spans by s.1.key))
 
-  abbrev pub test_values : List Value × List Value → List Value
+  abbrev pub test_values : List Value × Fold → List Value
   test_values s = value.Flag (fold_sure s) ∷ value.Flag (fold_belongs s) ∷ []
 
-  abbrev pub sure_copy : List Value × List Value → Bool
-  sure_copy s = fold_sure s && folds_of.sure_of by s.1
+  abbrev pub sure_copy : List Value × Fold → Bool
+  sure_copy s = fold_sure s && folds_of.sure_of by s.1.key
 
-  abbrev pub guessed_copy : List Value × List Value → Bool
-  guessed_copy s = fold_belongs s && folds_of.guess_of by s.1
+  abbrev pub guessed_copy : List Value × Fold → Bool
+  guessed_copy s = fold_belongs s && folds_of.guess_of by s.1.key
 
-  abbrev pub weight_values : List Value × List Value → List Value
+  abbrev pub weight_values : List Value × Fold → List Value
   weight_values s = value.Flag (sure_copy s) ∷ value.Flag (guessed_copy s) ∷ []
 
   -- all that is added to a joined row
-  abbrev pub all_values : List Agg → List Value × List Value → List Value
+  abbrev pub all_values : List Agg → List Value × Fold → List Value
   all_values aggs s = test_values s ++ (weight_values s ++ values aggs s)
 
-  module _ (s : List Value × List Value) (v : IsPair s) where
+  module _ (s : List Value × Fold) (v : IsPair s) where
     -- the rows of the fold are alike, and there is one
     abbrev Alike : RangeRow → Type 0
-    Alike r = folds_of.Same by s.1 r
+    Alike r = folds_of.Same by s.1.key r
 
-    all_alike : AllByRecursion Alike (rows_of s.1)
-    all_alike = folds_of.all_same by folded rows ok s.1
+    all_alike : AllByRecursion Alike s.1.rows
+    all_alike = v.1.same
 
-    some_row : 0 < length (rows_of s.1)
+    some_row : 0 < length s.1.rows
     some_row = subst (λ rs. 0 < length rs) (sym v.1.is) (omega arith)
 
     sure_is : (r : RangeRow) → Alike r → is_sure (s.0, r) ≡ fold_sure s
@@ -280,27 +277,27 @@ module _ (by : KeyReading) (more : List PAgg) (folded : List Agg) (rows : Bounde
     pub row_long : length row ≡ t
     row_long =
         let front_long = second.box_row_long by more folded rows ok s.0 v.0 in
-        let key_long = folds_of.key_long by folded rows ok s.1 v.1 in
-        let fives_long = folds_of.fives_long folded (rows_of s.1) in
-        omega (arith, length-append (second.box_row by more folded rows ok s.0) (folds_of.fold_row by folded rows ok s.1), front_long, length-append s.1 (folds_of.all_fold_values folded (rows_of s.1)), key_long, fives_long)
+        let long = key_long by s.1 v.1 in
+        let fives_long = folds_of.fives_long folded s.1.rows in
+        omega (arith, length-append (second.box_row by more folded rows ok s.0) (fold_row by folded s.1), front_long, length-append s.1.key (folds_of.all_fold_values folded s.1.rows), long, fives_long)
 
     tested_long : length tested ≡ t + 2
     tested_long = omega (arith, length-append row (test_values s), row_long)
 
-    pub keys : EndsOfAll rl rs rh row b (folds_of.spans by s.1)
+    pub keys : EndsOfAll rl rs rh row b (folds_of.spans by s.1.key)
     keys = second.keys_at by more folded rows ok s v
 
     sure_has_it : Has row (And (all_sure b by.k) (all_sure 0 by.k)) (value.Flag (fold_sure s))
     sure_has_it =
-        let p = sure_has row b by.k (folds_of.spans by s.1) (folds_of.spans_long by folded rows ok s.1 v.1) keys in
+        let p = sure_has row b by.k (folds_of.spans by s.1.key) (spans_long by s.1 v.1) keys in
         let q = sure_has row 0 by.k (second.box by more folded rows ok s.0) (second.box_long by more folded rows ok s.0 v.0) (second.box_at by more folded rows ok s) in
         λ more. λ i. on_values.and (p more i) (q more i)
 
     belongs_has_it : Has row (same_guesses 0 b by.k) (value.Flag (fold_belongs s))
     belongs_has_it =
         let box = second.box by more folded rows ok s.0 in
-        let p = same_has row 0 b by.k box (folds_of.spans by s.1) (second.box_long by more folded rows ok s.0 v.0) (folds_of.spans_long by folded rows ok s.1 v.1) (second.box_at by more folded rows ok s) keys in
-        λ added. p added ∙ (λ i. value.Flag (same_row (second.box_guess by more folded rows ok s.0 v.0 i) (guesses (folds_of.spans by s.1))))
+        let p = same_has row 0 b by.k box (folds_of.spans by s.1.key) (second.box_long by more folded rows ok s.0 v.0) (spans_long by s.1 v.1) (second.box_at by more folded rows ok s) keys in
+        λ added. p added ∙ (λ i. value.Flag (same_row (second.box_guess by more folded rows ok s.0 v.0 i) (guesses (folds_of.spans by s.1.key))))
 
     -- the tests have their values
     pub tests_mean : AllMean reading row (plans.tests places) (test_values s)
@@ -313,16 +310,16 @@ module _ (by : KeyReading) (more : List PAgg) (folded : List Agg) (rows : Bounde
     belongs_at = at_past row (test_values s) 1 (t + 1) _ (omega (arith, row_long)) refl
 
     -- the tests of the fold
-    flags_at : At row (b + 3 * by.k) (value.Flag (folds_of.sure_of by s.1)) × At row (b + 3 * by.k + 1) (value.Flag (folds_of.guess_of by s.1))
+    flags_at : At row (b + 3 * by.k) (value.Flag (folds_of.sure_of by s.1.key)) × At row (b + 3 * by.k + 1) (value.Flag (folds_of.guess_of by s.1.key))
     flags_at =
         let box_row = second.box_row by more folded rows ok s.0 in
-        let cells = encode_cells (folds_of.spans by s.1) in
+        let cells = encode_cells (folds_of.spans by s.1.key) in
         let behind = second.behind_keys by more folded rows ok s.1 in
         let front_long = second.box_row_long by more folded rows ok s.0 v.0 in
-        let cells_long : length cells ≡ 3 * by.k = all_ends_long rl rs rh (folds_of.spans by s.1) ∙ ap (λ m. 3 * m) (folds_of.spans_long by folded rows ok s.1 v.1) in
+        let cells_long : length cells ≡ 3 * by.k = all_ends_long rl rs rh (folds_of.spans by s.1.key) ∙ ap (λ m. 3 * m) (spans_long by s.1 v.1) in
         let both_long = length-append box_row cells in
         let whole : (box_row ++ cells) ++ behind ≡ row = append_assoc box_row cells behind ∙ ap (λ f. box_row ++ f) (sym (second.fold_row_is by more folded rows ok s.1 v.1)) in
-        subst (λ r. At r (b + 3 * by.k) (value.Flag (folds_of.sure_of by s.1)) × At r (b + 3 * by.k + 1) (value.Flag (folds_of.guess_of by s.1))) whole
+        subst (λ r. At r (b + 3 * by.k) (value.Flag (folds_of.sure_of by s.1.key)) × At r (b + 3 * by.k + 1) (value.Flag (folds_of.guess_of by s.1.key))) whole
         (at_past (box_row ++ cells) behind 0 (b + 3 * by.k) _ (omega (arith, both_long, front_long, cells_long)) refl, at_past (box_row ++ cells) behind 1 (b + 3 * by.k + 1) _ (omega (arith, both_long, front_long, cells_long)) refl)
 
     -- and so have the weights
@@ -350,32 +347,32 @@ module _ (by : KeyReading) (more : List PAgg) (folded : List Agg) (rows : Bounde
 
     -- the values of the fold
     abbrev FivesAt : List Value → ℕ → List Agg → Type 0
-    FivesAt r y aggs = ValuesAt r y (rows_of s.1) aggs
+    FivesAt r y aggs = ValuesAt r y s.1.rows aggs
 
     pub fives : FivesAt weighed (b + 3 * by.k + 2) folded
     fives =
         let box_row = second.box_row by more folded rows ok s.0 in
-        let values_of = folds_of.all_fold_values folded (rows_of s.1) in
+        let values_of = folds_of.all_fold_values folded s.1.rows in
         let front_long = second.box_row_long by more folded rows ok s.0 v.0 in
-        let key_long = folds_of.key_long by folded rows ok s.1 v.1 in
-        values_more tested (weight_values s) (b + 3 * by.k + 2) (rows_of s.1) folded
-        (values_more row (test_values s) (b + 3 * by.k + 2) (rows_of s.1) folded
-        (subst (λ r. FivesAt r (b + 3 * by.k + 2) folded) (append_assoc box_row s.1 values_of)
-        (folds_of.fold_values_at (box_row ++ s.1) (b + 3 * by.k + 2) (rows_of s.1) folded (omega (arith, length-append box_row s.1, front_long, key_long)))))
+        let long = key_long by s.1 v.1 in
+        values_more tested (weight_values s) (b + 3 * by.k + 2) s.1.rows folded
+        (values_more row (test_values s) (b + 3 * by.k + 2) s.1.rows folded
+        (subst (λ r. FivesAt r (b + 3 * by.k + 2) folded) (append_assoc box_row s.1.key values_of)
+        (folds_of.fold_values_at (box_row ++ s.1.key) (b + 3 * by.k + 2) s.1.rows folded (omega (arith, length-append box_row s.1.key, front_long, long)))))
 
     -- a sum for all members with one for certain members alone
-    with_sure_has : (y z : ℕ) (f g h : RangeRow → ℤ) → At weighed y (summed f (rows_of s.1)) → At weighed z (summed g (rows_of s.1)) → ((r : RangeRow) → h r ≡ (if is_sure (s.0, r) then f r +ℤ g r else f r)) → Has weighed (plans.with_sure places y z) (summed h (rows_of s.1))
+    with_sure_has : (y z : ℕ) (f g h : RangeRow → ℤ) → At weighed y (summed f s.1.rows) → At weighed z (summed g s.1.rows) → ((r : RangeRow) → h r ≡ (if is_sure (s.0, r) then f r +ℤ g r else f r)) → Has weighed (plans.with_sure places y z) (summed h s.1.rows)
     with_sure_has y z f g h p q is =
         let all = column_has weighed y _ p in
         let sure = column_has weighed z _ q in
         λ more.
         (λ i. on_values.choose (sure_column more i) (on_values.add (all more i) (sure more i)) (all more i))
-        ∙ (sum_if_sure (λ r. is_sure (s.0, r)) f g h is (fold_sure s) (rows_of s.1) (all_from Alike (λ r. is_sure (s.0, r) ≡ fold_sure s) (rows_of s.1) sure_is all_alike))
+        ∙ (sum_if_sure (λ r. is_sure (s.0, r)) f g h is (fold_sure s) s.1.rows (all_from Alike (λ r. is_sure (s.0, r) ≡ fold_sure s) s.1.rows sure_is all_alike))
 
     -- The columns of the aggregates have their values.
     pub members_mean : (q y : ℕ) (aggs : List Agg) → KeptAt weighed q s.0 aggs → FivesAt weighed y aggs → AllMean reading weighed (each_member_columns places q y aggs) (values aggs s)
     members_mean q y [] kept five = (
-      (λ more. (λ i. Some (on_values.choose (surely_is more i) (value.Int (pos 1)) (value.Int (pos 0)))) ∙ ap Some (flag_counted (sure_copy s) ∙ sym (greatest_all (λ r. counted (is_sure_copy (s.0, r))) (counted (sure_copy s)) (rows_of s.1) some_row (all_from Alike (λ r. counted (is_sure_copy (s.0, r)) ≡ counted (sure_copy s)) (rows_of s.1) (λ r h. ap counted (sure_copy_is r h)) all_alike)))),
+      (λ more. (λ i. Some (on_values.choose (surely_is more i) (value.Int (pos 1)) (value.Int (pos 0)))) ∙ ap Some (flag_counted (sure_copy s) ∙ sym (greatest_all (λ r. counted (is_sure_copy (s.0, r))) (counted (sure_copy s)) s.1.rows some_row (all_from Alike (λ r. counted (is_sure_copy (s.0, r)) ≡ counted (sure_copy s)) s.1.rows (λ r h. ap counted (sure_copy_is r h)) all_alike)))),
       tt,
     )
     members_mean q y (agg.Sum d ∷ aggs) kept five =
@@ -385,7 +382,7 @@ module _ (by : KeyReading) (more : List PAgg) (folded : List Agg) (rows : Bounde
           (
             (λ more.
                 (λ i. Some (on_values.choose (belongs_column more i) (guess more i) (value.Int (pos 0))))
-                ∙ ap Some (summed_if (belongs_to s.0) (guess_term d) (fold_belongs s) (rows_of s.1) (all_from Alike (λ r. belongs_to s.0 r ≡ fold_belongs s) (rows_of s.1) belongs_is all_alike))),
+                ∙ ap Some (summed_if (belongs_to s.0) (guess_term d) (fold_belongs s) s.1.rows (all_from Alike (λ r. belongs_to s.0 r ≡ fold_belongs s) s.1.rows belongs_is all_alike))),
             (
               (λ more. ap Some (with_sure_has (y + 2) (y + 4) (high_term d) (sure_high_term d) (upper_term g d) five.0.2 five.0.4 (λ r. upper_is g d r) more)),
               ((λ more. refl), members_mean (q + 2) (y + 5) aggs kept.1 five.1),
@@ -403,11 +400,11 @@ module _ (by : KeyReading) (more : List PAgg) (folded : List Agg) (rows : Bounde
           (
             (λ more.
                 (λ i. Some (on_values.choose (guessed_is more i) (b2 more i) (g more i)))
-                ∙ ap Some (least_if_all (λ r. is_guessed_copy (s.0, r)) (λ r. (range_at d r).sg) (keep s.0 (Max (3 * d + 1))) (guessed_copy s) (rows_of s.1) some_row (all_from Alike (λ r. is_guessed_copy (s.0, r) ≡ guessed_copy s) (rows_of s.1) guessed_copy_is all_alike))),
+                ∙ ap Some (least_if_all (λ r. is_guessed_copy (s.0, r)) (λ r. (range_at d r).sg) (keep s.0 (Max (3 * d + 1))) (guessed_copy s) s.1.rows some_row (all_from Alike (λ r. is_guessed_copy (s.0, r) ≡ guessed_copy s) s.1.rows guessed_copy_is all_alike))),
             (
               (λ more.
                   (λ i. Some (on_values.choose (surely_is more i) (b3 more i) (h more i)))
-                  ∙ ap Some (least_if_all (λ r. is_sure_copy (s.0, r)) (λ r. (range_at d r).hi) (keep s.0 (Max (3 * d + 2))) (sure_copy s) (rows_of s.1) some_row (all_from Alike (λ r. is_sure_copy (s.0, r) ≡ sure_copy s) (rows_of s.1) sure_copy_is all_alike))),
+                  ∙ ap Some (least_if_all (λ r. is_sure_copy (s.0, r)) (λ r. (range_at d r).hi) (keep s.0 (Max (3 * d + 2))) (sure_copy s) s.1.rows some_row (all_from Alike (λ r. is_sure_copy (s.0, r) ≡ sure_copy s) s.1.rows sure_copy_is all_alike))),
               ((λ more. ap Some (b4 more)), members_mean (q + 2) (y + 5) aggs kept.1 five.1),
             ),
           ),
@@ -423,11 +420,11 @@ module _ (by : KeyReading) (more : List PAgg) (folded : List Agg) (rows : Bounde
           (
             (λ more.
                 (λ i. Some (on_values.choose (guessed_is more i) (b2 more i) (g more i)))
-                ∙ ap Some (greatest_if_all (λ r. is_guessed_copy (s.0, r)) (λ r. (range_at d r).sg) (keep s.0 (Min (3 * d + 1))) (guessed_copy s) (rows_of s.1) some_row (all_from Alike (λ r. is_guessed_copy (s.0, r) ≡ guessed_copy s) (rows_of s.1) guessed_copy_is all_alike))),
+                ∙ ap Some (greatest_if_all (λ r. is_guessed_copy (s.0, r)) (λ r. (range_at d r).sg) (keep s.0 (Min (3 * d + 1))) (guessed_copy s) s.1.rows some_row (all_from Alike (λ r. is_guessed_copy (s.0, r) ≡ guessed_copy s) s.1.rows guessed_copy_is all_alike))),
             (
               (λ more.
                   (λ i. Some (on_values.choose (surely_is more i) (b3 more i) (h more i)))
-                  ∙ ap Some (greatest_if_all (λ r. is_sure_copy (s.0, r)) (λ r. (range_at d r).lo) (keep s.0 (Min (3 * d))) (sure_copy s) (rows_of s.1) some_row (all_from Alike (λ r. is_sure_copy (s.0, r) ≡ sure_copy s) (rows_of s.1) sure_copy_is all_alike))),
+                  ∙ ap Some (greatest_if_all (λ r. is_sure_copy (s.0, r)) (λ r. (range_at d r).lo) (keep s.0 (Min (3 * d))) (sure_copy s) s.1.rows some_row (all_from Alike (λ r. is_sure_copy (s.0, r) ≡ sure_copy s) s.1.rows sure_copy_is all_alike))),
               ((λ more. ap Some (b4 more)), members_mean (q + 2) (y + 5) aggs kept.1 five.1),
             ),
           ),

@@ -15,7 +15,6 @@ use Rattle.au_algebra.specs.Bounded.{RangeRow, Bounded, Grouped, lower_term, upp
 use Rattle.au_algebra.specs.Fits.{agg_numbers, term_numbers}
 use Rattle.au_algebra.specs.Laws.{IsRangeRow, IsRelation}
 use Rattle.au_algebra.specs.Lists.{int_sum, value_at}
-use Rattle.au_algebra.specs.Ordinary.{Rows}
 use Rattle.au_algebra.proofs.Each.{all_from}
 use Rattle.au_plain.specs.declared.plan.PAgg.{PAgg}
 use Rattle.au_plain.specs.PTerms.{Column, And, Case}
@@ -34,9 +33,8 @@ use Rattle.au_rwgroup.specs.Folds.{fold_width}
 use Rattle.au_rwgroup.specs.Groups.{all_sure}
 use Rattle.au_rwgroup.specs.GroupPlan as plans
 use Rattle.au_rwgroup.specs.GroupPlan.{Places, kept_for, all_member_columns, each_member_columns, all_member_aggs}
-use Rattle.au_rwgroup.proofs.FoldRows as folds_of
 use Rattle.au_rwgroup.proofs.FoldRows.{summed}
-use Rattle.au_rwgroup.proofs.Partition.{sizes_shared}
+use Rattle.au_rwgroup.proofs.Sharing.{Fold, IsFold, Sharing}
 use Rattle.au_rwgroup.proofs.Sizes.{sum_made, zeros, sizes_of, number_fits, each_within}
 use Rattle.au_rwgroup.proofs.FitTerms.{Safe, reads_safe, weighs_safe, safe_columns, same_reads, sure_reads}
 use Rattle.au_rwgroup.proofs.MemberColumns as member
@@ -63,7 +61,7 @@ same_size V meet same t implied [] v = refl
 same_size V meet same t implied (r ∷ rows) v =
     size_by same t (meet r) (same r) r (filter meet rows) (filter same rows) refl (implied r v.0) (same_size V meet same t implied rows v.1)
 
-module _ (by : KeyReading) (aggs : List Agg) (ok_aggs : AllByRecursion (IsOn (length by.ks)) aggs) (rows : Bounded) (ok : IsRelation by.ks rows) where
+module _ (by : KeyReading) (aggs : List Agg) (ok_aggs : AllByRecursion (IsOn (length by.ks)) aggs) (rows : Bounded) (ok : IsRelation by.ks rows) (shared : Sharing by rows) where
   abbrev more : List PAgg
   more = flat_map kept_for aggs
 
@@ -80,7 +78,7 @@ module _ (by : KeyReading) (aggs : List Agg) (ok_aggs : AllByRecursion (IsOn (le
   places = plans.places by.k b t
 
   abbrev Pair : Type 0
-  Pair = List Value × List Value
+  Pair = List Value × Fold
 
   abbrev IsPair : Pair → Type 0
   IsPair s = second.IsPair by more aggs rows ok s
@@ -112,15 +110,9 @@ module _ (by : KeyReading) (aggs : List Agg) (ok_aggs : AllByRecursion (IsOn (le
   abbrev fold_3 : Agg → Pair → Value
   fold_3 a s = member.fold_3 by more aggs rows ok a s
 
-  -- the folds that overlap a box, and the rows of one
-  abbrev folds : List Value → Rows
-  folds key = second.folds by more aggs rows ok key
-
-  abbrev IsFold : List Value → Type 0
-  IsFold fold = second.IsFold by more aggs rows ok fold
-
-  abbrev rows_in : List Value → Bounded
-  rows_in fold = member.rows_of by more aggs rows ok fold
+  -- the folds that overlap a box
+  abbrev folds : List Value → List Fold
+  folds key = second.folds by more aggs rows ok shared key
 
   abbrev values : List Agg → Pair → List Value
   values bs s = member.values by more aggs rows ok bs s
@@ -187,19 +179,19 @@ module _ (by : KeyReading) (aggs : List Agg) (ok_aggs : AllByRecursion (IsOn (le
       (then_adds careful tests (weights ++ each) row tested (Some last) w.0 (then_adds careful weights each tested weighed (Some last) x.0 z.0))).1
 
   -- the magnitudes of sums over the folds of a box are within those of its members
-  sizes_within : (key : List Value) (f : RangeRow → ℤ) → sum_by (λ fold. nat_abs (int_sum (map f (rows_in fold)))) (folds key) ≤ sum_by nat_abs (map f (members key))
+  sizes_within : (key : List Value) (f : RangeRow → ℤ) → sum_by (λ fold. nat_abs (int_sum (map f fold.rows))) (folds key) ≤ sum_by nat_abs (map f (members key))
   sizes_within key f =
-      subst (λ n. sum_by (λ fold. nat_abs (int_sum (map f (rows_in fold)))) (folds key) ≤ n) (sym (sizes_of f (members key)))
-      (subst (λ ms. sum_by (λ fold. nat_abs (int_sum (map f (rows_in fold)))) (folds key) ≤ sum_by (λ r. nat_abs (f r)) ms) (second.members_are by more aggs rows ok key)
-      (sizes_shared (folds_of.fold_key by) rows (second.fold_overlaps by more aggs rows ok key) f))
+      subst (λ n. sum_by (λ fold. nat_abs (int_sum (map f fold.rows))) (folds key) ≤ n) (sym (sizes_of f (members key)))
+      (subst (λ ms. sum_by (λ fold. nat_abs (int_sum (map f fold.rows))) (folds key) ≤ sum_by (λ r. nat_abs (f r)) ms) (second.members_are by more aggs rows ok key)
+      (shared.sizes (second.fold_overlaps by more aggs rows ok key) f))
 
   -- so each of these sums fits where those do
-  sums_fit : (key : List Value) (f : RangeRow → ℤ) → Fit (pos (sum_by nat_abs (map f (members key))) ∷ []) → AllByRecursion (λ fold. ValueFits (summed f (rows_in fold))) (folds key)
+  sums_fit : (key : List Value) (f : RangeRow → ℤ) → Fit (pos (sum_by nat_abs (map f (members key))) ∷ []) → AllByRecursion (λ fold. ValueFits (summed f fold.rows)) (folds key)
   sums_fit key f fits =
       let n = sum_by nat_abs (map f (members key)) in
-      all_from (λ fold. nat_abs (int_sum (map f (rows_in fold))) ≤ n) (λ fold. ValueFits (summed f (rows_in fold))) (folds key)
-      (λ fold h. number_fits (int_sum (map f (rows_in fold))) n h fits)
-      (each_within (λ fold. nat_abs (int_sum (map f (rows_in fold)))) n (folds key) (sizes_within key f))
+      all_from (λ fold. nat_abs (int_sum (map f fold.rows)) ≤ n) (λ fold. ValueFits (summed f fold.rows)) (folds key)
+      (λ fold h. number_fits (int_sum (map f fold.rows)) n h fits)
+      (each_within (λ fold. nat_abs (int_sum (map f fold.rows))) n (folds key) (sizes_within key f))
 
   -- the guessed sum of the members is that of the rows that belong
   abbrev guess_if : List Value → ℕ → RangeRow → ℤ
@@ -246,25 +238,25 @@ module _ (by : KeyReading) (aggs : List Agg) (ok_aggs : AllByRecursion (IsOn (le
   key_terms key some (agg.Max d ∷ bs) f = key_terms key some bs f
 
   abbrev wide : Pair → List Value
-  wide s = rows_of.wide by aggs ok_aggs rows ok s
+  wide s = rows_of.wide by aggs ok_aggs rows ok shared s
 
   abbrev ValuesAt : List Value → ℕ → Pair → List Agg → Type 0
-  ValuesAt row m s bs = rows_of.ValuesAt by aggs ok_aggs rows ok row m s bs
+  ValuesAt row m s bs = rows_of.ValuesAt by aggs ok_aggs rows ok shared row m s bs
 
   abbrev own_rows : List Value → List (List Value)
   own_rows key = map wide (with_left box_row folds key (folds key))
 
   -- the magnitudes of a column over the folds
-  magnitude : (key : List Value) (i : ℕ) (f : RangeRow → ℤ) → ((fold : List Value) → IsFold fold → At (wide (key, fold)) i (summed f (rows_in fold))) → sum_by (λ row. nat_abs (number (value_at row i))) (own_rows key) ≤ sum_by nat_abs (map f (members key))
+  magnitude : (key : List Value) (i : ℕ) (f : RangeRow → ℤ) → ((fold : Fold) → IsFold by fold → At (wide (key, fold)) i (summed f fold.rows)) → sum_by (λ row. nat_abs (number (value_at row i))) (own_rows key) ≤ sum_by nat_abs (map f (members key))
   magnitude key i f at =
-      let each = λ (fold : List Value). int_sum (map f (rows_in fold)) in
+      let each = λ (fold : Fold). int_sum (map f fold.rows) in
       subst (λ n. n ≤ sum_by nat_abs (map f (members key)))
-      (sym (sizes_of each (folds key)) ∙ sym (sum_made IsFold (λ fold. wide (key, fold)) i each (folds key) (rows_of.folds_ok by aggs ok_aggs rows ok key) at)
+      (sym (sizes_of each (folds key)) ∙ sym (sum_made (IsFold by) (λ fold. wide (key, fold)) i each (folds key) (second.folds_ok by more aggs rows ok shared key) at)
       ∙ sym (ap (sum_by (λ row. nat_abs (number (value_at row i)))) (map-map (λ fold. (key, fold)) wide (folds key))))
       (sizes_within key f)
 
   -- The sums over the folds of a box fit where the numbers of the aggregates do.
-  pub over_fits : (key : List Value) → IsKey key → (m : ℕ) (bs : List Agg) → ((fold : List Value) → IsFold fold → ValuesAt (wide (key, fold)) m (key, fold) bs) → Fit (flat_map (agg_numbers (group_at key)) bs) → Fit (flat_map (magnitudes (own_rows key)) (all_member_aggs m bs))
+  pub over_fits : (key : List Value) → IsKey key → (m : ℕ) (bs : List Agg) → ((fold : Fold) → IsFold by fold → ValuesAt (wide (key, fold)) m (key, fold) bs) → Fit (flat_map (agg_numbers (group_at key)) bs) → Fit (flat_map (magnitudes (own_rows key)) (all_member_aggs m bs))
   over_fits key some m [] at f = refl
   over_fits key some m (agg.Sum d ∷ bs) at f =
       let g = group_at key in
@@ -276,7 +268,7 @@ module _ (by : KeyReading) (aggs : List Agg) (ok_aggs : AllByRecursion (IsOn (le
       let high = lower_fits (size (m + 2)) (sum_by nat_abs (map (upper_term g d) (members key))) (magnitude key (m + 2) (upper_term g d) (λ fold v. (at fold v).0.2)) sums.upper in
       let none : size (m + 3) ≡ 0 =
       ap (sum_by (λ row. nat_abs (number (value_at row (m + 3))))) (map-map (λ fold. (key, fold)) wide (folds key))
-      ∙ sum_made IsFold (λ fold. wide (key, fold)) (m + 3) (λ fold. pos 0) (folds key) (rows_of.folds_ok by aggs ok_aggs rows ok key) (λ fold v. (at fold v).0.3) ∙ zeros (folds key) in
+      ∙ sum_made (IsFold by) (λ fold. wide (key, fold)) (m + 3) (λ fold. pos 0) (folds key) (second.folds_ok by more aggs rows ok shared key) (λ fold v. (at fold v).0.3) ∙ zeros (folds key) in
       let rest = flat_map (magnitudes (own_rows key)) (all_member_aggs (m + 4) bs) in
       fit_both (pos (size m) ∷ []) (pos (size (m + 1)) ∷ pos (size (m + 2)) ∷ pos (size (m + 3)) ∷ rest) low
       (fit_both (pos (size (m + 1)) ∷ []) (pos (size (m + 2)) ∷ pos (size (m + 3)) ∷ rest) guess

@@ -6,6 +6,7 @@ use Rattle.au_plain.specs.declared.plan.PAgg.{PAgg}
 use Rattle.au_plain.specs.PTerms.{PTerm, Column}
 use Rattle.au_plain.specs.Plans.{PlanTree, Keep, extend_all}
 use Rattle.au_rwexpr.specs.Counts.{positive}
+use Rattle.au_rwgroup.specs.declared.folding.Folding.{Folding}
 use Rattle.au_rwgroup.specs.Folds.{fold_width, folds}
 use Rattle.au_rwgroup.specs.Groups.{first_grouping}
 use Rattle.au_rwgroup.specs.GroupPlan.{kept_for, places, all_member_columns, all_member_aggs, all_result_columns, second_grouping, result_places, group_plan}
@@ -20,9 +21,9 @@ pub record PlacesAre (k : ℕ) (aggs : List Agg) (kept : List PAgg) (counts keys
   pub there_is : there ≡ 3 * k + 3 + length kept + 4 * number
   pub number_is : number ≡ length aggs
 
-module _ (c k : ℕ) (aggs : List Agg) (kept : List PAgg) (counts keys fold tests there number : ℕ) (at : PlacesAre k aggs kept counts keys fold tests there number) where
+module _ (how : Folding) (c k : ℕ) (aggs : List Agg) (kept : List PAgg) (counts keys fold tests there number : ℕ) (at : PlacesAre k aggs kept counts keys fold tests there number) where
   -- the whole plan, from its parts
-  pub plan_is : (of groups p : PlanTree) (shown : List ℕ) (columns : List PTerm) → columns ≡ all_result_columns (positive (Column there)) (positive (Column (counts + 1))) fold aggs → shown ≡ result_places k (there + 1) number → groups ≡ second_grouping keys fold (all_member_columns (places keys fold tests) (counts + 3) aggs) (all_member_aggs (tests + 4) aggs) (first_grouping c keys kept of) (folds c keys aggs of) → p ≡ Keep shown (extend_all columns groups) → p ≡ group_plan c k aggs of
+  pub plan_is : (of groups p : PlanTree) (shown : List ℕ) (columns : List PTerm) → columns ≡ all_result_columns (positive (Column there)) (positive (Column (counts + 1))) fold aggs → shown ≡ result_places k (there + 1) number → groups ≡ second_grouping keys fold (all_member_columns (places keys fold tests) (counts + 3) aggs) (all_member_aggs (tests + 4) aggs) (first_grouping c keys kept of) (folds how c keys aggs of) → p ≡ Keep shown (extend_all columns groups) → p ≡ group_plan how c k aggs of
   plan_is of groups p shown columns columns_are shown_are groups_are whole =
       let kept_long = ap (λ xs. 3 * k + 3 + length xs) at.kept_is in
       let fold_at = at.fold_is ∙ kept_long in
@@ -34,4 +35,4 @@ module _ (c k : ℕ) (aggs : List Agg) (kept : List PAgg) (counts keys fold test
       Keep (result_places k (there_at i + 1) (at.number_is i))
       (extend_all (all_result_columns (positive (Column (there_at i))) (positive (Column (at.counts_is i + 1))) (fold_at i) aggs)
       (second_grouping (at.keys_is i) (fold_at i) (all_member_columns (places (at.keys_is i) (fold_at i) (tests_at i)) (at.counts_is i + 3) aggs) (all_member_aggs (tests_at i + 4) aggs)
-      (first_grouping c (at.keys_is i) (at.kept_is i) of) (folds c (at.keys_is i) aggs of))))
+      (first_grouping c (at.keys_is i) (at.kept_is i) of) (folds how c (at.keys_is i) aggs of))))

@@ -41,7 +41,7 @@ use Rattle.au_rwgroup.proofs.FirstGroup as group
 use Rattle.au_rwgroup.proofs.FoldRows as folds_of
 use Rattle.au_rwgroup.proofs.Found.{Found, found_from}
 use Rattle.au_rwgroup.proofs.Narrowed.{filter_valid}
-use Rattle.au_rwgroup.proofs.Partition.{some_items, some_keys, some_key}
+use Rattle.au_rwgroup.proofs.Sharing.{Fold, IsFold, Sharing, fold_row, folds_with, key_parts, rows_with, spans_long}
 use Rattle.au_rwexpr.proofs.PlanNumbersOf.{all_made}
 use Rattle.au_rwgroup.proofs.FirstRows.{first_row}
 use Rattle.au_rwexpr.proofs.Coded.{rl, rs, rh}
@@ -114,15 +114,12 @@ module _ (by : KeyReading) (more : List PAgg) (folded : List Agg) (rows : Bounde
       guesses_meet by.kks (by.keys r.cells) (box key) (by.kinded r v) (box_ranges key some)
       (ap (same_row (guess r)) (box_guess key some ∙ same_row_is key (guess r) s) ∙ same_row_refl (guess r))
 
-  -- the folds that overlap a box
+  -- whether a fold of this key overlaps a box
   abbrev pub fold_overlaps : List Value → List Value → Bool
   fold_overlaps key fold = all_overlap (folds_of.spans by fold) (box key)
 
-  abbrev pub folds : List Value → Rows
-  folds key = some_keys (folds_of.fold_key by) rows (fold_overlaps key)
-
-  -- the rows of these are those that overlap it
-  pub members_are : (key : List Value) → some_items (folds_of.fold_key by) rows (fold_overlaps key) ≡ members key
+  -- the rows of those that do overlap it
+  pub members_are : (key : List Value) → rows_with by (fold_overlaps key) rows ≡ members key
   members_are key =
       filter_valid (IsRangeRow by.ks) (λ r. fold_overlaps key (folds_of.fold_key by r)) (overlaps key) rows ok
       (λ r v. ap (λ xs. all_overlap xs (box key)) (folds_of.same_itself by r v).ranges)
@@ -133,14 +130,8 @@ module _ (by : KeyReading) (more : List PAgg) (folded : List Agg) (rows : Bounde
   pub some_member : (key : List Value) → IsKey key → 0 < length (members key)
   some_member key some = subst (λ rs. 0 < length rs) (sym (found_member key some).is) (omega arith)
 
-  pub has_member : (key : List Value) → IsKey key → Met box_row folds key
-  has_member key some =
-      first_of key (folds key) refl
-      (some_key (folds_of.fold_key by) rows (fold_overlaps key) (subst (λ rs. 0 < length rs) (sym (members_are key)) (some_member key some)))
-    where
-      first_of : (key : List Value) (fs : Rows) → folds key ≡ fs → 0 < length fs → Met box_row folds key
-      first_of key [] e h = let never : ⊥ = omega (arith, h) in absurd never
-      first_of key (f ∷ fs) e h = record { first = f; others = fs; is = e }
+  pub some_with_fold : (key : List Value) → IsKey key → 0 < length (rows_with by (fold_overlaps key) rows)
+  some_with_fold key some = subst (λ rs. 0 < length rs) (sym (members_are key)) (some_member key some)
 
   abbrev pub keys_list : Rows
   keys_list = guessed_keys by.keys rows
@@ -148,93 +139,96 @@ module _ (by : KeyReading) (more : List PAgg) (folded : List Agg) (rows : Bounde
   pub all_keys : AllByRecursion IsKey keys_list
   all_keys = all_from (λ key. 0 < copies key (map guess rows)) IsKey keys_list (λ key o. some_with guess key rows o) (all_occur guess rows)
 
-  -- a fold that occurs
-  abbrev pub IsFold : List Value → Type 0
-  IsFold fold = folds_of.IsFold by folded rows ok fold
+  abbrev pub joined : List Value × Fold → List Value
+  joined s = box_row s.0 ++ fold_row by folded s.1
 
-  abbrev pub fold_keys : Rows
-  fold_keys = folds_of.fold_keys by folded rows ok
-
-  abbrev pub fold_row : List Value → List Value
-  fold_row fold = folds_of.fold_row by folded rows ok fold
-
-  pub all_folds : AllByRecursion IsFold fold_keys
-  all_folds = folds_of.all_folds by folded rows ok
-
-  abbrev pub joined : List Value × List Value → List Value
-  joined s = box_row s.0 ++ fold_row s.1
-
-  abbrev pub IsPair : List Value × List Value → Type 0
-  IsPair s = IsKey s.0 × IsFold s.1
+  abbrev pub IsPair : List Value × Fold → Type 0
+  IsPair s = IsKey s.0 × IsFold by s.1
 
   -- the parts of a joined row
-  pub box_at : (s : List Value × List Value) → EndsOfAll rl rs rh (joined s) 0 (box s.0)
-  box_at s = all_ends_more rl rs rh (box_row s.0) (fold_row s.1) 0 (box s.0) (all_ends_at rl rs rh [] (tail s.0) 0 (box s.0) refl)
+  pub box_at : (s : List Value × Fold) → EndsOfAll rl rs rh (joined s) 0 (box s.0)
+  box_at s = all_ends_more rl rs rh (box_row s.0) (fold_row by folded s.1) 0 (box s.0) (all_ends_at rl rs rh [] (tail s.0) 0 (box s.0) refl)
 
   -- what stands behind a fold's keys
-  abbrev pub behind_keys : List Value → List Value
-  behind_keys fold = folds_of.flags by (folds_of.sure_of by fold) (folds_of.guess_of by fold) ++ folds_of.all_fold_values folded (folds_of.rows_of by folded rows ok fold)
+  abbrev pub behind_keys : Fold → List Value
+  behind_keys fold = folds_of.flags by (folds_of.sure_of by fold.key) (folds_of.guess_of by fold.key) ++ folds_of.all_fold_values folded fold.rows
 
-  pub fold_row_is : (fold : List Value) → IsFold fold → fold_row fold ≡ encode_cells (folds_of.spans by fold) ++ behind_keys fold
+  pub fold_row_is : (fold : Fold) → IsFold by fold → fold_row by folded fold ≡ encode_cells (folds_of.spans by fold.key) ++ behind_keys fold
   fold_row_is fold some =
-      let values = folds_of.all_fold_values folded (folds_of.rows_of by folded rows ok fold) in
-      ap (λ f. f ++ values) (folds_of.key_is by folded rows ok fold some)
-      ∙ append_assoc (encode_cells (folds_of.spans by fold)) (folds_of.flags by (folds_of.sure_of by fold) (folds_of.guess_of by fold)) values
+      let values = folds_of.all_fold_values folded fold.rows in
+      ap (λ f. f ++ values) (key_parts by fold some)
+      ∙ append_assoc (encode_cells (folds_of.spans by fold.key)) (folds_of.flags by (folds_of.sure_of by fold.key) (folds_of.guess_of by fold.key)) values
 
-  pub keys_at : (s : List Value × List Value) → IsPair s → EndsOfAll rl rs rh (joined s) b (folds_of.spans by s.1)
+  pub keys_at : (s : List Value × Fold) → IsPair s → EndsOfAll rl rs rh (joined s) b (folds_of.spans by s.1.key)
   keys_at s v =
-      subst (λ r. EndsOfAll rl rs rh (box_row s.0 ++ r) b (folds_of.spans by s.1)) (sym (fold_row_is s.1 v.1))
-      (all_ends_at rl rs rh (box_row s.0) (behind_keys s.1) b (folds_of.spans by s.1) (box_row_long s.0 v.0))
+      subst (λ r. EndsOfAll rl rs rh (box_row s.0 ++ r) b (folds_of.spans by s.1.key)) (sym (fold_row_is s.1 v.1))
+      (all_ends_at rl rs rh (box_row s.0) (behind_keys s.1) b (folds_of.spans by s.1.key) (box_row_long s.0 v.0))
 
-  meets_now : (key fold : List Value) → IsKey key → IsFold fold → passes (meets_term b 0 by.k) (box_row key ++ fold_row fold) ≡ fold_overlaps key fold
+  meets_now : (key : List Value) (fold : Fold) → IsKey key → IsFold by fold → passes (meets_term b 0 by.k) (box_row key ++ fold_row by folded fold) ≡ fold_overlaps key fold.key
   meets_now key fold some there =
-      let row = box_row key ++ fold_row fold in
+      let row = box_row key ++ fold_row by folded fold in
       ap (λ t. is_true (plain_value (meets_term b 0 by.k) t)) (sym (append-nil row))
-      ∙ ap is_true (meets_has row b 0 by.k (folds_of.spans by fold) (box key) (folds_of.spans_long by folded rows ok fold there) (box_long key some) (keys_at (key, fold) (some, there)) (box_at (key, fold)) [])
+      ∙ ap is_true (meets_has row b 0 by.k (folds_of.spans by fold.key) (box key) (spans_long by fold there) (box_long key some) (keys_at (key, fold) (some, there)) (box_at (key, fold)) [])
 
-  pub pairs_ok : (js : Rows) → AllByRecursion IsKey js → AllByRecursion IsPair (pairs box_row folds js)
-  pairs_ok [] v = tt
-  pairs_ok (j ∷ js) v =
-      all_append IsPair (with_left box_row folds j (folds j)) (pairs box_row folds js)
-      (all_made IsFold IsPair (λ f. (j, f)) (folds j) (all_filter IsFold (fold_overlaps j) fold_keys all_folds) (λ f p. (v.0, p))) (pairs_ok js v.1)
+  module _ (shared : Sharing by rows) where
+    -- the folds that overlap a box
+    abbrev pub folds : List Value → List Fold
+    folds key = folds_with by (fold_overlaps key) shared.parts
 
-  -- each box with each fold that overlaps it
-  abbrev pub all_pairs : List (List Value × List Value)
-  all_pairs = pairs box_row folds keys_list
+    pub folds_ok : (key : List Value) → AllByRecursion (IsFold by) (folds key)
+    folds_ok key = all_filter (IsFold by) (λ fold. fold_overlaps key fold.key) shared.parts shared.are
 
-  -- The rows of the join.
-  pub joined_rows : (ts : List Rows) (boxes p : PlanTree) → plain_rows boxes ts ≡ map box_row keys_list → plain_rows p ts ≡ map fold_row fold_keys → plain_rows (Join (meets_term b 0 by.k) boxes p) ts ≡ map joined all_pairs
-  joined_rows ts boxes p g h =
-      (λ i. filter (passes (meets_term b 0 by.k)) (flat_map (λ x. map (λ y. x ++ y) (h i)) (g i)))
-      ∙ join_rows IsKey IsFold box_row fold_row (passes (meets_term b 0 by.k)) fold_overlaps meets_now keys_list fold_keys all_keys all_folds
+    pub has_member : (key : List Value) → IsKey key → Met box_row folds key
+    has_member key some =
+        first_of key (folds key) refl (shared.some (fold_overlaps key) (some_with_fold key some))
+      where
+        first_of : (key : List Value) (fs : List Fold) → folds key ≡ fs → 0 < length fs → Met box_row folds key
+        first_of key [] e h = let never : ⊥ = omega (arith, h) in absurd never
+        first_of key (f ∷ fs) e h = record { first = f; others = fs; is = e }
 
-  module _ (columns : List PTerm) (values : List Value × List Value → List Value) (added : (s : List Value × List Value) → IsPair s → add_columns reading columns (joined s) ≡ Some (joined s ++ values s)) (aggs : List PAgg) where
-    abbrev pub wide : List Value × List Value → List Value
-    wide s = joined s ++ values s
+    pub pairs_ok : (js : Rows) → AllByRecursion IsKey js → AllByRecursion IsPair (pairs box_row folds js)
+    pairs_ok [] v = tt
+    pairs_ok (j ∷ js) v =
+        all_append IsPair (with_left box_row folds j (folds j)) (pairs box_row folds js)
+        (all_made (IsFold by) IsPair (λ f. (j, f)) (folds j) (folds_ok j) (λ f p. (v.0, p))) (pairs_ok js v.1)
 
-    -- the rows of the join with the further columns
-    pub wide_rows : (ts : List Rows) (boxes p : PlanTree) → plain_rows boxes ts ≡ map box_row keys_list → plain_rows p ts ≡ map fold_row fold_keys → plain_rows (extend_all columns (Join (meets_term b 0 by.k) boxes p)) ts ≡ map wide all_pairs
-    wide_rows ts boxes p g h =
-        rows-extend_all columns (Join (meets_term b 0 by.k) boxes p) ts
-        ∙ ap (map (grow columns)) (joined_rows ts boxes p g h)
-        ∙ map-map joined (grow columns) all_pairs
-        ∙ map_valid IsPair (λ s. grow columns (joined s)) wide all_pairs (pairs_ok keys_list all_keys) (λ s v. grow_is columns (joined s) (wide s) (added s v))
+    -- each box with each fold that overlaps it
+    abbrev pub all_pairs : List (List Value × Fold)
+    all_pairs = pairs box_row folds keys_list
 
-    same_key : (s : List Value × List Value) → IsPair s → kept (run 0 b) (wide s) ≡ box_row s.0
-    same_key s v = ap (kept (run 0 b)) (append_assoc (box_row s.0) (fold_row s.1) (values s)) ∙ run_first (box_row s.0) (fold_row s.1 ++ values s) b (box_row_long s.0 v.0)
+    -- The rows of the join.
+    pub joined_rows : (ts : List Rows) (boxes p : PlanTree) → plain_rows boxes ts ≡ map box_row keys_list → plain_rows p ts ≡ map (fold_row by folded) shared.parts → plain_rows (Join (meets_term b 0 by.k) boxes p) ts ≡ map joined all_pairs
+    joined_rows ts boxes p g h =
+        (λ i. filter (passes (meets_term b 0 by.k)) (flat_map (λ x. map (λ y. x ++ y) (h i)) (g i)))
+        ∙ join_rows IsKey (IsFold by) box_row (fold_row by folded) (passes (meets_term b 0 by.k)) (λ key fold. fold_overlaps key fold.key) meets_now keys_list shared.parts all_keys shared.are
 
-    apart : Apart box_row keys_list
-    apart = boxes_apart (IsRangeRow by.ks) (λ r. by.keys r.cells) by.k by.long rows ok tail
+    module _ (columns : List PTerm) (values : List Value × Fold → List Value) (added : (s : List Value × Fold) → IsPair s → add_columns reading columns (joined s) ≡ Some (joined s ++ values s)) (aggs : List PAgg) where
+      abbrev pub wide : List Value × Fold → List Value
+      wide s = joined s ++ values s
 
-    all_met : AllByRecursion (Met box_row folds) keys_list
-    all_met = all_from IsKey (Met box_row folds) keys_list has_member all_keys
+      -- the rows of the join with the further columns
+      pub wide_rows : (ts : List Rows) (boxes p : PlanTree) → plain_rows boxes ts ≡ map box_row keys_list → plain_rows p ts ≡ map (fold_row by folded) shared.parts → plain_rows (extend_all columns (Join (meets_term b 0 by.k) boxes p)) ts ≡ map wide all_pairs
+      wide_rows ts boxes p g h =
+          rows-extend_all columns (Join (meets_term b 0 by.k) boxes p) ts
+          ∙ ap (map (grow columns)) (joined_rows ts boxes p g h)
+          ∙ map-map joined (grow columns) all_pairs
+          ∙ map_valid IsPair (λ s. grow columns (joined s)) wide all_pairs (pairs_ok keys_list all_keys) (λ s v. grow_is columns (joined s) (wide s) (added s v))
 
-    -- The rows of the second grouping, for any further columns and aggregates.
-    pub second_rows : (ts : List Rows) (boxes p : PlanTree) → plain_rows boxes ts ≡ map box_row keys_list → plain_rows p ts ≡ map fold_row fold_keys → plain_rows (second_grouping by.k b columns aggs boxes p) ts ≡ map (λ key. box_row key ++ map (plain_aggregate (map wide (with_left box_row folds key (folds key)))) aggs) keys_list
-    second_rows ts boxes p g h =
-        ap (plain_group (run 0 b) aggs) (wide_rows ts boxes p g h)
-        ∙ join_groups box_row folds IsPair wide (run 0 b) same_key aggs keys_list apart all_met (pairs_ok keys_list all_keys)
+      same_key : (s : List Value × Fold) → IsPair s → kept (run 0 b) (wide s) ≡ box_row s.0
+      same_key s v = ap (kept (run 0 b)) (append_assoc (box_row s.0) (fold_row by folded s.1) (values s)) ∙ run_first (box_row s.0) (fold_row by folded s.1 ++ values s) b (box_row_long s.0 v.0)
 
-    -- The numbers of its sums.
-    pub second_numbers : group_numbers (run 0 b) aggs (map wide all_pairs) ≡ flat_map (λ key. flat_map (magnitudes (map wide (with_left box_row folds key (folds key)))) aggs) keys_list
-    second_numbers = join_numbers box_row folds IsPair wide (run 0 b) same_key aggs keys_list apart all_met (pairs_ok keys_list all_keys)
+      apart : Apart box_row keys_list
+      apart = boxes_apart (IsRangeRow by.ks) (λ r. by.keys r.cells) by.k by.long rows ok tail
+
+      all_met : AllByRecursion (Met box_row folds) keys_list
+      all_met = all_from IsKey (Met box_row folds) keys_list has_member all_keys
+
+      -- The rows of the second grouping, for any further columns and aggregates.
+      pub second_rows : (ts : List Rows) (boxes p : PlanTree) → plain_rows boxes ts ≡ map box_row keys_list → plain_rows p ts ≡ map (fold_row by folded) shared.parts → plain_rows (second_grouping by.k b columns aggs boxes p) ts ≡ map (λ key. box_row key ++ map (plain_aggregate (map wide (with_left box_row folds key (folds key)))) aggs) keys_list
+      second_rows ts boxes p g h =
+          ap (plain_group (run 0 b) aggs) (wide_rows ts boxes p g h)
+          ∙ join_groups box_row folds IsPair wide (run 0 b) same_key aggs keys_list apart all_met (pairs_ok keys_list all_keys)
+
+      -- The numbers of its sums.
+      pub second_numbers : group_numbers (run 0 b) aggs (map wide all_pairs) ≡ flat_map (λ key. flat_map (magnitudes (map wide (with_left box_row folds key (folds key)))) aggs) keys_list
+      second_numbers = join_numbers box_row folds IsPair wide (run 0 b) same_key aggs keys_list apart all_met (pairs_ok keys_list all_keys)

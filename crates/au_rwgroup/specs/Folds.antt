@@ -1,14 +1,16 @@
 -- The rows with equal key ranges in one as a plan: what they add to sums, and what they offer to MIN and MAX.
-use Rattle.std.specs.Prelude.{ℕ, ◌+◌, ◌*◌, List, [], ◌∷◌, ◌++◌}
+use Rattle.std.specs.Prelude.{ℕ, ◌+◌, ◌*◌, List, [], ◌∷◌, ◌++◌, length}
 use Rattle.au_algebra.specs.declared.query.Agg.{Agg}
 use Rattle.au_algebra.specs.declared.query.Agg.TheVariants as agg
 use Rattle.au_plain.specs.declared.plan.PAgg.{PAgg}
 use Rattle.au_plain.specs.declared.plan.PAgg.TheVariants.{Sum}
 use Rattle.au_plain.specs.PTerms.{PTerm, Multiply}
-use Rattle.au_plain.specs.Plans.{PlanTree, Group, extend_all}
+use Rattle.au_plain.specs.Plans.{PlanTree, Group, Keep, extend_all}
 use Rattle.au_rwexpr.specs.Flatten.{lo, sg, hi}
 use Rattle.au_rwexpr.specs.Counts.{zero_term, positive}
-use Rattle.au_rwexpr.specs.Cells.{cell_places}
+use Rattle.au_rwexpr.specs.Cells.{cell_places, run}
+use Rattle.au_rwgroup.specs.declared.folding.Folding.{Folding}
+use Rattle.au_rwgroup.specs.declared.folding.Folding.TheVariants as folding
 use Rattle.au_rwgroup.specs.MemberAggs.{member_aggs}
 use Rattle.au_rwgroup.specs.Totals.{signed}
 
@@ -52,6 +54,8 @@ fold_places c k = cell_places 0 k ++ ((3 * c + 3) ∷ (3 * c + 4) ∷ [])
 abbrev pub fold_width : ℕ → ℕ → ℕ
 fold_width k n = 3 * k + 2 + 5 * n
 
--- One row for the rows that have equal ranges of the first k of c columns and pass the same tests.
-abbrev pub folds : ℕ → ℕ → List Agg → PlanTree → PlanTree
-folds c k aggs p = Group (fold_places c k) (fold_aggs (3 * c + 5) aggs) (extend_all (fold_columns (3 * c) aggs) p)
+-- One row for the rows that have equal ranges of the first k of c columns and pass the same tests; or one for each row,
+-- in the same columns.
+abbrev pub folds : Folding → ℕ → ℕ → List Agg → PlanTree → PlanTree
+folds folding.EqualKeys c k aggs p = Group (fold_places c k) (fold_aggs (3 * c + 5) aggs) (extend_all (fold_columns (3 * c) aggs) p)
+folds folding.Rows c k aggs p = Keep (fold_places c k ++ run (3 * c + 5) (5 * length aggs)) (extend_all (fold_columns (3 * c) aggs) p)

@@ -10,6 +10,7 @@ use Rattle.au_rwexpr.specs.Flatten.{sg, three}
 use Rattle.au_rwexpr.specs.Counts.{zero_term, one_term, positive}
 use Rattle.au_rwexpr.specs.Cells.{cell_places, run, three_places}
 use Rattle.au_rwexpr.specs.Meets.{meets_term, same_guesses}
+use Rattle.au_rwgroup.specs.declared.folding.Folding.{Folding}
 use Rattle.au_rwgroup.specs.Folds.{folds, fold_width}
 use Rattle.au_rwgroup.specs.Groups.{all_sure, first_grouping}
 use Rattle.au_rwgroup.specs.MemberAggs.{member_aggs}
@@ -111,8 +112,8 @@ second_grouping k b columns aggs boxes folds = Group (run 0 b) aggs (extend_all 
 abbrev pub result_places : ℕ → ℕ → ℕ → List ℕ
 result_places k results n = cell_places 0 k ++ (cell_places results n ++ three_places (3 * k))
 
-abbrev pub group_plan : ℕ → ℕ → List Agg → PlanTree → PlanTree
-group_plan c k aggs p =
+abbrev pub group_plan : Folding → ℕ → ℕ → List Agg → PlanTree → PlanTree
+group_plan how c k aggs p =
     let kept = flat_map kept_for aggs in
     let b = 3 * k + 3 + length kept in
     let joined = places k b (b + fold_width k (length aggs)) in
@@ -120,4 +121,4 @@ group_plan c k aggs p =
     Keep (result_places k (there + 1) (length aggs))
     (extend_all (all_result_columns (positive (Column there)) (positive (sg (3 * k))) b aggs)
     (second_grouping k b (all_member_columns joined (3 * k + 3) aggs) (all_member_aggs (joined.tests + 4) aggs)
-    (first_grouping c k kept p) (folds c k aggs p)))
+    (first_grouping c k kept p) (folds how c k aggs p)))

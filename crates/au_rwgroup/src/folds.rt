@@ -1,39 +1,118 @@
-//! The rows with equal key ranges in one.
-ghost use Rattle.std.specs.Prelude.{◌≡◌, ◌+◌, ◌*◌, ◌++◌, ◌∷◌, [], IfOk, OnOk, map};
+//! The rows that meet the boxes: those with equal key ranges in one, or each by itself.
+ghost use Rattle.std.specs.Prelude.{◌≡◌, ◌+◌, ◌*◌, ◌++◌, ◌∷◌, [], IfOk, OnOk, length, map};
 ghost use Rattle.au_algebra.specs.declared.query.Agg.TheVariants as agg;
 ghost use Rattle.au_plain.specs.PTerms.{pterm};
 ghost use Rattle.au_plain.specs.Plans.{plan_tree};
-ghost use Rattle.au_rwexpr.specs.Cells.{cell_places};
+ghost use Rattle.au_rwexpr.specs.Cells.{cell_places, run};
 ghost use Rattle.au_rwexpr.specs.Counts.{zero_term};
+ghost use Rattle.au_rwgroup.specs.declared.folding.Folding.TheVariants as folding;
 ghost use Rattle.au_rwgroup.specs.Folds.{all_fold_terms, fold_aggs, fold_columns as terms_of, fold_places as places_of, fold_terms, folds as folded};
 
 use crate::count_terms::{positive, signed, zero};
+use crate::folding::Folding;
 use crate::group_aggregates::fold_aggregates;
 use au_algebra::Agg;
-use au_combine::group;
-use au_plain::{PAgg, PExpr, Plan, extend_all, multiply};
+use au_combine::{group, push_run};
+use au_plain::{PAgg, PExpr, Plan, extend_all, keep, multiply};
 use au_rwexpr::{RangeColumns, behind, push_cells};
 use au_value::{NoMemory, beside, both};
 use std::alloc::Global;
 
 /// One row for the rows of a plan that have equal ranges of the first so many columns, and that are alike in whether
 /// they surely have a copy and whether they have one in the guess world: these ranges, these two tests, and five
-/// values for each aggregate.
+/// values for each aggregate. Or one row with these columns for each row of the plan.
 ///
 /// `NoMemory` comes also where a row cannot have so many columns.
 pub(crate) fn folds(
+    alloc: Global,
+    how: Folding,
+    of: Plan,
+    columns: usize,
+    keys: usize,
+    aggs: &[Agg],
+) -> Result<Plan, NoMemory>
+    ensures { IfOk result (λ p. plan_tree p ≡ folded how columns keys aggs.now (plan_tree of)) }
+{
+    match how {
+        Folding::EqualKeys => of_equal_keys(alloc, of, columns, keys, aggs),
+        Folding::Rows => of_rows(alloc, of, columns, keys, aggs),
+    }
+}
+
+// One row for those with equal key ranges.
+fn of_equal_keys(
     alloc: Global,
     of: Plan,
     columns: usize,
     keys: usize,
     aggs: &[Agg],
 ) -> Result<Plan, NoMemory>
-    ensures { IfOk result (λ p. plan_tree p ≡ folded columns keys aggs.now (plan_tree of)) }
+    ensures { IfOk result (λ p. plan_tree p ≡ folded folding.EqualKeys columns keys aggs.now (plan_tree of)) }
 {
     let parts = fold_parts(alloc, columns, keys, aggs);
     let ((added, (places, over)), of) = beside(parts, of)?;
     let (wide, (places, over)) = beside(extend_all(alloc, added, of), (places, over))?;
     group(alloc, places, over, wide)
+}
+
+// One row for each.
+fn of_rows(
+    alloc: Global,
+    of: Plan,
+    columns: usize,
+    keys: usize,
+    aggs: &[Agg],
+) -> Result<Plan, NoMemory>
+    ensures { IfOk result (λ p. plan_tree p ≡ folded folding.Rows columns keys aggs.now (plan_tree of)) }
+{
+    let parts = row_parts(alloc, columns, keys, aggs);
+    let ((added, places), of) = beside(parts, of)?;
+    let (wide, places) = beside(extend_all(alloc, added, of), places)?;
+    keep(alloc, places, wide)
+}
+
+// The columns that are added to each row, and the places of the keys, the tests and what the row gives.
+fn row_parts(
+    alloc: Global,
+    columns: usize,
+    keys: usize,
+    aggs: &[Agg],
+) -> Result<(Vec<PExpr>, Vec<usize>), NoMemory>
+    ensures added { IfOk result (λ r. map pterm r.0.items ≡ terms_of (3 * columns) aggs.now) }
+    ensures places { IfOk result (λ r. r.1.items ≡ places_of columns keys ++ run (3 * columns + 5) (5 * length aggs.now)) }
+{
+    let triple = RangeColumns::of(columns)?;
+    let tests = behind(triple)?;
+    let added = fold_columns(alloc, triple, aggs);
+    both(added, row_places(alloc, tests, keys, aggs.len()))
+}
+
+// The places of the keys, of the two tests, and of five values for each of so many aggregates.
+fn row_places(
+    alloc: Global,
+    tests: RangeColumns,
+    keys: usize,
+    aggs: usize,
+) -> Result<Vec<usize>, NoMemory>
+    ensures { IfOk result (λ v. v.items ≡ (cell_places 0 keys ++ (tests.first ∷ (tests.first + 1) ∷ [])) ++ run (tests.first + 2) (5 * aggs)) }
+{
+    let values = five_each(aggs)?;
+    let Some(_end) = (tests.first + 2).checked_add(values) else {
+        return Err(NoMemory);
+    };
+    let mut places = fold_places(alloc, tests, keys)?;
+    push_run(&mut places, tests.first + 2, values)?;
+    Ok(places)
+}
+
+// How many values so many aggregates have. `NoMemory` comes where a row cannot have so many columns.
+fn five_each(aggs: usize) -> Result<usize, NoMemory>
+    ensures { IfOk result (λ n. n ≡ 5 * aggs) }
+{
+    match aggs.checked_mul(5) {
+        Some(values) => Ok(values),
+        None => Err(NoMemory),
+    }
 }
 
 type Grouping = (Vec<usize>, Vec<PAgg>);

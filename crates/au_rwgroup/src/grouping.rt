@@ -14,6 +14,7 @@ ghost use Rattle.au_rwgroup.specs.Groups as first;
 ghost use Rattle.au_rwgroup.specs.GroupPlan as plan;
 ghost use Rattle.au_rwgroup.specs.JoinedPlaces.{places_of};
 
+use crate::folding::Folding;
 use crate::folds::folds;
 use crate::group_aggregates::{kept_aggregates, member_aggregates};
 use crate::group_places::GroupPlaces;
@@ -31,7 +32,8 @@ use std::alloc::Global;
 /// One row for each list of guesses of the first so many columns of a plan's rows: the hulls of these keys, and the
 /// ranges of the aggregates over the rows that may belong to them.
 ///
-/// The layout is that of the plan's rows. Those of the result have the keys, then a column for each aggregate.
+/// The layout is that of the plan's rows. Those of the result have the keys, then a column for each aggregate, and are
+/// the same however rows are folded.
 /// `NoMemory` comes also where a row cannot have so many columns.
 #[tactic(auto, using(crate::proofs::GroupLaws::group_scans))]
 pub fn group(
@@ -39,6 +41,7 @@ pub fn group(
     of: Plan,
     keys: usize,
     aggs: &[Agg],
+    how: Folding,
     layout: &Layout,
 ) -> Result<Plan, NoMemory>
     ensures gives { IfOk result (λ p. Groups layout.now.columns keys aggs.now (plan_tree of) (plan_tree p)) }
@@ -46,7 +49,7 @@ pub fn group(
     ensures columns { OnOk result (keys + length aggs.now < 2 ^ 64) }
     ensures scans { IfOk result (λ p. scans (plan_tree p) ≤ 2 * scans (plan_tree of)) }
 {
-    let plan = group_plan(alloc, of, keys, aggs, layout)?;
+    let plan = group_plan(alloc, of, keys, aggs, how, layout)?;
     Ok(plan)
 }
 
@@ -55,9 +58,10 @@ fn group_plan(
     of: Plan,
     keys: usize,
     aggs: &[Agg],
+    how: Folding,
     layout: &Layout,
 ) -> Result<Plan, NoMemory>
-    ensures plan { IfOk result (λ p. plan_tree p ≡ plan.group_plan layout.now.columns keys aggs.now (plan_tree of)) }
+    ensures plan { IfOk result (λ p. plan_tree p ≡ plan.group_plan how layout.now.columns keys aggs.now (plan_tree of)) }
     ensures columns { OnOk result (keys + length aggs.now < 2 ^ 64) }
 {
     let (kept, of) = beside(kept_aggregates(alloc, aggs), of)?;
@@ -65,7 +69,7 @@ fn group_plan(
     let (places, (kept, of)) = beside(places, (kept, of))?;
     let columns = all_result_columns(alloc, places.tests(), places.joined.fold, aggs);
     let shown = result_places(alloc, places.triple, keys, places.there + 1, places.aggs);
-    let groups = with_members(alloc, of, layout.columns, kept, places, aggs);
+    let groups = with_members(alloc, how, of, layout.columns, kept, places, aggs);
     let (shown, (columns, groups)) = both(shown, both(columns, groups))?;
     let (made, shown) = beside(extend_all(alloc, columns, groups), shown)?;
     keep(alloc, shown, made)
@@ -74,6 +78,7 @@ fn group_plan(
 // Each box with the results over the folds that overlap it.
 fn with_members(
     alloc: Global,
+    how: Folding,
     of: Plan,
     columns: usize,
     kept: Vec<PAgg>,
@@ -82,10 +87,10 @@ fn with_members(
 ) -> Result<Plan, NoMemory>
     requires aggs { places.aggs ≡ length aggs.now }
     requires kept { places.triple.first + 3 + 2 * length aggs.now < 2 ^ 64 }
-    ensures { IfOk result (λ p. plan_tree p ≡ plan.second_grouping places.joined.keys places.joined.fold (plan.all_member_columns (places_of places.joined) (places.triple.first + 3) aggs.now) (plan.all_member_aggs (places.joined.tests + 4) aggs.now) (first.first_grouping columns places.joined.keys kept.items (plan_tree of)) (folded columns places.joined.keys aggs.now (plan_tree of))) }
+    ensures { IfOk result (λ p. plan_tree p ≡ plan.second_grouping places.joined.keys places.joined.fold (plan.all_member_columns (places_of places.joined) (places.triple.first + 3) aggs.now) (plan.all_member_aggs (places.joined.tests + 4) aggs.now) (first.first_grouping columns places.joined.keys kept.items (plan_tree of)) (folded how columns places.joined.keys aggs.now (plan_tree of))) }
 {
     let joined = places.joined;
-    let plans = boxes_and_folds(alloc, of, columns, joined.keys, kept, aggs);
+    let plans = boxes_and_folds(alloc, how, of, columns, joined.keys, kept, aggs);
     let ((added, over), (boxes, folds)) = both(member_parts(alloc, places, aggs), plans)?;
     second_grouping(alloc, joined, added, over, boxes, folds)
 }
@@ -93,6 +98,7 @@ fn with_members(
 // The boxes of a plan's rows, and their folds.
 fn boxes_and_folds(
     alloc: Global,
+    how: Folding,
     of: Plan,
     columns: usize,
     keys: usize,
@@ -100,11 +106,11 @@ fn boxes_and_folds(
     aggs: &[Agg],
 ) -> Result<(Plan, Plan), NoMemory>
     ensures boxes { IfOk result (λ r. plan_tree r.0 ≡ first.first_grouping columns keys kept.items (plan_tree of)) }
-    ensures folds { IfOk result (λ r. plan_tree r.1 ≡ folded columns keys aggs.now (plan_tree of)) }
+    ensures folds { IfOk result (λ r. plan_tree r.1 ≡ folded how columns keys aggs.now (plan_tree of)) }
 {
     let (rows, (of, kept)) = beside(copy_plan(alloc, &of), (of, kept))?;
     let boxes = first_grouping(alloc, of, columns, keys, kept);
-    let (boxes, folds) = both(boxes, folds(alloc, rows, columns, keys, aggs))?;
+    let (boxes, folds) = both(boxes, folds(alloc, how, rows, columns, keys, aggs))?;
     Ok((boxes, folds))
 }
 

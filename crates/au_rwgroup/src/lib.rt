@@ -6,7 +6,7 @@
 //!
 //! ```text
 //! let layout = Layout { columns: 2 };
-//! let plan = group(alloc, Plan::Scan(0, 9), 1, &[Agg::Sum(1)], &layout)?;
+//! let plan = group(alloc, Plan::Scan(0, 9), 1, &[Agg::Sum(1)], Folding::EqualKeys, &layout)?;
 //! // over encoded rows it gives a row for each list of guessed keys: the hulls of the keys, and the sum's bounds
 //! ```
 //!
@@ -15,6 +15,7 @@
 
 mod count_terms;
 mod distinct_rows;
+mod folding;
 mod folds;
 mod group_aggregates;
 mod group_places;
@@ -28,5 +29,6 @@ mod result_columns;
 mod totals;
 
 pub use distinct_rows::distinct;
+pub use folding::Folding;
 pub use grouping::group;
 pub use totals::total;

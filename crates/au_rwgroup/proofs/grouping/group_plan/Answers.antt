@@ -46,10 +46,10 @@ returns-clause-plan c =
     let ranges_are = IfOk-at_ok _ both_are.0 c.all_result_columns-columns.ensures
     ∙ (λ i. all_result_columns (positive (Column (c.tests.ensures.there i))) (positive (Column (c.tests.ensures.guess i))) joined.fold aggs) in
     let grouped : List PAgg → PlanTree → PlanTree = λ ks p.
-    second_grouping joined.keys joined.fold (all_member_columns (places_of joined) (places.triple.first + 3) aggs) (all_member_aggs (joined.tests + 4) aggs) (first_grouping columns joined.keys ks p) (folds columns joined.keys aggs p) in
+    second_grouping joined.keys joined.fold (all_member_columns (places_of joined) (places.triple.first + 3) aggs) (all_member_aggs (joined.tests + 4) aggs) (first_grouping columns joined.keys ks p) (folds c.args.how columns joined.keys aggs p) in
     let groups_are = IfOk-at_ok _ both_are.1 c.with_members-groups.ensures ∙ ap (λ r. grouped r.0.items (plan_tree r.1)) placed.ensures.values.1
     ∙ ap (λ p. grouped kept (plan_tree p)) found.ensures.values.1 in
     IfOk-weaker c.keep.result _ _ (λ p is.
-    (plan_is columns k aggs kept places.triple.first joined.keys joined.fold joined.tests places.there places.aggs are (plan_tree c.args.of) groups (plan_tree p) shown ranges ranges_are
+    (plan_is c.args.how columns k aggs kept places.triple.first joined.keys joined.fold joined.tests places.there places.aggs are (plan_tree c.args.of) groups (plan_tree p) shown ranges ranges_are
     (IfOk-at_ok _ parts.ensures.values.0 c.result_places-shown.ensures) groups_are
     (is ∙ ap (λ v. Keep v.items (plan_tree made.made)) made.ensures.values.1 ∙ ap (Keep shown) (IfOk-at_ok _ made.ensures.values.0 c.extend_all.ensures)))) c.keep.ensures
