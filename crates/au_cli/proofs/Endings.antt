@@ -7,8 +7,9 @@ use Rattle.std.specs.Io.KnownBytes.{Appends}
 use Rattle.std.specs.Result.{result_err}
 use Rattle.au_io.specs.Counts.{Rose}
 use Rattle.au_io.specs.Files.{File, bytes_at}
-use Rattle.au_engine.specs.Answers.{answer_fits}
-use Rattle.au_engine.specs.Exchange.{encoded_text}
+use Rattle.au_parse.specs.Tree.{QueryTree}
+use Rattle.au_engine.specs.Answers.{Named, answer_fits}
+use Rattle.au_engine.specs.Exchange.{encoded_text, plain_text}
 use Rattle.au_engine.specs.declared.faults.QueryFault.TheVariants as query
 use Rattle.au_words.specs.Words.{Asked, Request}
 use Rattle.au_words.specs.Words as words
@@ -17,14 +18,15 @@ use Rattle.au_cli.specs.declared.files.Purpose.TheVariants as purpose
 use Rattle.au_cli.specs.declared.outcome.Outcome.{Outcome}
 use Rattle.au_cli.specs.declared.outcome.Outcome.TheVariants as outcome
 use Rattle.au_cli.specs.Demo.{Demonstrates}
-use Rattle.au_cli.specs.Files.{file_table}
-use Rattle.au_cli.specs.Requests.{Given, IsRefusal, Refusal, given_of, numbers_fit, refused_request, unless_refused}
+use Rattle.au_cli.specs.Files.{file_table, found_in}
+use Rattle.au_cli.specs.Requests.{Given, IsAnswer, IsRefusal, Refusal, given_of, numbers_fit, refused_request, unless_refused}
 use Rattle.au_cli.specs.Requests.Refusal.{exactly}
-use Rattle.au_cli.specs.Causes.{AskedCause, AskedNotPositive, DemoCause, Ends, FaultCounts, ToldGive, IsAskedText, IsRead, IsRefusedBefore, RequestCause, StageCause, TextPut, is_text_fault, is_text_limit}
+use Rattle.au_cli.specs.Causes.{AskedCause, AskedNotPositive, DemoCause, Ends, FaultCounts, Gives, IsAskedText, IsFirst, IsRead, IsRefusedBefore, RequestCause, StageCause, TextPut, is_text_fault, is_text_limit}
 use Rattle.au_cli.proofs.Encodings.{encoded_comes, file_comes, file_decides, file_memory}
-use Rattle.au_cli.proofs.PlanRuns.{decided_comes as decided_plan, given_comes as given_plan, plan_decides, plan_early, run_memory}
+use Rattle.au_cli.proofs.PlanRuns.{decided_comes as decided_plan, given_comes as given_plan, given_told as given_plan_told, plan_decides, plan_early, run_memory}
 use Rattle.au_cli.proofs.Refusals.{not_few}
 use Rattle.au_cli.proofs.TextRefusals.{refused_not_positive}
+use Rattle.au_cli.proofs.ToldFiles.{told_files}
 use Rattle.au_cli.specs.Run.{CanAnswer, Yields, first_refusal, refused_before}
 
 -- ---- putting
@@ -61,27 +63,37 @@ refused_ends asked told n old new _ h put = (h, put)
 
 -- ---- refusals
 
+-- what told files give to a request
+abbrev pub given_told : Request → List File → Result Given Refusal
+given_told r files = given_of r (found_in files r.tables)
+
+pub gives_told : (P : List Named → QueryTree → Type 0) (r : Request) (files : List File) → Gives (Some files) r P → (ts : List Named) × (s : QueryTree) × (given_told r files ≡ Ok (ts, s)) × P ts s
+gives_told P r files h = told_files files r.tables (λ found. (ts : List Named) × (s : QueryTree) × (given_of r found ≡ Ok (ts, s)) × P ts s) h
+
 -- a request has this outcome: for want of memory, as that of a refusal, or because a number leaves its range
 abbrev pub Decided : Request → List File → Outcome → Type 0
 Decided r files o =
     (o ≡ outcome.NoMemory)
-    ⊎ ((refusal : Refusal) × (given_of r files ≡ Err refusal) × IsRefusal refusal o)
-    ⊎ ((o ≡ outcome.Overflow) × ToldGive (Some files) r (λ ts s. numbers_fit r ts s ≡ false))
+    ⊎ ((refusal : Refusal) × (given_told r files ≡ Err refusal) × IsRefusal refusal o)
+    ⊎ ((o ≡ outcome.Overflow) × Gives (Some files) r (λ ts s. numbers_fit r ts s ≡ false))
 
 before_decides : (r : Request) (files : List File) (o : Outcome) → IsRefusedBefore r o → Decided r files o
-before_decides r files o h = inr (inl (h.0, ap (unless_refused r files) h.1, h.2))
+before_decides r files o h = inr (inl (h.0, ap (unless_refused r (found_in files r.tables)) h.1, h.2))
+
+first_decides : (r : Request) (files : List File) (o : Outcome) → IsFirst (Some files) r o → Decided r files o
+first_decides r files o h = inr (inl (told_files files r.tables (λ found. (refusal : Refusal) × (given_of r found ≡ Err refusal) × IsRefusal refusal o) h.1))
 
 stage_decides : (stage : Bool) (r : Request) (files : List File) (o : Outcome) → StageCause stage (Some files) r o → Decided r files o
 stage_decides true r files o h = before_decides r files o h
-stage_decides false r files o h = inr (inl h.1)
+stage_decides false r files o h = first_decides r files o h
 
 request_decides : (r : Request) (files : List File) (f fn a an : ℕ) (o : Outcome) → RequestCause r (Some files) f fn a an o → ¬ Rose f fn → Decided r files o
 request_decides r files f fn a an outcome.NoMemory h calm = inl refl
 request_decides r files f fn a an (outcome.Query fault) h calm = stage_decides (is_text_fault fault) r files (outcome.Query fault) h
 request_decides r files f fn a an (outcome.Limit fault) h calm = stage_decides (is_text_limit fault) r files (outcome.Limit fault) h.1
-request_decides r files f fn a an (outcome.NoFile i) h calm = inr (inl h.1.1)
-request_decides r files f fn a an (outcome.ReadFault i) h calm = absurd (calm h.1)
-request_decides r files f fn a an (outcome.Table i fault) h calm = inr (inl h.1.1)
+request_decides r files f fn a an (outcome.NoFile i) h calm = first_decides r files (outcome.NoFile i) h.1
+request_decides r files f fn a an (outcome.ReadFault i) h calm = absurd (calm h.0)
+request_decides r files f fn a an (outcome.Table i fault) h calm = first_decides r files (outcome.Table i fault) h.1
 request_decides r files f fn a an outcome.Overflow h calm = inr (inr (refl, h.1))
 request_decides r files f fn a an outcome.Done h calm = elim h [ ]
 request_decides r files f fn a an outcome.WriteFault h calm = elim h [ ]
@@ -99,12 +111,16 @@ given_comes (Ok x) g refusal o e k = cc
 refused_comes : (found : Result Given Refusal) (want refusal : Refusal) (o : Outcome) → found ≡ Err want → IsRefusal want o → result_err found ≡ Some refusal → IsRefusal refusal o ⊎ (o ≡ outcome.NoMemory)
 refused_comes found want refusal o e h k = let same : want ≡ refusal = cc in same_comes want refusal o same h
 
-decided_comes : (r : Request) (files : List File) (refusal : Refusal) (o : Outcome) → Decided r files o → result_err (given_of r files) ≡ Some refusal → IsRefusal refusal o ⊎ (o ≡ outcome.NoMemory)
+given_refuses : (P : List Named → QueryTree → Type 0) (r : Request) (files : List File) (refusal : Refusal) (o : Outcome) → Gives (Some files) r P → result_err (given_told r files) ≡ Some refusal
+    → IsRefusal refusal o ⊎ (o ≡ outcome.NoMemory)
+given_refuses P r files refusal o h k = let is = gives_told P r files h in given_comes (given_told r files) (is.0, is.1) refusal o is.2 k
+
+decided_comes : (r : Request) (files : List File) (refusal : Refusal) (o : Outcome) → Decided r files o → result_err (given_told r files) ≡ Some refusal → IsRefusal refusal o ⊎ (o ≡ outcome.NoMemory)
 decided_comes r files refusal o h k = elim h [
   | inl e ↦ inr e
   | inr others ↦ elim others [
-    | inl x ↦ refused_comes (given_of r files) x.0 refusal o x.1 x.2 k
-    | inr x ↦ given_comes (given_of r files) (x.1.0, x.1.1) refusal o x.1.2 k
+    | inl x ↦ refused_comes (given_told r files) x.0 refusal o x.1 x.2 k
+    | inr x ↦ given_refuses (λ ts s. numbers_fit r ts s ≡ false) r files refusal o x.1 k
   ]
 ]
 
@@ -129,10 +145,11 @@ cause_comes (Ok (words.plain path tables)) files f fn a an refusal o h calm k =
 text_comes : (asked : Result Asked UsageFault) (files : List File) (text : List ℕ) (refusal : Refusal) (o : Outcome)
     → IsAskedText asked (Some files) text → first_refusal asked files ≡ Some refusal → IsRefusal refusal o ⊎ (o ≡ outcome.NoMemory)
 text_comes (Err fault) files text refusal o h k = elim h [ ]
-text_comes (Ok (words.query r)) files text refusal o h k = given_comes (given_of r files) (h.1.0, h.1.1) refusal o h.1.2 k
+text_comes (Ok (words.query r)) files text refusal o h k = given_refuses (IsAnswer r text) r files refusal o h.1 k
 text_comes (Ok (words.demo start blocks workers)) files text refusal o h k = cc
 text_comes (Ok (words.encode word)) files text refusal o h k = encoded_comes (λ t. text ≡ encoded_text t) files word.1 refusal o h k
-text_comes (Ok (words.plain path tables)) files text refusal o h k = given_plan path tables files refusal o h.1.0 h.0 h.1.1 k
+text_comes (Ok (words.plain path tables)) files text refusal o h k =
+    let is = given_plan_told (λ ts p. text ≡ plain_text ts p) path tables files h.1 in given_plan path tables files refusal o is.0 h.0 is.1 k
 
 pub refusal_comes : (asked : Result Asked UsageFault) (files : List File) (n : FaultCounts) (old new : Option (List ℕ)) (refusal : Refusal) (o : Outcome)
     → Ends asked (Some files) n old new o → ¬ Rose n.faults n.faults_now → first_refusal asked files ≡ Some refusal → IsRefusal refusal o ⊎ (o ≡ outcome.NoMemory)
@@ -157,7 +174,7 @@ request_comes r told f fn a an refusal outcome.NoMemory h k = inr refl
 request_comes r told f fn a an refusal (outcome.Query fault) h k = stage_comes (is_text_fault fault) told r refusal (outcome.Query fault) h k
 request_comes r told f fn a an refusal (outcome.Limit fault) h k = stage_comes (is_text_limit fault) told r refusal (outcome.Limit fault) h.1 k
 request_comes r told f fn a an refusal (outcome.NoFile i) h k = read_not_refused r refusal (outcome.NoFile i) h.1.0 k
-request_comes r told f fn a an refusal (outcome.ReadFault i) h k = read_not_refused r refusal (outcome.ReadFault i) h.2 k
+request_comes r told f fn a an refusal (outcome.ReadFault i) h k = read_not_refused r refusal (outcome.ReadFault i) h.1 k
 request_comes r told f fn a an refusal (outcome.Table i fault) h k = read_not_refused r refusal (outcome.Table i fault) h.1.0 k
 request_comes r told f fn a an refusal outcome.Overflow h k = read_not_refused r refusal outcome.Overflow h.0 k
 request_comes r told f fn a an refusal outcome.Done h k = elim h [ ]
@@ -190,14 +207,15 @@ early_comes asked told n old new refusal o h k = early_cause_comes asked told n.
 -- ---- completeness
 
 -- what is given is not refused, and what fits does not leave its range
-not_left : (r : Request) (files : List File) (g : Given) → given_of r files ≡ Ok g → numbers_fit r g.0 g.1 ≡ true → ToldGive (Some files) r (λ ts s. numbers_fit r ts s ≡ false) → ⊥
-not_left r files g is fit h =
+not_left : (r : Request) (files : List File) (g : Given) → given_told r files ≡ Ok g → numbers_fit r g.0 g.1 ≡ true → Gives (Some files) r (λ ts s. numbers_fit r ts s ≡ false) → ⊥
+not_left r files g is fit gives =
+    let h = gives_told (λ ts s. numbers_fit r ts s ≡ false) r files gives in
     let same : Ok (h.0, h.1) ≡ Ok g = sym h.2 ∙ is in
     let e : (h.0, h.1) ≡ g = cc in
     let left : numbers_fit r g.0 g.1 ≡ false = subst (λ x. numbers_fit r x.0 x.1 ≡ false) e h.3 in
     true≢false (sym fit ∙ left)
 
-not_decided : (r : Request) (files : List File) (o : Outcome) → Decided r files o → (g : Given) → given_of r files ≡ Ok g → numbers_fit r g.0 g.1 ≡ true → o ≡ outcome.NoMemory
+not_decided : (r : Request) (files : List File) (o : Outcome) → Decided r files o → (g : Given) → given_told r files ≡ Ok g → numbers_fit r g.0 g.1 ≡ true → o ≡ outcome.NoMemory
 not_decided r files o h g is fit = elim h [
   | inl e ↦ e
   | inr others ↦ elim others [
@@ -277,10 +295,10 @@ no_file_rose asked told n old new _ i h e = cc
 
 fault_rose : (asked : Result Asked UsageFault) (told : Option (List File)) (f fn a an : ℕ) (i : ℕ) → AskedCause asked told f fn a an (outcome.ReadFault i) → Rose f fn
 fault_rose (Err x) told f fn a an i h = elim h [ inl e ↦ cc | inr e ↦ cc ]
-fault_rose (Ok (words.query r)) told f fn a an i h = h.1
+fault_rose (Ok (words.query r)) told f fn a an i h = h.0
 fault_rose (Ok (words.demo start blocks workers)) told f fn a an i h = elim h [ ]
 fault_rose (Ok (words.encode word)) told f fn a an i h = h.1
-fault_rose (Ok (words.plain path tables)) told f fn a an i h = h.1
+fault_rose (Ok (words.plain path tables)) told f fn a an i h = h.0
 
 pub read_fault_rose : (asked : Result Asked UsageFault) (told : Option (List File)) (n : FaultCounts) (old new : Option (List ℕ)) (o : Outcome) (i : ℕ)
     → Ends asked told n old new o → o ≡ outcome.ReadFault i → Rose n.faults n.faults_now

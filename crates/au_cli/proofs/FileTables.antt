@@ -1,6 +1,7 @@
--- The bytes and the table of a told file, from what was read of it.
-use Rattle.std.proofs.Common.{◌≡◌, ◌<◌, ◌≤◌, ◌+◌, ℕ, true, false, List, Option, Some, None, IfSome, Ok, Err, length, nat_lt, arith, refl, ◌∙◌, ap}
+-- The bytes and the table of a file, from what was read of it.
+use Rattle.std.proofs.Common.{◌≡◌, ◌<◌, ◌≤◌, ◌+◌, ℕ, true, false, List, Option, Some, None, IfSome, Ok, Err, length, replicate, nat_lt, arith, refl, ◌∙◌, ap}
 use Rattle.std.specs.Prelude.{IsSomeAnd}
+use Rattle.std.proofs.lemmas.List.{length-replicate}
 use Rattle.au_blocks.specs.declared.faults.TableFault.{TableFault}
 use Rattle.au_blocks.specs.Read.{table_of}
 use Rattle.au_blocks.specs.Tables.{BlockTable}
@@ -12,23 +13,29 @@ use Rattle.au_cli.specs.declared.files.Purpose.TheVariants as purpose
 use Rattle.au_cli.specs.declared.outcome.Outcome.{Outcome}
 use Rattle.au_cli.specs.declared.outcome.Outcome.TheVariants as outcome
 use Rattle.au_value.specs.Texts.{Text}
-use Rattle.au_cli.specs.Files.{file_bytes, file_table, passed_limit, sized_bytes, table_in, table_or_defect, table_within, greatest_columns, greatest_size, greatest_total, size_of}
+use Rattle.au_cli.specs.Files.{IsFoundAt, file_bytes, file_table, passed_limit, sized_bytes, table_in, table_or_defect, table_within, greatest_columns, greatest_size, greatest_total}
 use Rattle.au_cli.specs.FileCauses.{BytesCause, BytesRefused, FileCause, FileRefused, ReadCause, is_file_limit, is_size_limit}
 
 -- ---- the bytes
 
 pub absent_refused : (told : Option (List File)) (path : Text) (file before : ℕ) → Lacks told path → BytesRefused told path file before (outcome.NoFile file)
-absent_refused None path file before h = h
-absent_refused (Some files) path file before h = ap (file_bytes file before) h
+absent_refused told path file before h = (None, h, refl)
 
-large_bytes : (file before : ℕ) (bytes : Option (List ℕ)) → IsSomeAnd bytes (λ b. greatest_size < length b) → file_bytes file before bytes ≡ Err (outcome.Limit (limit.FileSize file))
-large_bytes file before None h = elim h [ ]
-large_bytes file before (Some b) h = let e : nat_lt greatest_size (length b) ≡ true = grind arith in rw e
+large_bytes : (file before : ℕ) (bytes : List ℕ) → greatest_size < length bytes → file_bytes file before (Some bytes) ≡ Err (outcome.Limit (limit.FileSize file))
+large_bytes file before bytes large = let e : nat_lt greatest_size (length bytes) ≡ true = grind arith in rw e
+
+large_found : (file before : ℕ) (found : Option (List ℕ)) → IsSomeAnd found (λ b. greatest_size < length b) → file_bytes file before found ≡ Err (outcome.Limit (limit.FileSize file))
+large_found file before None h = elim h [ ]
+large_found file before (Some bytes) h = large_bytes file before bytes h
+
+-- bytes of which there are more than so many
+longer : (n : ℕ) → (bytes : List ℕ) × (n < length bytes)
+longer n = (replicate (n + 1) 0, omega (arith, length-replicate {A = ℕ} (n + 1) 0))
 
 pub large_refused : (told : Option (List File)) (path : Text) (file before : ℕ) → IfSome told (λ files. IsSomeAnd (bytes_at files path) (λ bytes. greatest_size < length bytes))
     → BytesRefused told path file before (outcome.Limit (limit.FileSize file))
-large_refused None path file before h = h
-large_refused (Some files) path file before h = large_bytes file before (bytes_at files path) h
+large_refused None path file before h = let large = longer greatest_size in (Some large.0, tt, large_bytes file before large.0 large.1)
+large_refused (Some files) path file before h = (bytes_at files path, refl, large_found file before (bytes_at files path) h)
 
 much_bytes : (file before : ℕ) (bytes : List ℕ) → length bytes ≤ greatest_size → greatest_total < before + length bytes
     → sized_bytes file before bytes ≡ Err (outcome.Limit (limit.AllFiles file))
@@ -37,28 +44,16 @@ much_bytes file before bytes small much =
     let k : nat_lt greatest_total (before + length bytes) ≡ true = grind arith in
     rw (e, k)
 
-pub much_refused : (told : Option (List File)) (path : Text) (file before : ℕ) (bytes : List ℕ) → IfSome told (λ files. bytes_at files path ≡ Some bytes)
+pub much_refused : (told : Option (List File)) (path : Text) (file before : ℕ) (bytes : List ℕ) → IsFoundAt told path (Some bytes)
     → length bytes ≤ greatest_size → greatest_total < before + length bytes
     → BytesRefused told path file before (outcome.Limit (limit.AllFiles file))
-much_refused None path file before bytes h small much = h
-much_refused (Some files) path file before bytes h small much = ap (file_bytes file before) h ∙ much_bytes file before bytes small much
+much_refused told path file before bytes read small much = (Some bytes, read, much_bytes file before bytes small much)
 
 pub within : (file before : ℕ) (bytes : List ℕ) → length bytes ≤ greatest_size → before + length bytes ≤ greatest_total → sized_bytes file before bytes ≡ Ok bytes
 within file before bytes small all =
     let e : nat_lt greatest_size (length bytes) ≡ false = grind arith in
     let k : nat_lt greatest_total (before + length bytes) ≡ false = grind arith in
     rw (e, k)
-
-pub bytes_read : (told : Option (List File)) (path : Text) (file before : ℕ) (bytes : List ℕ) → IfSome told (λ files. bytes_at files path ≡ Some bytes)
-    → length bytes ≤ greatest_size → before + length bytes ≤ greatest_total
-    → IfSome told (λ files. file_bytes file before (bytes_at files path) ≡ Ok bytes)
-bytes_read None path file before bytes h small all = h
-bytes_read (Some files) path file before bytes h small all = ap (file_bytes file before) h ∙ within file before bytes small all
-
-pub size_read : (told : Option (List File)) (path : Text) (bytes : List ℕ) → IfSome told (λ files. bytes_at files path ≡ Some bytes)
-    → IfSome told (λ files. size_of (bytes_at files path) ≡ length bytes)
-size_read None path bytes h = h
-size_read (Some files) path bytes h = ap size_of h
 
 -- ---- the table of bytes
 
@@ -78,28 +73,26 @@ table_bytes aim file bytes t e k = ap (table_or_defect aim file) e ∙ ap (table
 
 -- ---- the table of a file
 
-pub table_read : (told : Option (List File)) (aim : Purpose) (path : Text) (file before : ℕ) (bytes : List ℕ) (t : BlockTable)
-    → IfSome told (λ files. file_bytes file before (bytes_at files path) ≡ Ok bytes) → table_or_defect aim file (table_of bytes) ≡ Ok t
-    → IfSome told (λ files. file_table aim file before (bytes_at files path) ≡ Ok t)
-table_read None aim path file before bytes t h e = h
-table_read (Some files) aim path file before bytes t h e = ap (table_in aim file) h ∙ e
+pub table_read : (aim : Purpose) (file before : ℕ) (bytes : List ℕ) (t : BlockTable) → file_bytes file before (Some bytes) ≡ Ok bytes → table_or_defect aim file (table_of bytes) ≡ Ok t
+    → file_table aim file before (Some bytes) ≡ Ok t
+table_read aim file before bytes t sized e = ap (table_in aim file) sized ∙ e
 
 refused_read : (told : Option (List File)) (aim : Purpose) (path : Text) (file before : ℕ) (bytes : List ℕ) (o : Outcome)
-    → IfSome told (λ files. file_bytes file before (bytes_at files path) ≡ Ok bytes) → table_or_defect aim file (table_of bytes) ≡ Err o
+    → IsFoundAt told path (Some bytes) → file_bytes file before (Some bytes) ≡ Ok bytes → table_or_defect aim file (table_of bytes) ≡ Err o
     → FileRefused told aim path file before o
-refused_read None aim path file before bytes o h e = h
-refused_read (Some files) aim path file before bytes o h e = ap (table_in aim file) h ∙ e
+refused_read told aim path file before bytes o read sized e = (Some bytes, read, ap (table_in aim file) sized ∙ e)
 
 pub bytes_cause : (told : Option (List File)) (aim : Purpose) (path : Text) (file before f fn a an : ℕ) (bytes : List ℕ) (o : Outcome)
-    → IfSome told (λ files. file_bytes file before (bytes_at files path) ≡ Ok bytes) → BytesCause aim file bytes o → FileCause told aim path file before f fn a an o
-bytes_cause told aim path file before f fn a an bytes outcome.NoMemory h cause = tt
-bytes_cause told aim path file before f fn a an bytes (outcome.Table i fault) h cause = (cause.0, refused_read told aim path file before bytes (outcome.Table i fault) h cause.1)
-bytes_cause told aim path file before f fn a an bytes (outcome.Limit fault) h cause = (cause.0, refused_read told aim path file before bytes (outcome.Limit fault) h cause.1)
-bytes_cause told aim path file before f fn a an bytes _ h cause = elim cause [ ]
+    → IsFoundAt told path (Some bytes) → file_bytes file before (Some bytes) ≡ Ok bytes → BytesCause aim file bytes o → FileCause told aim path file before f fn a an o
+bytes_cause told aim path file before f fn a an bytes outcome.NoMemory read sized cause = tt
+bytes_cause told aim path file before f fn a an bytes (outcome.Table i fault) read sized cause =
+    (cause.0, refused_read told aim path file before bytes (outcome.Table i fault) read sized cause.1)
+bytes_cause told aim path file before f fn a an bytes (outcome.Limit fault) read sized cause =
+    (cause.0, refused_read told aim path file before bytes (outcome.Limit fault) read sized cause.1)
+bytes_cause told aim path file before f fn a an bytes _ read sized cause = elim cause [ ]
 
 refused_bytes : (told : Option (List File)) (aim : Purpose) (path : Text) (file before : ℕ) (o : Outcome) → BytesRefused told path file before o → FileRefused told aim path file before o
-refused_bytes None aim path file before o h = h
-refused_bytes (Some files) aim path file before o h = ap (table_in aim file) h
+refused_bytes told aim path file before o h = (h.0, h.1, ap (table_in aim file) h.2)
 
 size_is_file : (aim : Purpose) (fault : LimitFault) → is_size_limit fault ≡ true → is_file_limit aim fault ≡ true
 size_is_file purpose.Query (limit.FileSize file) e = refl

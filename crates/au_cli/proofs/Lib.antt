@@ -5,6 +5,7 @@ mod DemoQuery
 mod DemoSums
 mod Encodings
 mod Endings
+mod FileNumbers
 mod FileTables
 mod GeneratedBlocks
 mod GeneratedDigits
@@ -18,5 +19,6 @@ mod Refusals
 mod RequestCauses
 mod TablesRead
 mod TextRefusals
+mod ToldFiles
 mod TwoTables
 mod OutputFiles

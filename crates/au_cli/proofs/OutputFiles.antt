@@ -38,12 +38,14 @@ use Rattle.au_cli.specs.declared.files.Purpose.TheVariants as purpose
 use Rattle.au_cli.specs.declared.outcome.Outcome.{Outcome}
 use Rattle.au_cli.specs.Causes.{IsAskedText}
 use Rattle.au_value.specs.Texts.{Text}
-use Rattle.au_cli.specs.Files.{and_more, file_table, greatest_columns, greatest_files, greatest_size, greatest_total, passed_limit, size_of, table_in, table_or_defect, table_within, tables_from, tables_of}
+use Rattle.au_cli.specs.Files.{Found, and_more, file_table, found_in, greatest_columns, greatest_files, greatest_size, greatest_total, passed_limit, size_of, table_in, table_or_defect, table_within, tables_from, tables_of}
 use Rattle.au_cli.specs.Outputs.{AnswersOutputs, AreOutputs, AreWithin, IsEncodedFile}
 use Rattle.au_cli.specs.Plain.{PlanGiven}
-use Rattle.au_cli.specs.Requests.{Given, IsTextBy, Refusal, given_of, refused_request, statement_given, tables_given, typed_given, unless_refused}
+use Rattle.au_cli.specs.Requests.{Given, IsAnswer, IsTextBy, Refusal, given_of, refused_request, statement_given, tables_given, typed_given, unless_refused}
 use Rattle.au_cli.specs.Run.{CanRun}
-use Rattle.au_cli.proofs.PlanRuns.{run_given}
+use Rattle.au_cli.proofs.PlanRuns.{given_told as given_plan, run_given}
+use Rattle.au_cli.proofs.Endings.{gives_told}
+use Rattle.au_cli.proofs.ToldFiles.{told_file}
 
 -- ---- the table of a file
 
@@ -114,32 +116,33 @@ one_encoded : (files outputs : List File) (f b : ℕ) (word other : Text × Text
     → IsEncodedFile files outputs word other → size_of (bytes_at outputs other.1) ≤ greatest_size → b + size_of (bytes_at outputs other.1) ≤ greatest_total
     → (u : BlockTable) × (file_table purpose.Plan f b (bytes_at outputs other.1) ≡ Ok u) × IsBlockTable t × IsWritableTable t × IsEncodedTable t u
 one_encoded files outputs f b word other t own h small all =
-    let again = read_at purpose.Encode 0 0 (bytes_at files word.1) h.1.0 h.1.1 in
-    let put : bytes_at outputs other.1 ≡ Some (encoded_text h.1.0) = h.2 ∙ ap Some h.1.2 in
-    let few = few_columns (length h.1.0.columns) (nat_lt greatest_columns (length h.1.0.columns)) (limit.EncodeColumns (length h.1.0.columns)) refl again.limit in
-    let good = read_good again.text h.1.0 again.table in
-    let read = encoded_read h.1.0 good.0 good.1 few in
-    let size = encoded_size h.1.0 read.0 good.0 good.1 few read.1 in
-    let table = table_again f b (encoded_text h.1.0) read.0 read.1.reads (subst (λ bytes. size_of bytes ≤ greatest_size) put small) (subst (λ bytes. b + size_of bytes ≤ greatest_total) put all) size in
-    let same : h.1.0 ≡ t = one_table (bytes_at files word.1) (bytes_at files word.1) h.1.0 t again.text own.text again.is own.is again.table own.table in
+    let is = told_file files word.1 (λ found. (u : BlockTable) × (file_table purpose.Encode 0 0 found ≡ Ok u) × (h.0 ≡ encoded_text u)) h.1 in
+    let again = read_at purpose.Encode 0 0 (bytes_at files word.1) is.0 is.1 in
+    let put : bytes_at outputs other.1 ≡ Some (encoded_text is.0) = h.2 ∙ ap Some is.2 in
+    let few = few_columns (length is.0.columns) (nat_lt greatest_columns (length is.0.columns)) (limit.EncodeColumns (length is.0.columns)) refl again.limit in
+    let good = read_good again.text is.0 again.table in
+    let read = encoded_read is.0 good.0 good.1 few in
+    let size = encoded_size is.0 read.0 good.0 good.1 few read.1 in
+    let table = table_again f b (encoded_text is.0) read.0 read.1.reads (subst (λ bytes. size_of bytes ≤ greatest_size) put small) (subst (λ bytes. b + size_of bytes ≤ greatest_total) put all) size in
+    let same : is.0 ≡ t = one_table (bytes_at files word.1) (bytes_at files word.1) is.0 t again.text own.text again.is own.is again.table own.table in
     (read.0, ap (file_table purpose.Plan f b) put ∙ table, subst IsBlockTable same good.0, subst IsWritableTable same good.1, subst (λ x. IsEncodedTable x read.0) same read.1)
 
-tables_encoded : (files outputs : List File) (file before f b : ℕ) (words others : List (Text × Text)) (ts : List Named) → tables_from purpose.Query files file before words ≡ Ok ts
+tables_encoded : (files outputs : List File) (file before f b : ℕ) (words others : List (Text × Text)) (ts : List Named) → tables_from purpose.Query file before (found_in files words) ≡ Ok ts
     → AllZip (IsEncodedFile files outputs) words others → AreWithin outputs b others
-    → (us : List Named) × (tables_from purpose.Plan outputs f b others ≡ Ok us) × AreTables ts us
+    → (us : List Named) × (tables_from purpose.Plan f b (found_in outputs others) ≡ Ok us) × AreTables ts us
 tables_encoded files outputs file before f b [] [] ts e h k =
     let none : [] ≡ ts = cc in
     ([], refl, subst (λ rest. AreTables rest []) none (record { good = tt; written = tt; encoded = tt }))
 tables_encoded files outputs file before f b [] (other ∷ others) ts e h k = elim h [ ]
 tables_encoded files outputs file before f b (word ∷ words) [] ts e h k = elim h [ ]
 tables_encoded files outputs file before f b (word ∷ words) (other ∷ others) ts e h k =
-    let parts = parts_of word.0 (file_table purpose.Query file before (bytes_at files word.1)) (tables_from purpose.Query files (file + 1) (before + size_of (bytes_at files word.1)) words) ts e in
+    let parts = parts_of word.0 (file_table purpose.Query file before (bytes_at files word.1)) (tables_from purpose.Query (file + 1) (before + size_of (bytes_at files word.1)) (found_in files words)) ts e in
     let found = read_at purpose.Query file before (bytes_at files word.1) parts.0 parts.2 in
     let own : ReadAt purpose.Query f (bytes_at files word.1) parts.0 = record { text = found.text; is = found.is; table = found.table; limit = refl } in
     let one = one_encoded files outputs f b word other parts.0 own h.0 k.0 k.1 in
     let more = tables_encoded files outputs (file + 1) (before + size_of (bytes_at files word.1)) (f + 1) (b + size_of (bytes_at outputs other.1)) words others parts.1 parts.3 h.1 k.2 in (
       (other.0, one.0) ∷ more.0,
-      ap (λ r. and_more other.0 r (tables_from purpose.Plan outputs (f + 1) (b + size_of (bytes_at outputs other.1)) others)) one.1 ∙ ap (and_more other.0 (Ok one.0)) more.1,
+      ap (λ r. and_more other.0 r (tables_from purpose.Plan (f + 1) (b + size_of (bytes_at outputs other.1)) (found_in outputs others))) one.1 ∙ ap (and_more other.0 (Ok one.0)) more.1,
       subst (λ rest. AreTables rest ((other.0, one.0) ∷ more.0)) parts.4 (record { good = (one.2, more.2.good); written = (one.3, more.2.written); encoded = (one.4, more.2.encoded) }),
     )
 
@@ -150,9 +153,9 @@ typed_parts ts us s q [] e = let same : (us, q) ≡ (ts, s) = cc in (refl, ap (�
 typed_parts ts us s q (fault ∷ faults) e = cc
 
 -- the tables of a request, and that its statement has no defect
-pub record IsGiven (r : Request) (files : List File) (ts : List Named) (s : QueryTree) : Type 0 where
+pub record IsGiven (r : Request) (found : List Found) (ts : List Named) (s : QueryTree) : Type 0 where
   pub statement : statement_of r.query ≡ Some s
-  pub tables : tables_of files r.tables ≡ Ok ts
+  pub tables : tables_of found ≡ Ok ts
   pub sound : statement_defects ts s ≡ []
   pub allowed : refused_request r ≡ None
 
@@ -162,19 +165,19 @@ tables_parts ts s q (Ok us) e =
     let is = typed_parts ts us s q (statement_defects us q) e in
     (ap Ok is.1, is.2, ap (λ t. statement_defects t s) (sym is.1) ∙ ap (statement_defects us) (sym is.2) ∙ is.0)
 
-statement_parts : (r : Request) (files : List File) (ts : List Named) (s : QueryTree) (o : Option QueryTree) → statement_given r files o ≡ Ok (ts, s)
-    → (o ≡ Some s) × (tables_of files r.tables ≡ Ok ts) × (statement_defects ts s ≡ [])
-statement_parts r files ts s None e = cc
-statement_parts r files ts s (Some q) e = let is = tables_parts ts s q (tables_of files r.tables) e in (ap Some is.1, is.0, is.2)
+statement_parts : (r : Request) (found : List Found) (ts : List Named) (s : QueryTree) (o : Option QueryTree) → statement_given r found o ≡ Ok (ts, s)
+    → (o ≡ Some s) × (tables_of found ≡ Ok ts) × (statement_defects ts s ≡ [])
+statement_parts r found ts s None e = cc
+statement_parts r found ts s (Some q) e = let is = tables_parts ts s q (tables_of found) e in (ap Some is.1, is.0, is.2)
 
-refused_parts : (r : Request) (files : List File) (o : Option Refusal) (g : Given) → unless_refused r files o ≡ Ok g → (o ≡ None) × (statement_given r files (statement_of r.query) ≡ Ok g)
-refused_parts r files None g e = (refl, e)
-refused_parts r files (Some refusal) g e = cc
+refused_parts : (r : Request) (found : List Found) (o : Option Refusal) (g : Given) → unless_refused r found o ≡ Ok g → (o ≡ None) × (statement_given r found (statement_of r.query) ≡ Ok g)
+refused_parts r found None g e = (refl, e)
+refused_parts r found (Some refusal) g e = cc
 
-given_parts : (r : Request) (files : List File) (ts : List Named) (s : QueryTree) → given_of r files ≡ Ok (ts, s) → IsGiven r files ts s
-given_parts r files ts s e =
-    let own = refused_parts r files (refused_request r) (ts, s) e in
-    let is = statement_parts r files ts s (statement_of r.query) own.1 in
+given_parts : (r : Request) (found : List Found) (ts : List Named) (s : QueryTree) → given_of r found ≡ Ok (ts, s) → IsGiven r found ts s
+given_parts r found ts s e =
+    let own = refused_parts r found (refused_request r) (ts, s) e in
+    let is = statement_parts r found ts s (statement_of r.query) own.1 in
     record { statement = is.0; tables = is.1; sound = is.2; allowed = own.0 }
 
 whole_of : (o : Option (List Token)) (s : QueryTree) → option_and_then parsed_tree o ≡ Some s → WholeQuery s
@@ -207,14 +210,14 @@ front_flat depth inside (b ∷ xs) ys e =
 -- what is printed for a request for its plan
 plan_printed : (files outputs : List File) (r : Request) (path : Text) (others : List (Text × Text)) (ts : List Named) (s : QueryTree) (h : AreOutputs files outputs r path others ts s) → IsPlanText ts s h.line
 plan_printed files outputs r path others ts s h =
-    let asked = h.rewritten.1 in
+    let asked = gives_told (IsAnswer r h.line) r files h.rewritten.1 in
     let same : (asked.0, asked.1) ≡ (ts, s) = let e : Ok (asked.0, asked.1) ≡ Ok (ts, s) = sym asked.2 ∙ h.given in cc in
     let is : IsPlanText asked.0 asked.1 h.line = subst (λ command. IsTextBy command r asked.0 asked.1 h.line) h.command asked.3.is in
     subst (λ (g : Given). IsPlanText g.0 g.1 h.line) same is
 
 module _ (files outputs : List File) (r : Request) (path : Text) (others : List (Text × Text)) (ts : List Named) (s : QueryTree) (h : AreOutputs files outputs r path others ts s) where
-  given : IsGiven r files ts s
-  given = given_parts r files ts s h.given
+  given : IsGiven r (found_in files r.tables) ts s
+  given = given_parts r (found_in files r.tables) ts s h.given
 
   written : IsPlanText ts s h.line
   written = plan_printed files outputs r path others ts s h
@@ -250,7 +253,7 @@ module _ (files outputs : List File) (r : Request) (path : Text) (others : List 
   printed : (can : CanRun path others outputs) → plain_text can.tables can.plan ≡ encoded_answer ts s
       → (text : Text) → IsAskedText (Ok (words.plain path others)) (Some outputs) text → text ≡ encoded_answer ts s
   printed can is text asked =
-      let gives = asked.1 in
+      let gives = given_plan (λ ts p. text ≡ plain_text ts p) path others outputs asked.1 in
       let same : gives.0 ≡ (can.tables, can.plan) = let e : Ok gives.0 ≡ Ok (can.tables, can.plan) = sym gives.1 ∙ run_given path others outputs can in cc in
       gives.2 ∙ ap (λ (g : PlanGiven). plain_text g.0 g.1) same ∙ is
 

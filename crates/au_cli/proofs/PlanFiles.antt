@@ -1,8 +1,8 @@
 -- The plan of the first file, and its run over the files of words, from what was read.
-use Rattle.std.proofs.Common.{◌≡◌, ◌≤◌, ◌∙◌, ℕ, true, false, refl, sym, ap, subst, arith, List, Option, Some, None, IfSome, Result, Ok, Err, length}
+use Rattle.std.proofs.Common.{◌≡◌, ◌≤◌, ◌+◌, ◌∙◌, ℕ, true, false, refl, sym, ap, subst, arith, suc, List, Option, Some, None, Result, Ok, Err, length}
 use Rattle.std.specs.Prelude.{is_some}
 use Rattle.au_value.specs.declared.kinds.Kind.{Kind}
-use Rattle.au_io.specs.Files.{File, bytes_at}
+use Rattle.au_io.specs.Files.{File}
 use Rattle.au_plain.specs.Plans.{PlanTree}
 use Rattle.au_plain.specs.PlanKinds.{IsTypedPlan}
 use Rattle.au_sqltext.specs.declared.fault.PlanFault.{PlanFault}
@@ -17,17 +17,16 @@ use Rattle.au_cli.specs.declared.files.Purpose.TheVariants as purpose
 use Rattle.au_cli.specs.declared.outcome.Outcome.{Outcome}
 use Rattle.au_cli.specs.declared.outcome.Outcome.TheVariants as outcome
 use Rattle.au_value.specs.Texts.{Text}
-use Rattle.au_cli.specs.Files.{file_bytes, greatest_files, size_of, tables_from}
+use Rattle.au_cli.specs.Files.{FileFound, FilesFound, Found, IsFoundAt, file_bytes, greatest_files, size_of, tables_from}
 use Rattle.au_cli.specs.Plain.{and_tables, file_plan, line_of, line_plan, plan_given, plan_in, plan_over, typed_plan}
-use Rattle.au_cli.specs.FileCauses.{BytesRefused, FilesCause, FilesRefused, ReadCause, is_file_limit, is_size_limit}
-use Rattle.au_cli.proofs.TablesRead.{rose_later}
-use Rattle.au_cli.specs.PlanCauses.{HasNoPlan, IsNoLine, LineCause, OverCause, OverGives, OverRefused, PlanCause, PlanFaultCause, PlanFileCause, PlanFileFault, PlanFileRefused, PlanGives, PlanLimit, PlanRefused, ended_plain}
+use Rattle.au_cli.specs.FileCauses.{BytesRefused, FilesCause, FilesRefused, ReadCause, ReadsUpTo, is_file_limit, is_size_limit}
+use Rattle.au_cli.proofs.TablesRead.{rose_later, unread_found}
+use Rattle.au_cli.specs.PlanCauses.{HasNoPlan, IsNoLine, LineCause, OverCause, OverGives, OverRefused, PlanCause, PlanFaultCause, PlanFileCause, PlanFileFault, PlanFileRefused, PlanGives, PlanLimit, PlanReadsUpTo, PlanRefused, ended_plain}
 
 -- ---- the first file
 
 bytes_plan : (told : Option (List File)) (path : Text) (o : Outcome) → BytesRefused told path 0 0 o → PlanFileRefused told path o
-bytes_plan None path o h = h
-bytes_plan (Some files) path o h = ap plan_in h
+bytes_plan told path o h = (h.0, h.1, ap plan_in h.2)
 
 pub read_plan_cause : (told : Option (List File)) (path : Text) (f fn a an : ℕ) (o : Outcome) → ReadCause told path 0 0 f fn a an o → PlanFileCause told path f fn a an o
 read_plan_cause told path f fn a an outcome.NoMemory h = tt
@@ -36,30 +35,23 @@ read_plan_cause told path f fn a an (outcome.NoFile i) h = (h.1, bytes_plan told
 read_plan_cause told path f fn a an (outcome.Limit fault) h = (h.0, bytes_plan told path (outcome.Limit fault) h.1)
 read_plan_cause told path f fn a an _ h = elim h [ ]
 
-pub plan_read : (told : Option (List File)) (path : Text) (bytes : List ℕ) (found : Result PlanTree Outcome) → IfSome told (λ files. file_bytes 0 0 (bytes_at files path) ≡ Ok bytes)
-    → line_plan (line_of bytes) ≡ found → IfSome told (λ files. file_plan (bytes_at files path) ≡ found)
-plan_read None path bytes found h e = h
-plan_read (Some files) path bytes found h e = ap plan_in h ∙ e
-
-none_here : (told : Option (List File)) (path : Text) (bytes : List ℕ) → IfSome told (λ files. bytes_at files path ≡ Some bytes) → IsNoLine (line_of bytes)
-    → IfSome told (λ files. HasNoPlan (bytes_at files path))
-none_here None path bytes h is = h
-none_here (Some files) path bytes h is = subst HasNoPlan (sym h) is
+pub plan_read : (bytes : List ℕ) (found : Result PlanTree Outcome) → file_bytes 0 0 (Some bytes) ≡ Ok bytes → line_plan (line_of bytes) ≡ found → file_plan (Some bytes) ≡ found
+plan_read bytes found sized e = ap plan_in sized ∙ e
 
 -- why the line of the file is no plan is why the file is none
-pub line_cause : (told : Option (List File)) (path : Text) (f fn a an : ℕ) (bytes : List ℕ) (o : Outcome) → IfSome told (λ files. bytes_at files path ≡ Some bytes)
-    → IfSome told (λ files. file_bytes 0 0 (bytes_at files path) ≡ Ok bytes) → LineCause (line_of bytes) o → PlanFileCause told path f fn a an o
-line_cause told path f fn a an bytes outcome.NoMemory at h cause = tt
-line_cause told path f fn a an bytes (outcome.Plan no_plan.Text) at h cause =
-    (plan_read told path bytes (Err (outcome.Plan no_plan.Text)) h cause.0, none_here told path bytes at cause.1)
-line_cause told path f fn a an bytes (outcome.Plan no_plan.Deep) at h cause = plan_read told path bytes (Err (outcome.Plan no_plan.Deep)) h cause
-line_cause told path f fn a an bytes _ at h cause = elim cause [ ]
+pub line_cause : (told : Option (List File)) (path : Text) (f fn a an : ℕ) (bytes : List ℕ) (o : Outcome) → IsFoundAt told path (Some bytes)
+    → file_bytes 0 0 (Some bytes) ≡ Ok bytes → LineCause (line_of bytes) o → PlanFileCause told path f fn a an o
+line_cause told path f fn a an bytes outcome.NoMemory read sized cause = tt
+line_cause told path f fn a an bytes (outcome.Plan no_plan.Text) read sized cause =
+    (Some bytes, read, (plan_read bytes (Err (outcome.Plan no_plan.Text)) sized cause.0, cause.1))
+line_cause told path f fn a an bytes (outcome.Plan no_plan.Deep) read sized cause =
+    (Some bytes, read, plan_read bytes (Err (outcome.Plan no_plan.Deep)) sized cause)
+line_cause told path f fn a an bytes _ read sized cause = elim cause [ ]
 
 -- ---- over the files of words
 
 over_refused : (told : Option (List File)) (before : ℕ) (words : List (Text × Text)) (p : PlanTree) (o : Outcome) → FilesRefused told purpose.Plan 1 before words o → OverRefused told before words p o
-over_refused None before words p o h = h
-over_refused (Some files) before words p o h = ap (plan_over p) h
+over_refused told before words p o h = (h.0, h.1, ap (plan_over p) h.2)
 
 pub files_over : (told : Option (List File)) (before : ℕ) (words : List (Text × Text)) (p : PlanTree) (f fn a an : ℕ) (o : Outcome)
     → FilesCause told purpose.Plan 1 before words f fn a an o → OverCause told before words p f fn a an o
@@ -76,17 +68,15 @@ typed_given ts p (Some kinds) h = refl
 
 -- tables over which the plan is typed are given with it
 pub over_gives : (P : List Named → PlanTree → Type 0) (told : Option (List File)) (before : ℕ) (words : List (Text × Text)) (p : PlanTree) (ts : List Named)
-    → IfSome told (λ files. tables_from purpose.Plan files 1 before words ≡ Ok ts) → IsTypedPlan (value_kinds ts) p → P ts p → OverGives told before words p P
-over_gives P None before words p ts h typed is = h
-over_gives P (Some files) before words p ts h typed is = ((ts, p), ap (plan_over p) h ∙ typed_given ts p (plain_kinds ts p) typed, is)
+    → FilesFound told words (λ found. tables_from purpose.Plan 1 before found ≡ Ok ts) → IsTypedPlan (value_kinds ts) p → P ts p → OverGives told before words p P
+over_gives P told before words p ts h typed is = (h.0, h.1, ((ts, p), ap (plan_over p) h.2 ∙ typed_given ts p (plain_kinds ts p) typed, is))
 
 untyped : (told : Option (List File)) (before : ℕ) (words : List (Text × Text)) (p : PlanTree) (ts : List Named)
-    → IfSome told (λ files. tables_from purpose.Plan files 1 before words ≡ Ok ts) → plain_kinds ts p ≡ None → OverRefused told before words p (outcome.Plan no_plan.Untyped)
-untyped None before words p ts h none = h
-untyped (Some files) before words p ts h none = ap (plan_over p) h ∙ ap (typed_plan ts p) none
+    → FilesFound told words (λ found. tables_from purpose.Plan 1 before found ≡ Ok ts) → plain_kinds ts p ≡ None → OverRefused told before words p (outcome.Plan no_plan.Untyped)
+untyped told before words p ts h none = (h.0, h.1, ap (plan_over p) h.2 ∙ ap (typed_plan ts p) none)
 
 pub plain_over : (told : Option (List File)) (before : ℕ) (words : List (Text × Text)) (p : PlanTree) (f fn a an : ℕ) (ts : List Named) (fault : PlainFault)
-    → IfSome told (λ files. tables_from purpose.Plan files 1 before words ≡ Ok ts) → PlainCause ts p fault → OverCause told before words p f fn a an (ended_plain fault)
+    → FilesFound told words (λ found. tables_from purpose.Plan 1 before found ≡ Ok ts) → PlainCause ts p fault → OverCause told before words p f fn a an (ended_plain fault)
 plain_over told before words p f fn a an ts plain.NoMemory h cause = tt
 plain_over told before words p f fn a an ts plain.Untyped h cause = untyped told before words p ts h cause
 plain_over told before words p f fn a an ts plain.Overflow h cause = over_gives (λ us q. plain_fits us q ≡ false) told before words p ts h cause.0 cause.1
@@ -94,8 +84,9 @@ plain_over told before words p f fn a an ts plain.Overflow h cause = over_gives 
 -- ---- the whole run
 
 first_refused : (told : Option (List File)) (path : Text) (words : List (Text × Text)) (o : Outcome) → length words ≤ greatest_files → PlanFileRefused told path o → PlanRefused told path words o
-first_refused None path words o few h = (few, h)
-first_refused (Some files) path words o few h = (few, ap (and_tables files (size_of (bytes_at files path)) words) h)
+first_refused told path words o few h =
+    let others = unread_found told words in
+    (few, (h.0, h.1, (others.0, others.1, ap (and_tables (size_of h.0) others.0) h.2)))
 
 size_limit : (told : Option (List File)) (path : Text) (words : List (Text × Text)) (fault : LimitFault) → length words ≤ greatest_files → is_size_limit fault ≡ true
     → PlanFileRefused told path (outcome.Limit fault) → PlanLimit told path words fault
@@ -104,7 +95,9 @@ size_limit told path words (limit.AllFiles i) few e h = (refl, first_refused tol
 size_limit told path words _ few e h = cc
 
 file_fault : (told : Option (List File)) (path : Text) (words : List (Text × Text)) (fault : PlanFault) → length words ≤ greatest_files → PlanFileFault told path fault → PlanFaultCause told path words fault
-file_fault told path words no_plan.Text few h = (first_refused told path words (outcome.Plan no_plan.Text) few h.0, h.1)
+file_fault told path words no_plan.Text few h =
+    let others = unread_found told words in
+    (few, (h.0, h.1, (others.0, others.1, (ap (and_tables (size_of h.0) others.0) h.2.0, h.2.1))))
 file_fault told path words no_plan.Deep few h = first_refused told path words (outcome.Plan no_plan.Deep) few h
 file_fault told path words _ few h = elim h [ ]
 
@@ -112,41 +105,52 @@ file_fault told path words _ few h = elim h [ ]
 pub plan_cause : (path : Text) (words : List (Text × Text)) (told : Option (List File)) (f fn a an : ℕ) (o : Outcome) → length words ≤ greatest_files
     → PlanFileCause told path f fn a an o → PlanCause path words told f fn a an o
 plan_cause path words told f fn a an outcome.NoMemory few h = tt
-plan_cause path words told f fn a an (outcome.ReadFault i) few h = (omega (arith, h.0), h.1, few)
+plan_cause path words told f fn a an (outcome.ReadFault i) few h = (h.1, few, subst (PlanReadsUpTo told path words) (sym h.0) tt)
 plan_cause path words told f fn a an (outcome.NoFile i) few h = (h.0, first_refused told path words (outcome.NoFile i) few h.1)
 plan_cause path words told f fn a an (outcome.Limit fault) few h = size_limit told path words fault few h.0 h.1
 plan_cause path words told f fn a an (outcome.Plan fault) few h = file_fault told path words fault few h
 plan_cause path words told f fn a an _ few h = elim h [ ]
 
--- what is given is the plan of the first file over the files of the words
-given_over : (files : List File) (path : Text) (words : List (Text × Text)) (size : ℕ) (p : PlanTree) → file_plan (bytes_at files path) ≡ Ok p → size_of (bytes_at files path) ≡ size
-    → plan_given path words files ≡ plan_over p (tables_from purpose.Plan files 1 size words)
-given_over files path words size p e sized =
-    ap (and_tables files (size_of (bytes_at files path)) words) e ∙ ap (λ n. plan_over p (tables_from purpose.Plan files 1 n words)) sized
+-- the plan that is found at a path, of a file of this size
+abbrev pub PlanRead : Option (List File) → Text → ℕ → PlanTree → Type 0
+PlanRead told path size p = FileFound told path (λ plan. (file_plan plan ≡ Ok p) × (size_of plan ≡ size))
+
+-- what is given is this plan over the tables of what is found for the words
+given_over : (plan : Option (List ℕ)) (found : List Found) (size : ℕ) (p : PlanTree) → file_plan plan ≡ Ok p → size_of plan ≡ size → plan_given plan found ≡ plan_over p (tables_from purpose.Plan 1 size found)
+given_over plan found size p e sized =
+    ap (and_tables (size_of plan) found) e ∙ ap (λ n. plan_over p (tables_from purpose.Plan 1 n found)) sized
 
 pub plan_gives : (P : List Named → PlanTree → Type 0) (told : Option (List File)) (path : Text) (words : List (Text × Text)) (size : ℕ) (p : PlanTree)
-    → IfSome told (λ files. file_plan (bytes_at files path) ≡ Ok p) → IfSome told (λ files. size_of (bytes_at files path) ≡ size) → OverGives told size words p P → PlanGives told path words P
-plan_gives P None path words size p e sized h = h
-plan_gives P (Some files) path words size p e sized h = (h.0, given_over files path words size p e sized ∙ h.1, h.2)
+    → PlanRead told path size p → OverGives told size words p P → PlanGives told path words P
+plan_gives P told path words size p e h =
+    (e.0, e.1, (h.0, h.1, (h.2.0, given_over e.0 h.0 size p e.2.0 e.2.1 ∙ h.2.1, h.2.2)))
 
 later_refused : (told : Option (List File)) (path : Text) (words : List (Text × Text)) (size : ℕ) (p : PlanTree) (o : Outcome) → length words ≤ greatest_files
-    → IfSome told (λ files. file_plan (bytes_at files path) ≡ Ok p) → IfSome told (λ files. size_of (bytes_at files path) ≡ size) → OverRefused told size words p o → PlanRefused told path words o
-later_refused None path words size p o few e sized h = (few, h)
-later_refused (Some files) path words size p o few e sized h = (few, given_over files path words size p e sized ∙ h)
+    → PlanRead told path size p → OverRefused told size words p o → PlanRefused told path words o
+later_refused told path words size p o few e h = (few, (e.0, e.1, (h.0, h.1, given_over e.0 h.0 size p e.2.0 e.2.1 ∙ h.2)))
 
 later_limit : (told : Option (List File)) (path : Text) (words : List (Text × Text)) (fault : LimitFault) → is_file_limit purpose.Plan fault ≡ true
     → PlanRefused told path words (outcome.Limit fault) → PlanLimit told path words fault
 later_limit told path words (limit.Files n) e h = cc
 later_limit told path words _ e h = (e, h)
 
+-- a file behind the plan's that is not read
+later_read : (told : Option (List File)) (path : Text) (words : List (Text × Text)) (size : ℕ) (p : PlanTree) (i place : ℕ) → i ≡ 1 + place
+    → PlanRead told path size p → ReadsUpTo told purpose.Plan 1 size words place → PlanReadsUpTo told path words i
+later_read told path words size p i place is e h =
+    let next : suc place ≡ i = omega (arith, is) in
+    let reads : PlanReadsUpTo told path words (suc place) = (e.0, e.1, (p, e.2.0, subst (λ n. ReadsUpTo told purpose.Plan 1 n words place) (sym e.2.1) h)) in
+    subst (PlanReadsUpTo told path words) next reads
+
 -- why a plan is not run over the files is why it is not run
 pub over_cause : (path : Text) (words : List (Text × Text)) (told : Option (List File)) (f f1 fn a a1 an size : ℕ) (p : PlanTree) (o : Outcome) → length words ≤ greatest_files → f ≤ f1 → a ≤ a1
-    → IfSome told (λ files. file_plan (bytes_at files path) ≡ Ok p) → IfSome told (λ files. size_of (bytes_at files path) ≡ size) → OverCause told size words p f1 fn a1 an o → PlanCause path words told f fn a an o
-over_cause path words told f f1 fn a a1 an size p outcome.NoMemory few ff aa e sized h = tt
-over_cause path words told f f1 fn a a1 an size p (outcome.ReadFault i) few ff aa e sized h = (omega (arith, h.0), rose_later f f1 fn ff h.1, few)
-over_cause path words told f f1 fn a a1 an size p (outcome.NoFile i) few ff aa e sized h = (rose_later a a1 an aa h.0, later_refused told path words size p (outcome.NoFile i) few e sized h.1)
-over_cause path words told f f1 fn a a1 an size p (outcome.Table i fault) few ff aa e sized h = (h.0, later_refused told path words size p (outcome.Table i fault) few e sized h.1)
-over_cause path words told f f1 fn a a1 an size p (outcome.Limit fault) few ff aa e sized h = later_limit told path words fault h.0 (later_refused told path words size p (outcome.Limit fault) few e sized h.1)
-over_cause path words told f f1 fn a a1 an size p (outcome.Plan no_plan.Untyped) few ff aa e sized h = later_refused told path words size p (outcome.Plan no_plan.Untyped) few e sized h
-over_cause path words told f f1 fn a a1 an size p outcome.Overflow few ff aa e sized h = (few, plan_gives (λ ts q. plain_fits ts q ≡ false) told path words size p e sized h)
-over_cause path words told f f1 fn a a1 an size p _ few ff aa e sized h = elim h [ ]
+    → PlanRead told path size p → OverCause told size words p f1 fn a1 an o → PlanCause path words told f fn a an o
+over_cause path words told f f1 fn a a1 an size p outcome.NoMemory few ff aa e h = tt
+over_cause path words told f f1 fn a a1 an size p (outcome.ReadFault i) few ff aa e h =
+    (rose_later f f1 fn ff h.0, few, later_read told path words size p i h.1.0 h.1.1 e h.1.2)
+over_cause path words told f f1 fn a a1 an size p (outcome.NoFile i) few ff aa e h = (rose_later a a1 an aa h.0, later_refused told path words size p (outcome.NoFile i) few e h.1)
+over_cause path words told f f1 fn a a1 an size p (outcome.Table i fault) few ff aa e h = (h.0, later_refused told path words size p (outcome.Table i fault) few e h.1)
+over_cause path words told f f1 fn a a1 an size p (outcome.Limit fault) few ff aa e h = later_limit told path words fault h.0 (later_refused told path words size p (outcome.Limit fault) few e h.1)
+over_cause path words told f f1 fn a a1 an size p (outcome.Plan no_plan.Untyped) few ff aa e h = later_refused told path words size p (outcome.Plan no_plan.Untyped) few e h
+over_cause path words told f f1 fn a a1 an size p outcome.Overflow few ff aa e h = (few, plan_gives (λ ts q. plain_fits ts q ≡ false) told path words size p e h)
+over_cause path words told f f1 fn a a1 an size p _ few ff aa e h = elim h [ ]

@@ -1,11 +1,11 @@
 -- Why an outcome comes: the cause that each has. `told` are the files that a shelf tells, and the counts are those of
 -- its refusals and of its absent files before and after.
-use Rattle.std.specs.Prelude.{ℕ, ◌≡◌, ◌≢◌, ◌<◌, ◌≤◌, ◌⊎◌, Bool, true, false, List, [], length, Option, Some, None, IfSome, Result, Ok, Err, ⊤}
+use Rattle.std.specs.Prelude.{ℕ, ◌≡◌, ◌≢◌, ◌<◌, ◌≤◌, ◌⊎◌, Bool, true, false, List, [], length, Option, Some, None, Result, Ok, Err, ⊤}
 use Rattle.std.specs.Io.KnownBytes.{Appends}
 use Rattle.au_blocks.specs.declared.faults.TableFault.TheVariants as table
 use Rattle.au_blocks.specs.Tables.{BlockTable}
 use Rattle.au_io.specs.Counts.{Rose}
-use Rattle.au_io.specs.Files.{AppendsFront, File, bytes_at}
+use Rattle.au_io.specs.Files.{AppendsFront, File}
 use Rattle.au_parse.specs.Tree.{QueryTree}
 use Rattle.au_engine.specs.declared.faults.LimitFault.{LimitFault}
 use Rattle.au_engine.specs.declared.faults.LimitFault.TheVariants as limit
@@ -24,9 +24,9 @@ use Rattle.au_cli.specs.declared.files.Purpose.TheVariants as purpose
 use Rattle.au_cli.specs.declared.outcome.Outcome.{Outcome}
 use Rattle.au_cli.specs.declared.outcome.Outcome.TheVariants as outcome
 use Rattle.au_cli.specs.Demo.{Demonstrates}
-use Rattle.au_cli.specs.FileCauses.{FileCause}
+use Rattle.au_cli.specs.FileCauses.{FileCause, ReadsUpTo}
 use Rattle.au_value.specs.Texts.{Text}
-use Rattle.au_cli.specs.Files.{file_table, greatest_files}
+use Rattle.au_cli.specs.Files.{FileFound, FilesFound, file_table, greatest_files}
 use Rattle.au_cli.specs.PlanCauses.{PlanCause, PlanGives}
 use Rattle.au_cli.specs.Requests.{IsAnswer, IsRefusal, Refusal, given_of, numbers_fit, refused_request}
 
@@ -38,13 +38,13 @@ pub record IsRead (r : Request) : Type 0 where
   pub statement : QueryTree
   pub is : statement_of r.query ≡ Some statement
 
--- told files give what is asked for, and this holds of it
-abbrev pub ToldGive : Option (List File) → Request → (List Named → QueryTree → Type 0) → Type 0
-ToldGive told r P = IfSome told (λ files. (ts : List Named) × (s : QueryTree) × (given_of r files ≡ Ok (ts, s)) × P ts s)
+-- what is found for the words gives what is asked for, and this holds of it
+abbrev pub Gives : Option (List File) → Request → (List Named → QueryTree → Type 0) → Type 0
+Gives told r P = FilesFound told r.tables (λ found. (ts : List Named) × (s : QueryTree) × (given_of r found ≡ Ok (ts, s)) × P ts s)
 
--- an outcome is that of the first refusal over the told files
+-- an outcome is that of the first refusal over what is found
 abbrev pub IsFirst : Option (List File) → Request → Outcome → Type 0
-IsFirst told r o = IsRead r × IfSome told (λ files. (refusal : Refusal) × (given_of r files ≡ Err refusal) × IsRefusal refusal o)
+IsFirst told r o = IsRead r × FilesFound told r.tables (λ found. (refusal : Refusal) × (given_of r found ≡ Err refusal) × IsRefusal refusal o)
 
 -- an outcome is that of the first refusal before any file
 abbrev pub IsRefusedBefore : Request → Outcome → Type 0
@@ -97,9 +97,9 @@ RequestCause r told faults faults_now absences absences_now (outcome.Query fault
 RequestCause r told faults faults_now absences absences_now (outcome.Limit fault) =
     (is_query_limit fault ≡ true) × StageCause (is_text_limit fault) told r (outcome.Limit fault)
 RequestCause r told faults faults_now absences absences_now (outcome.NoFile i) = Rose absences absences_now × IsFirst told r (outcome.NoFile i)
-RequestCause r told faults faults_now absences absences_now (outcome.ReadFault i) = (i < length r.tables) × Rose faults faults_now × IsRead r
+RequestCause r told faults faults_now absences absences_now (outcome.ReadFault i) = Rose faults faults_now × IsRead r × ReadsUpTo told purpose.Query 0 0 r.tables i
 RequestCause r told faults faults_now absences absences_now (outcome.Table i fault) = (fault ≢ table.NoMemory) × IsFirst told r (outcome.Table i fault)
-RequestCause r told faults faults_now absences absences_now outcome.Overflow = IsRead r × ToldGive told r (λ ts s. numbers_fit r ts s ≡ false)
+RequestCause r told faults faults_now absences absences_now outcome.Overflow = IsRead r × Gives told r (λ ts s. numbers_fit r ts s ≡ false)
 RequestCause r told faults faults_now absences absences_now _ = ⊥
 
 -- ---- a demonstration
@@ -115,18 +115,18 @@ DemoText ts s = demo_text (answer_rows false ts s)
 
 -- ---- encoded rows
 
--- the table of told files that is encoded, and this holds of it
-abbrev pub ToldEncode : Option (List File) → Text → (BlockTable → Type 0) → Type 0
-ToldEncode told path P = IfSome told (λ files. (t : BlockTable) × (file_table purpose.Encode 0 0 (bytes_at files path) ≡ Ok t) × P t)
+-- what is found at a path gives the table that is encoded, and this holds of it
+abbrev pub GivesTable : Option (List File) → Text → (BlockTable → Type 0) → Type 0
+GivesTable told path P = FileFound told path (λ found. (t : BlockTable) × (file_table purpose.Encode 0 0 found ≡ Ok t) × P t)
 
 -- ---- the words
 
 -- a text is what the words ask for
 abbrev pub IsAskedText : Result Asked UsageFault → Option (List File) → List ℕ → Type 0
 IsAskedText (Err fault) told text = ⊥
-IsAskedText (Ok (words.query r)) told text = IsRead r × ToldGive told r (IsAnswer r text)
+IsAskedText (Ok (words.query r)) told text = IsRead r × Gives told r (IsAnswer r text)
 IsAskedText (Ok (words.demo start blocks workers)) told text = Demonstrates start blocks (λ ts s. text ≡ DemoText ts s)
-IsAskedText (Ok (words.encode word)) told text = ToldEncode told word.1 (λ t. text ≡ encoded_text t)
+IsAskedText (Ok (words.encode word)) told text = GivesTable told word.1 (λ t. text ≡ encoded_text t)
 IsAskedText (Ok (words.plain path tables)) told text =
     (length tables ≤ greatest_files) × PlanGives told path tables (λ ts p. text ≡ plain_text ts p)
 

@@ -1,6 +1,7 @@
--- The tables of told files, in the order of their words: each file within its own size, all of them within theirs, and each
--- table within the limits of what it is read for. Files are numbered from 0.
-use Rattle.std.specs.Prelude.{ℕ, ◌+◌, List, [], ◌∷◌, length, Option, Some, None, Result, Ok, Err, if◌then◌else◌, nat_le, nat_lt}
+-- What files hold, and their tables, in the order of their words: each file within its own size, all of them within theirs,
+-- and each table within the limits of what it is read for. Files are numbered from 0.
+use Rattle.std.specs.Prelude.{ℕ, ◌≡◌, ◌+◌, List, [], ◌∷◌, length, map, Option, Some, None, IfSome, Result, Ok, Err, if◌then◌else◌, nat_le, nat_lt}
+use Rattle.std.specs.List.{AllZip}
 use Rattle.au_value.specs.Texts.{Text}
 use Rattle.au_blocks.specs.declared.faults.TableFault.{TableFault}
 use Rattle.au_blocks.specs.Tables.{BlockTable}
@@ -14,6 +15,33 @@ use Rattle.au_cli.specs.declared.files.Purpose.{Purpose}
 use Rattle.au_cli.specs.declared.files.Purpose.TheVariants as purpose
 use Rattle.au_cli.specs.declared.outcome.Outcome.{Outcome}
 use Rattle.au_cli.specs.declared.outcome.Outcome.TheVariants as outcome
+
+-- ---- what is found
+
+-- a name, and the bytes that the file of its word holds, if it is there
+abbrev pub Found : Type 0
+Found = Text × Option (List ℕ)
+
+-- what told files hold for words, each a name and a path
+abbrev pub held_by : List File → Text × Text → Found
+held_by files word = (word.0, bytes_at files word.1)
+
+abbrev pub found_in : List File → List (Text × Text) → List Found
+found_in files words = map (held_by files) words
+
+-- What is found at a path may be anything, but where a shelf tells its files it is what they hold.
+abbrev pub IsFoundAt : Option (List File) → Text → Option (List ℕ) → Type 0
+IsFoundAt told path found = IfSome told (λ files. bytes_at files path ≡ found)
+
+abbrev pub IsFound : Option (List File) → Text × Text → Found → Type 0
+IsFound told word found = (found.0 ≡ word.0) × IsFoundAt told word.1 found.1
+
+-- this holds of what is found at a path, and of what is found for words, one by one
+abbrev pub FileFound : Option (List File) → Text → (Option (List ℕ) → Type 0) → Type 0
+FileFound told path Holds = (found : Option (List ℕ)) × IsFoundAt told path found × Holds found
+
+abbrev pub FilesFound : Option (List File) → List (Text × Text) → (List Found → Type 0) → Type 0
+FilesFound told words Holds = (found : List Found) × AllZip (IsFound told) words found × Holds found
 
 -- ---- the bytes of a file
 
@@ -34,7 +62,7 @@ sized_bytes file before bytes =
     else if nat_lt greatest_total (before + length bytes) then Err (outcome.Limit (limit.AllFiles file))
     else Ok bytes
 
--- the bytes of a file behind so many bytes of the files before it, or its first refusal
+-- the bytes found of a file behind so many bytes of the files before it, or its first refusal
 abbrev pub file_bytes : ℕ → ℕ → Option (List ℕ) → Result (List ℕ) Outcome
 file_bytes file before None = Err (outcome.NoFile file)
 file_bytes file before (Some bytes) = sized_bytes file before bytes
@@ -80,13 +108,12 @@ and_more name (Err refusal) others = Err refusal
 and_more name (Ok t) (Err refusal) = Err refusal
 and_more name (Ok t) (Ok others) = Ok ((name, t) ∷ others)
 
--- the tables of words, each a name and a path, from this file on, or the first refusal of a file
-abbrev pub tables_from : Purpose → List File → ℕ → ℕ → List (Text × Text) → Result (List Named) Outcome
-tables_from aim files file before [] = Ok []
-tables_from aim files file before (word ∷ words) =
-    and_more word.0 (file_table aim file before (bytes_at files word.1))
-    (tables_from aim files (file + 1) (before + size_of (bytes_at files word.1)) words)
+-- the tables of what is found for words, from this file on and behind so many bytes, or the first refusal of a file
+abbrev pub tables_from : Purpose → ℕ → ℕ → List Found → Result (List Named) Outcome
+tables_from aim file before [] = Ok []
+tables_from aim file before (one ∷ found) =
+    and_more one.0 (file_table aim file before one.1) (tables_from aim (file + 1) (before + size_of one.1) found)
 
 -- the tables that a query is asked over
-abbrev pub tables_of : List File → List (Text × Text) → Result (List Named) Outcome
-tables_of files words = tables_from purpose.Query files 0 0 words
+abbrev pub tables_of : List Found → Result (List Named) Outcome
+tables_of found = tables_from purpose.Query 0 0 found

@@ -11,7 +11,7 @@ use Rattle.au_words.specs.Words as words
 use Rattle.au_words.specs.declared.words.Command.TheVariants.{Rewrite}
 use Rattle.au_cli.specs.Causes.{IsAskedText}
 use Rattle.au_value.specs.Texts.{Text}
-use Rattle.au_cli.specs.Files.{greatest_size, greatest_total, size_of}
+use Rattle.au_cli.specs.Files.{found_in, greatest_size, greatest_total, size_of}
 use Rattle.au_cli.specs.Requests.{given_of}
 use Rattle.au_cli.specs.Run.{CanAnswer}
 
@@ -32,7 +32,7 @@ AreWithin files before (word ∷ words) =
 -- sizes are within the limits.
 pub record AreOutputs (files outputs : List File) (r : Request) (path : Text) (others : List (Text × Text)) (ts : List Named) (s : QueryTree) : Type 0 where
   pub command : r.command ≡ Rewrite
-  pub given : given_of r files ≡ Ok (ts, s)
+  pub given : given_of r (found_in files r.tables) ≡ Ok (ts, s)
   pub fits : answer_fits false ts s ≡ true
   pub encoded : AllZip (IsEncodedFile files outputs) r.tables others
   pub line : Text

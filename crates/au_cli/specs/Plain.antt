@@ -3,7 +3,6 @@
 use Rattle.std.specs.Prelude.{ℕ, ◌==◌, ◌&&◌, Bool, List, [], ◌∷◌, length, Option, Some, None, option_map, Result, Ok, Err, if◌then◌else◌, bytes_eq}
 use Rattle.std.specs.Str.{is_utf8}
 use Rattle.au_value.specs.declared.kinds.Kind.{Kind}
-use Rattle.au_io.specs.Files.{File, bytes_at}
 use Rattle.au_plain.specs.Plans.{PlanTree}
 use Rattle.au_sqltext.specs.Brackets.{is_deep}
 use Rattle.au_sqltext.specs.Fitting.{written_numbers_fit, widths_fit}
@@ -16,7 +15,7 @@ use Rattle.au_cli.specs.declared.files.Purpose.TheVariants as purpose
 use Rattle.au_cli.specs.declared.outcome.Outcome.{Outcome}
 use Rattle.au_cli.specs.declared.outcome.Outcome.TheVariants as outcome
 use Rattle.au_value.specs.Texts.{Text}
-use Rattle.au_cli.specs.Files.{file_bytes, size_of, tables_from}
+use Rattle.au_cli.specs.Files.{Found, file_bytes, size_of, tables_from}
 
 -- ---- the plan of a file
 
@@ -73,10 +72,10 @@ abbrev pub plan_over : PlanTree → Result (List Named) Outcome → Result PlanG
 plan_over p (Err refusal) = Err refusal
 plan_over p (Ok ts) = typed_plan ts p (plain_kinds ts p)
 
-abbrev pub and_tables : List File → ℕ → List (Text × Text) → Result PlanTree Outcome → Result PlanGiven Outcome
-and_tables files before words (Err refusal) = Err refusal
-and_tables files before words (Ok p) = plan_over p (tables_from purpose.Plan files 1 before words)
+abbrev pub and_tables : ℕ → List Found → Result PlanTree Outcome → Result PlanGiven Outcome
+and_tables before found (Err refusal) = Err refusal
+and_tables before found (Ok p) = plan_over p (tables_from purpose.Plan 1 before found)
 
--- what told files give to a plan's path and table words, each a name and a path, or their first refusal
-abbrev pub plan_given : Text → List (Text × Text) → List File → Result PlanGiven Outcome
-plan_given path words files = and_tables files (size_of (bytes_at files path)) words (file_plan (bytes_at files path))
+-- what is given by what is found at a plan's path and for table words, or the first refusal
+abbrev pub plan_given : Option (List ℕ) → List Found → Result PlanGiven Outcome
+plan_given plan found = and_tables (size_of plan) found (file_plan plan)

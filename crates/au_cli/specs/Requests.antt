@@ -1,7 +1,6 @@
--- What a request is given by told files, what it is refused by, and what is printed for it.
+-- What a request is given by what is found for its words, what it is refused by, and what is printed for it.
 use Rattle.std.specs.Prelude.{ℕ, ◌≡◌, ◌&&◌, Bool, true, List, [], ◌∷◌, length, Option, Some, None, option_map, Result, Ok, Err, if◌then◌else◌, nat_lt, ⊤}
 use Rattle.std.specs.Option.{option_or}
-use Rattle.au_io.specs.Files.{File}
 use Rattle.au_parse.specs.Tree.{QueryTree}
 use Rattle.au_typing.specs.declared.fault.TypingFault.{TypingFault}
 use Rattle.au_value.specs.declared.kinds.Kind.{Kind}
@@ -28,7 +27,7 @@ use Rattle.au_words.specs.declared.words.Command.TheVariants.{Answer, Direct, Gu
 use Rattle.au_cli.specs.declared.outcome.Outcome.{Outcome}
 use Rattle.au_cli.specs.declared.outcome.Outcome.TheVariants as outcome
 use Rattle.au_value.specs.Texts.{Text}
-use Rattle.au_cli.specs.Files.{greatest_files, tables_of}
+use Rattle.au_cli.specs.Files.{Found, greatest_files, tables_of}
 
 -- ---- refusals
 
@@ -88,17 +87,17 @@ abbrev pub tables_given : QueryTree → Result (List Named) Outcome → Result G
 tables_given s (Err refusal) = Err (Refusal.exactly refusal)
 tables_given s (Ok ts) = typed_given ts s (statement_defects ts s)
 
-abbrev pub statement_given : Request → List File → Option QueryTree → Result Given Refusal
-statement_given r files None = Err (Refusal.no_statement r.query)
-statement_given r files (Some s) = tables_given s (tables_of files r.tables)
+abbrev pub statement_given : Request → List Found → Option QueryTree → Result Given Refusal
+statement_given r found None = Err (Refusal.no_statement r.query)
+statement_given r found (Some s) = tables_given s (tables_of found)
 
-abbrev pub unless_refused : Request → List File → Option Refusal → Result Given Refusal
-unless_refused r files (Some refusal) = Err refusal
-unless_refused r files None = statement_given r files (statement_of r.query)
+abbrev pub unless_refused : Request → List Found → Option Refusal → Result Given Refusal
+unless_refused r found (Some refusal) = Err refusal
+unless_refused r found None = statement_given r found (statement_of r.query)
 
--- what told files give to a request, or its first refusal
-abbrev pub given_of : Request → List File → Result Given Refusal
-given_of r files = unless_refused r files (refused_request r)
+-- what is given to a request by what is found for its words, or its first refusal
+abbrev pub given_of : Request → List Found → Result Given Refusal
+given_of r found = unless_refused r found (refused_request r)
 
 -- ---- what is printed
 

@@ -1,7 +1,7 @@
 //! The encoded rows of a table in a file.
 ghost use Rattle.std.specs.Prelude.{◌≡◌, ◌≤◌, IfOk, IfErr};
 ghost use Rattle.au_engine.specs.Exchange.{encoded_text as encoded_text_of};
-ghost use Rattle.au_cli.specs.Causes.{ToldEncode};
+ghost use Rattle.au_cli.specs.Causes.{GivesTable};
 ghost use Rattle.au_cli.specs.FileCauses.{FileCause};
 ghost use Rattle.au_cli.specs.declared.files.Purpose.TheVariants as purpose;
 
@@ -21,7 +21,7 @@ pub(crate) fn file_text<R: Threads + Sync, S: Shelf>(
     shelf: &mut S,
     word: &TableWord<'_>,
 ) -> Result<Vec<u8>, Outcome>
-    ensures text { IfOk result (λ text. ToldEncode (S.files shelf.old) word.now.path.now (λ t. text.items ≡ encoded_text_of t)) }
+    ensures text { IfOk result (λ text. GivesTable (S.files shelf.old) word.now.path.now (λ t. text.items ≡ encoded_text_of t)) }
     ensures refused { IfErr result (FileCause (S.files shelf.old) purpose.Encode word.now.path.now 0 0 (S.faults shelf.old) (S.faults shelf.new) (S.absences shelf.old) (S.absences shelf.new)) }
     ensures files { S.files shelf.new ≡ S.files shelf.old }
     ensures counts { (S.faults shelf.old ≤ S.faults shelf.new) × (S.absences shelf.old ≤ S.absences shelf.new) }

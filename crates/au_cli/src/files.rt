@@ -1,10 +1,9 @@
 //! The tables of the files that the words name.
-ghost use Rattle.std.specs.Prelude.{◌≡◌, ◌+◌, ◌≤◌, ℕ, map, Ok, Some, IfOk, IfErr, IfSome, vec_len};
+ghost use Rattle.std.specs.Prelude.{◌≡◌, ◌+◌, ◌≤◌, ℕ, map, Ok, Some, IfOk, IfErr, vec_len};
 ghost use Rattle.au_blocks.specs.Read.{table_of};
-ghost use Rattle.au_io.specs.Files.{bytes_at};
 ghost use Rattle.au_words.specs.CommandLine.{seen_table};
 ghost use Rattle.au_cli.specs.FileCauses.{BytesCause, FileCause, FilesCause, ReadCause};
-ghost use Rattle.au_cli.specs.Files.{file_bytes as file_bytes_of, file_table as file_table_of, greatest_size, greatest_total, passed_limit as passed_limit_of, size_of, table_or_defect, tables_from};
+ghost use Rattle.au_cli.specs.Files.{FileFound, FilesFound, IsFoundAt, file_bytes as file_bytes_of, file_table as file_table_of, greatest_size, greatest_total, passed_limit as passed_limit_of, size_of, table_or_defect, tables_from};
 
 use crate::outcome::Outcome;
 use crate::reading::{ReadingFault, read_file};
@@ -59,7 +58,7 @@ pub(crate) fn read_tables<R: Threads + Sync, S: Shelf>(
 ) -> Result<Vec<(Word, Table)>, Outcome>
     requires first { first ≤ 1 }
     requires small { before ≤ greatest_total }
-    ensures tables { IfOk result (λ v. IfSome (S.files shelf.old) (λ files. tables_from purpose files first before (map seen_table words.now) ≡ Ok v.items)) }
+    ensures tables { IfOk result (λ v. FilesFound (S.files shelf.old) (map seen_table words.now) (λ found. tables_from purpose first before found ≡ Ok v.items)) }
     ensures refused { IfErr result (FilesCause (S.files shelf.old) purpose first before (map seen_table words.now) (S.faults shelf.old) (S.faults shelf.new) (S.absences shelf.old) (S.absences shelf.new)) }
     ensures files { S.files shelf.new ≡ S.files shelf.old }
     ensures counts { (S.faults shelf.old ≤ S.faults shelf.new) × (S.absences shelf.old ≤ S.absences shelf.new) }
@@ -94,8 +93,7 @@ pub(crate) fn file_table<R: Threads + Sync, S: Shelf>(
 ) -> Result<FileTable, Outcome>
     requires { before ≤ greatest_total }
     ensures name { IfOk result (λ f. f.table.0 ≡ word.now.name.now) }
-    ensures table { IfOk result (λ f. IfSome (S.files shelf.old) (λ files. file_table_of purpose file before (bytes_at files word.now.path.now) ≡ Ok f.table.1)) }
-    ensures size { IfOk result (λ f. IfSome (S.files shelf.old) (λ files. size_of (bytes_at files word.now.path.now) ≡ f.size)) }
+    ensures table { IfOk result (λ f. FileFound (S.files shelf.old) word.now.path.now (λ found. (file_table_of purpose file before found ≡ Ok f.table.1) × (size_of found ≡ f.size))) }
     ensures small { IfOk result (λ f. before + f.size ≤ greatest_total) }
     ensures refused { IfErr result (FileCause (S.files shelf.old) purpose word.now.path.now file before (S.faults shelf.old) (S.faults shelf.new) (S.absences shelf.old) (S.absences shelf.new)) }
     ensures files { S.files shelf.new ≡ S.files shelf.old }
@@ -131,8 +129,8 @@ pub(crate) fn file_bytes<S: Shelf>(
     path: &str,
 ) -> Result<Vec<u8>, Outcome>
     requires { before ≤ greatest_total }
-    ensures read { IfOk result (λ bytes. IfSome (S.files shelf.old) (λ files. bytes_at files path.now ≡ Some bytes.items)) }
-    ensures bytes { IfOk result (λ bytes. IfSome (S.files shelf.old) (λ files. file_bytes_of file before (bytes_at files path.now) ≡ Ok bytes.items)) }
+    ensures read { IfOk result (λ bytes. IsFoundAt (S.files shelf.old) path.now (Some bytes.items)) }
+    ensures bytes { IfOk result (λ bytes. file_bytes_of file before (Some bytes.items) ≡ Ok bytes.items) }
     ensures small { IfOk result (λ bytes. before + vec_len bytes ≤ greatest_total) }
     ensures refused { IfErr result (ReadCause (S.files shelf.old) path.now file before (S.faults shelf.old) (S.faults shelf.new) (S.absences shelf.old) (S.absences shelf.new)) }
     ensures files { S.files shelf.new ≡ S.files shelf.old }
@@ -156,7 +154,7 @@ fn whole_file<S: Shelf>(
     path: &str,
 ) -> Result<Vec<u8>, Outcome>
     ensures size { IfOk result (λ bytes. vec_len bytes ≤ greatest_size) }
-    ensures read { IfOk result (λ bytes. IfSome (S.files shelf.old) (λ files. bytes_at files path.now ≡ Some bytes.items)) }
+    ensures read { IfOk result (λ bytes. IsFoundAt (S.files shelf.old) path.now (Some bytes.items)) }
     ensures refused { IfErr result (λ o. (before : ℕ) → ReadCause (S.files shelf.old) path.now file before (S.faults shelf.old) (S.faults shelf.new) (S.absences shelf.old) (S.absences shelf.new) o) }
     ensures files { S.files shelf.new ≡ S.files shelf.old }
     ensures counts { (S.faults shelf.old ≤ S.faults shelf.new) × (S.absences shelf.old ≤ S.absences shelf.new) }

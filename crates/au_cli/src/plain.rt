@@ -1,10 +1,9 @@
 //! A plan in a file, run over the guess rows of tables.
-ghost use Rattle.std.specs.Prelude.{◌≡◌, ◌≤◌, Ok, IfOk, IfErr, IfSome, map, length, option_map};
-ghost use Rattle.au_io.specs.Files.{bytes_at};
+ghost use Rattle.std.specs.Prelude.{◌≡◌, ◌≤◌, Ok, IfOk, IfErr, map, length, option_map};
 ghost use Rattle.au_plain.specs.Plans.{plan_tree};
 ghost use Rattle.au_engine.specs.Exchange.{plain_text as plain_text_of};
 ghost use Rattle.au_words.specs.CommandLine.{seen_table};
-ghost use Rattle.au_cli.specs.Files.{greatest_files, greatest_total, size_of};
+ghost use Rattle.au_cli.specs.Files.{FileFound, greatest_files, greatest_total, size_of};
 ghost use Rattle.au_cli.specs.Plain.{file_plan as file_plan_of, line_of as line_of_bytes, line_plan};
 ghost use Rattle.au_cli.specs.PlanCauses.{LineCause, OverCause, OverGives, PlanCause, PlanFileCause, PlanGives, ended_plain, ended_text as ended_text_of};
 
@@ -93,8 +92,7 @@ fn ended(fault: PlainFault) -> Outcome
 
 // The plan of the file at a path.
 fn file_plan<S: Shelf>(alloc: Global, shelf: &mut S, path: &str) -> Result<FilePlan, Outcome>
-    ensures plan { IfOk result (λ f. IfSome (S.files shelf.old) (λ files. file_plan_of (bytes_at files path.now) ≡ Ok (plan_tree f.plan))) }
-    ensures size { IfOk result (λ f. IfSome (S.files shelf.old) (λ files. size_of (bytes_at files path.now) ≡ f.size)) }
+    ensures plan { IfOk result (λ f. FileFound (S.files shelf.old) path.now (λ found. (file_plan_of found ≡ Ok (plan_tree f.plan)) × (size_of found ≡ f.size))) }
     ensures small { IfOk result (λ f. f.size ≤ greatest_total) }
     ensures refused { IfErr result (PlanFileCause (S.files shelf.old) path.now (S.faults shelf.old) (S.faults shelf.new) (S.absences shelf.old) (S.absences shelf.new)) }
     ensures files { S.files shelf.new ≡ S.files shelf.old }

@@ -1,12 +1,12 @@
 //! The text of what a request asks for, over a shelf.
-ghost use Rattle.std.specs.Prelude.{◌≡◌, ◌≤◌, None, Some, map, Ok, IfOk, IfErr, IfSome};
+ghost use Rattle.std.specs.Prelude.{◌≡◌, ◌≤◌, None, Some, map, Ok, IfOk, IfErr};
 ghost use Rattle.au_parse.specs.Views.{statement_tree};
 ghost use Rattle.au_parse.specs.Whole.{WholeQuery};
 ghost use Rattle.au_engine.specs.Compressing.{IsCompression};
 ghost use Rattle.au_engine.specs.Reading.{TextCause, refused_text, statement_of};
 ghost use Rattle.au_words.specs.CommandLine.{seen_request};
 ghost use Rattle.au_words.specs.Words.{greatest_workers};
-ghost use Rattle.au_cli.specs.Causes.{ToldGive, IsRead, IsRefusedBefore, RequestCause, StatementCause};
+ghost use Rattle.au_cli.specs.Causes.{Gives, IsRead, IsRefusedBefore, RequestCause, StatementCause};
 ghost use Rattle.au_cli.specs.Requests.{IsAnswer, ended as ended_of, refused_place as refused_place_of, refused_request};
 
 use crate::answering::answer_text;
@@ -32,7 +32,7 @@ pub(crate) fn request_text<R: Threads + Sync, S: Shelf, G: Gate + Sync>(
 ) -> Result<Vec<u8>, Outcome>
     requires workers { (1 ≤ request.now.workers) × (request.now.workers ≤ greatest_workers) }
     requires compression { IsCompression request.now.compress }
-    ensures text { IfOk result (λ t. IsRead (seen_request request.now) × ToldGive (S.files shelf.old) (seen_request request.now) (IsAnswer (seen_request request.now) t.items)) }
+    ensures text { IfOk result (λ t. IsRead (seen_request request.now) × Gives (S.files shelf.old) (seen_request request.now) (IsAnswer (seen_request request.now) t.items)) }
     ensures refused { IfErr result (RequestCause (seen_request request.now) (S.files shelf.old) (S.faults shelf.old) (S.faults shelf.new) (S.absences shelf.old) (S.absences shelf.new)) }
     ensures files { S.files shelf.new ≡ S.files shelf.old }
     ensures counts { (S.faults shelf.old ≤ S.faults shelf.new) × (S.absences shelf.old ≤ S.absences shelf.new) }
@@ -89,7 +89,7 @@ fn statement_text<R: Threads + Sync, S: Shelf, G: Gate + Sync>(
     requires allowed { refused_request (seen_request request.now) ≡ None }
     requires tree { statement_of request.now.query.now ≡ Some (statement_tree statement.now) }
     requires taken { refused_place_of request.now.command (statement_tree statement.now) ≡ None }
-    ensures text { IfOk result (λ t. IsRead (seen_request request.now) × ToldGive (S.files shelf.old) (seen_request request.now) (IsAnswer (seen_request request.now) t.items)) }
+    ensures text { IfOk result (λ t. IsRead (seen_request request.now) × Gives (S.files shelf.old) (seen_request request.now) (IsAnswer (seen_request request.now) t.items)) }
     ensures refused { IfErr result (RequestCause (seen_request request.now) (S.files shelf.old) (S.faults shelf.old) (S.faults shelf.new) (S.absences shelf.old) (S.absences shelf.new)) }
     ensures files { S.files shelf.new ≡ S.files shelf.old }
     ensures counts { (S.faults shelf.old ≤ S.faults shelf.new) × (S.absences shelf.old ≤ S.absences shelf.new) }

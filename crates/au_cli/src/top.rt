@@ -1,5 +1,5 @@
 //! All that the program does.
-ghost use Rattle.std.specs.Prelude.{◌≡◌, ◌≢◌, ◌⊎◌, ◌<◌, ◌≤◌, ℕ, List, [], Some, None, IfOk, IfErr, Ok, Err};
+ghost use Rattle.std.specs.Prelude.{◌≡◌, ◌≢◌, ◌⊎◌, ◌<◌, ◌≤◌, ℕ, List, [], Some, None, IfOk, IfErr, IfSome, Ok, Err};
 ghost use Rattle.std.specs.Io.KnownBytes.{Appends};
 ghost use Rattle.au_io.specs.Counts.{Rose};
 ghost use Rattle.au_io.specs.Files.{AppendsFront, File};
@@ -9,7 +9,7 @@ ghost use Rattle.au_cli.specs.Lines.{fault_text};
 ghost use Rattle.au_engine.specs.declared.faults.QueryFault.TheVariants.{NotPositive};
 ghost use Rattle.au_cli.specs.Causes.{AskedCause, AskedNotPositive, DemoCause, Ends, IsAskedText, LinePut, PrintsAsked, PrintsAskedFront, TextPut, DemoText, fault_counts};
 ghost use Rattle.au_cli.specs.Requests.{IsRefusal, Refusal};
-ghost use Rattle.au_cli.specs.Run.{CanAnswer, Yields, first_refusal, refused_before};
+ghost use Rattle.au_cli.specs.Run.{CanAnswer, Yields, file_count, first_refusal, named_file, refused_before};
 ghost use Rattle.au_cli.specs.Demo.{Demonstrates};
 
 use crate::demo::demonstration;
@@ -48,9 +48,10 @@ pub fn run<R: Threads + Sync, S: Shelf, O: Sink, E: Sink, G: Gate + Sync>(
     // Only `ua` refuses a statement that is not positive, and only as the first refusal.
     ensures not_positive { (at : ℕ) → result ≡ Outcome.Query (NotPositive at) → AskedNotPositive (asked_of words.now) at }
 
-    // Each refusal has its cause.
+    // Each refusal has its cause. The file that it names is one of the words'.
     ensures cause { result ≢ Outcome.Done → result ≢ Outcome.WriteFault → AskedCause (asked_of words.now) (S.files shelf.old) (S.faults shelf.old) (S.faults shelf.new) (S.absences shelf.old) (S.absences shelf.new) result }
     ensures no_file { (i : ℕ) → result ≡ Outcome.NoFile i → Rose (S.absences shelf.old) (S.absences shelf.new) }
+    ensures file { IfSome (named_file result) (λ i. i < file_count (asked_of words.now)) }
     ensures read_fault { (i : ℕ) → result ≡ Outcome.ReadFault i → Rose (S.faults shelf.old) (S.faults shelf.new) }
 
     // The answer, put by one call once its whole text is there. What is printed holds in every possible world.

@@ -5,7 +5,7 @@
 ghost use Rattle.std.specs.Prelude.{◌≡◌, ◌≤◌, ◌∷◌, [], Ok, IfErr, IfOk, IfSome, map};
 ghost use Rattle.au_words.specs.CommandLine.{seen_table};
 ghost use Rattle.au_cli.specs.FileCauses.{FilesCause};
-ghost use Rattle.au_cli.specs.Files.{tables_from};
+ghost use Rattle.au_cli.specs.Files.{FilesFound, tables_from};
 ghost use Rattle.au_cli.specs.TwoFiles.{BothTables, NamesRead, NamesTable};
 ghost use denote.Param.Send.{IsSync};
 
@@ -27,7 +27,7 @@ pub(crate) fn query_tables<R: Threads + Sync, S: Shelf>(
     workers: usize,
     words: &[TableWord<'_>],
 ) -> Result<Vec<(Word, Table)>, Outcome>
-    ensures tables { IfOk result (λ v. IfSome (S.files shelf.old) (λ files. tables_from Purpose.Query files 0 0 (map seen_table words.now) ≡ Ok v.items)) }
+    ensures tables { IfOk result (λ v. FilesFound (S.files shelf.old) (map seen_table words.now) (λ found. tables_from Purpose.Query 0 0 found ≡ Ok v.items)) }
     ensures refused { IfErr result (FilesCause (S.files shelf.old) Purpose.Query 0 0 (map seen_table words.now) (S.faults shelf.old) (S.faults shelf.new) (S.absences shelf.old) (S.absences shelf.new)) }
     ensures files { S.files shelf.new ≡ S.files shelf.old }
     ensures counts { (S.faults shelf.old ≤ S.faults shelf.new) × (S.absences shelf.old ≤ S.absences shelf.new) }
@@ -63,7 +63,7 @@ fn two_tables<R: Threads + Sync, S: Shelf>(
     first: &TableWord<'_>,
     second: &TableWord<'_>,
 ) -> Result<Vec<(Word, Table)>, Outcome>
-    ensures tables { IfOk result (λ v. IfSome (S.files shelf.old) (λ files. tables_from Purpose.Query files 0 0 (seen_table first.now ∷ seen_table second.now ∷ []) ≡ Ok v.items)) }
+    ensures tables { IfOk result (λ v. FilesFound (S.files shelf.old) (seen_table first.now ∷ seen_table second.now ∷ []) (λ found. tables_from Purpose.Query 0 0 found ≡ Ok v.items)) }
     ensures refused { IfErr result (FilesCause (S.files shelf.old) Purpose.Query 0 0 (seen_table first.now ∷ seen_table second.now ∷ []) (S.faults shelf.old) (S.faults shelf.new) (S.absences shelf.old) (S.absences shelf.new)) }
     ensures files { S.files shelf.new ≡ S.files shelf.old }
     ensures counts { (S.faults shelf.old ≤ S.faults shelf.new) × (S.absences shelf.old ≤ S.absences shelf.new) }

@@ -19,7 +19,7 @@ returns-in-Ok-over_tables-clause-text g c =
     let few : length (map seen_table c.args.words.now) ≤ greatest_files = search (rules, arith, length-map) in (
       few,
       plan_gives (λ ts p. c.in-Ok-over_tables.text.items ≡ plain_text ts p) (g.S.Shelf.files c.args.shelf.now) c.args.path.now (map seen_table c.args.words.now) c.in-Ok.file.size (plan_tree c.in-Ok.file.plan)
-          c.in-Ok.ensures.plan c.in-Ok.ensures.size
+          c.in-Ok.ensures.plan
           (subst (λ told. OverGives told c.in-Ok.file.size (map seen_table c.args.words.now) (plan_tree c.in-Ok.file.plan) (λ ts p. c.in-Ok-over_tables.text.items ≡ plain_text ts p)) c.in-Ok.ensures.files c.in-Ok-over_tables.ensures.text),
     )
 
@@ -27,6 +27,6 @@ pub returns-in-Err-over_tables-clause-refused : goal.returns-in-Err-over_tables-
 returns-in-Err-over_tables-clause-refused g c =
     let few : length (map seen_table c.args.words.now) ≤ greatest_files = search (rules, arith, length-map) in
     over_cause c.args.path.now (map seen_table c.args.words.now) (g.S.Shelf.files c.args.shelf.now) _ _ _ _ _ _ c.in-Ok.file.size (plan_tree c.in-Ok.file.plan) c.in-Err-over_tables.outcome few
-    c.in-Ok.ensures.counts.0 c.in-Ok.ensures.counts.1 c.in-Ok.ensures.plan c.in-Ok.ensures.size
+    c.in-Ok.ensures.counts.0 c.in-Ok.ensures.counts.1 c.in-Ok.ensures.plan
     (subst (λ told. OverCause told c.in-Ok.file.size (map seen_table c.args.words.now) (plan_tree c.in-Ok.file.plan) (g.S.Shelf.faults c.file_plan.new.shelf) (g.S.Shelf.faults c.over_tables.new.shelf) (g.S.Shelf.absences c.file_plan.new.shelf) (g.S.Shelf.absences c.over_tables.new.shelf) c.in-Err-over_tables.outcome)
     c.in-Ok.ensures.files c.in-Err-over_tables.ensures.refused)

@@ -3,6 +3,7 @@ use Rattle.std.proofs.Common.{subst}
 use Rattle.au_words.specs.Words.{asked_of}
 use Rattle.au_cli.specs.Causes.{Ends, fault_counts}
 use Rattle.au_cli.proofs.Endings.{early_comes, is_complete, no_file_rose, not_positive_cause, read_fault_rose, refusal_comes, usage_comes_first}
+use Rattle.au_cli.proofs.FileNumbers.{ends_below}
 use Rattle.au_cli.proofs.top.run.Goals as goal
 
 pub returns-clause-usage : goal.returns-clause-usage
@@ -16,6 +17,9 @@ returns-clause-query g c refusal first =
 pub returns-clause-not_positive : goal.returns-clause-not_positive
 returns-clause-not_positive g c at is =
     not_positive_cause (asked_of c.args.words.now) _ (fault_counts _ _ _ _ _ _) _ _ c.answer-outcome.result at c.answer-outcome.ensures.ends is
+
+pub returns-clause-file : goal.returns-clause-file
+returns-clause-file g c = ends_below (asked_of c.args.words.now) _ (fault_counts _ _ _ _ _ _) _ _ c.answer-outcome.result c.answer-outcome.ensures.ends
 
 pub returns-clause-no_file : goal.returns-clause-no_file
 returns-clause-no_file g c i is =

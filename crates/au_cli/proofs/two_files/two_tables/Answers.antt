@@ -1,10 +1,10 @@
 -- Both files are read, and each is made a table or refused.
-use Rattle.std.proofs.Common.{◌≡◌, ℕ, Option, List, IfSome, Some, Ok, arith, length, subst, sym}
+use Rattle.std.proofs.Common.{◌≡◌, ℕ, Option, List, Some, Ok, arith, length, subst, sym}
 use Rattle.std.specs.Prelude.{IfErr, IfOk}
-use Rattle.au_io.specs.Files.{File, bytes_at}
+use Rattle.au_io.specs.Files.{File}
 use Rattle.au_words.specs.CommandLine.{seen_table}
 use Rattle.au_cli.specs.declared.files.Purpose.TheVariants as purpose
-use Rattle.au_cli.specs.Files.{file_bytes}
+use Rattle.au_cli.specs.Files.{IsFoundAt, file_bytes}
 use Rattle.au_cli.specs.FileCauses.{ReadCause}
 use Rattle.au_cli.specs.TwoFiles.{NamesTable}
 use Rattle.au_cli.proofs.FileTables.{read_cause}
@@ -30,9 +30,8 @@ returns-clause-tables g c =
     let same = c.file_bytes.ensures.files in
     let n : c.len.result ≡ length c.in-Ok.bytes.items = first_of (omega (arith, c.len.ensures, c.in-Ok.bytes.ok), grind (arith, c.len.ensures)) in
     two_made told u w c.in-Ok.bytes.items c.in-Ok.ensures.read c.in-Ok.ensures.bytes f1 fn a1 an more c.parsed-one.result.0 c.parsed-one.result.1
-    (subst (λ (t : Option (List File)). IfOk more (λ b. IfSome t (λ files. bytes_at files w.1 ≡ Some b.items))) same c.file_bytes-more.ensures.read)
-    (subst (λ (m : ℕ). IfOk more (λ b. IfSome told (λ files. file_bytes 1 m (bytes_at files w.1) ≡ Ok b.items))) n
-    (subst (λ (t : Option (List File)). IfOk more (λ b. IfSome t (λ files. file_bytes 1 c.len.result (bytes_at files w.1) ≡ Ok b.items))) same c.file_bytes-more.ensures.bytes))
+    (subst (λ (t : Option (List File)). IfOk more (λ b. IsFoundAt t w.1 (Some b.items))) same c.file_bytes-more.ensures.read)
+    (subst (λ (m : ℕ). IfOk more (λ b. file_bytes 1 m (Some b.items) ≡ Ok b.items)) n c.file_bytes-more.ensures.bytes)
     (subst (λ (m : ℕ). IfErr more (ReadCause told w.1 1 m f1 fn a1 an)) n
     (subst (λ (t : Option (List File)). IfErr more (ReadCause t w.1 1 c.len.result f1 fn a1 an)) same c.file_bytes-more.ensures.refused))
     (subst (λ (bs : List ℕ). NamesTable purpose.Query 0 u.0 bs c.parsed-one.result.0) c.as_slice.ensures.value c.parsed-one.ensures.one)
@@ -52,9 +51,8 @@ returns-clause-refused g c =
     let same = c.file_bytes.ensures.files in
     let n : c.len.result ≡ length c.in-Ok.bytes.items = first_of (omega (arith, c.len.ensures, c.in-Ok.bytes.ok), grind (arith, c.len.ensures)) in
     two_refused told u w c.in-Ok.bytes.items c.in-Ok.ensures.read c.in-Ok.ensures.bytes f1 fn a1 an more c.parsed-one.result.0 c.parsed-one.result.1
-    (subst (λ (t : Option (List File)). IfOk more (λ b. IfSome t (λ files. bytes_at files w.1 ≡ Some b.items))) same c.file_bytes-more.ensures.read)
-    (subst (λ (m : ℕ). IfOk more (λ b. IfSome told (λ files. file_bytes 1 m (bytes_at files w.1) ≡ Ok b.items))) n
-    (subst (λ (t : Option (List File)). IfOk more (λ b. IfSome t (λ files. file_bytes 1 c.len.result (bytes_at files w.1) ≡ Ok b.items))) same c.file_bytes-more.ensures.bytes))
+    (subst (λ (t : Option (List File)). IfOk more (λ b. IsFoundAt t w.1 (Some b.items))) same c.file_bytes-more.ensures.read)
+    (subst (λ (m : ℕ). IfOk more (λ b. file_bytes 1 m (Some b.items) ≡ Ok b.items)) n c.file_bytes-more.ensures.bytes)
     (subst (λ (m : ℕ). IfErr more (ReadCause told w.1 1 m f1 fn a1 an)) n
     (subst (λ (t : Option (List File)). IfErr more (ReadCause t w.1 1 c.len.result f1 fn a1 an)) same c.file_bytes-more.ensures.refused))
     (subst (λ (bs : List ℕ). NamesTable purpose.Query 0 u.0 bs c.parsed-one.result.0) c.as_slice.ensures.value c.parsed-one.ensures.one)
