@@ -80,6 +80,14 @@ impl<'a> Input<'a> {
         }
     }
 
+    /// The rows, where they are there.
+    pub(crate) fn ready_rows(&self) -> &[PRow] {
+        match &self.content {
+            Content::Rows(rows) => rows.as_slice(),
+            _ => &[],
+        }
+    }
+
     /// What there is of the rows.
     pub(crate) fn into_content(self) -> Content<'a>
         ensures rows { content_rows result ≡ self.entry }

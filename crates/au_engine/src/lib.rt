@@ -30,6 +30,7 @@ mod guess_rows;
 mod guess_size;
 mod guessing;
 mod input;
+mod key_sample;
 mod options;
 mod ordered;
 mod plain;

@@ -13,6 +13,7 @@ use crate::steps::{
 };
 use au_algebra::Query;
 use au_plain::Plan;
+use au_rwgroup::Folding;
 use au_sqltext::read_numbers;
 use au_typing::{Schema, Typed};
 use au_value::{NoMemory, beside};
@@ -77,7 +78,7 @@ fn plan_of(alloc: Global, query: &Query, schemas: &[Schema]) -> Result<Planned, 
         }
         Query::Group(keys, aggs, of) => {
             let of = plan_of(alloc, of, schemas)?;
-            group_of(alloc, *keys, aggs.as_slice(), of)
+            group_of(alloc, *keys, aggs.as_slice(), Folding::EqualKeys, of)
         }
         Query::Total(aggs, of) => {
             let of = plan_of(alloc, of, schemas)?;

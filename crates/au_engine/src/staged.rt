@@ -1,7 +1,8 @@
 //! The plan of a tree, made in stages.
 //!
 //! The plan of a grouping holds its input twice, and that of a difference its combined left side. So these are run first,
-//! and their rows stand as tables: each operator of the tree is run once, and each plan grows with the tree alone.
+//! and their rows stand as tables: each operator of the tree is run once, and each plan grows with the tree alone. How a
+//! grouping folds its rows is chosen by a look at those that were made.
 ghost use Rattle.std.specs.Prelude.{◌≡◌, [], IfOk, map};
 ghost use Rattle.au_expr.specs.Figures.{Fit};
 ghost use Rattle.au_algebra.specs.Trees.{Difference, Product, Union, tree};
@@ -16,6 +17,7 @@ ghost use Rattle.au_engine.specs.Stages.{AddsTree};
 use crate::compressing::compressed_product_of;
 use crate::encoded::scanned;
 use crate::input::Input;
+use crate::key_sample::folding_for;
 use crate::runner::Runner;
 use crate::stage::{materialized, materialized_combined};
 use crate::steps::{
@@ -76,7 +78,8 @@ pub(crate) fn staged<'a, R: Threads + Sync, G: Gate + Sync>(
         Query::Group(keys, aggs, of) => {
             let first = apart(runner, alloc, of, blocks, compress)?;
             let of = materialized(runner, alloc, first.0, first.1, inputs)?;
-            Ok(group_of(alloc, *keys, aggs.as_slice(), of)?)
+            let how = folding_for(inputs, *keys);
+            Ok(group_of(alloc, *keys, aggs.as_slice(), how, of)?)
         }
         Query::Total(aggs, of) => {
             let of = staged(runner, alloc, of, blocks, compress, inputs)?;

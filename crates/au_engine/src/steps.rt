@@ -16,7 +16,7 @@ use au_plain::{Layout, Plan};
 use au_rwcore::{product, project, select, union};
 use au_rwdiff::difference;
 use au_rwexpr::width_of;
-use au_rwgroup::{distinct, group, total};
+use au_rwgroup::{Folding, distinct, group, total};
 use au_value::NoMemory;
 use std::alloc::Global;
 
@@ -124,17 +124,19 @@ pub(crate) fn distinct_of(alloc: Global, of: Planned) -> Result<Planned, NoMemor
     })
 }
 
-/// A row for each list of guesses of so many leading columns, with aggregates.
+/// A row for each list of guesses of so many leading columns, with aggregates. How the rows are folded is a question of
+/// time alone.
 pub(crate) fn group_of(
     alloc: Global,
     keys: usize,
     aggs: &[Agg],
+    how: Folding,
     of: Planned,
 ) -> Result<Planned, NoMemory>
     ensures columns { IfOk result (λ p. p.layout.columns ≡ keys + length aggs.now) }
     ensures plan { IfOk result (λ p. Groups of.layout.columns keys aggs.now (plan_tree of.plan) (plan_tree p.plan)) }
 {
-    let plan = group(alloc, of.plan, keys, aggs, &of.layout)?;
+    let plan = group(alloc, of.plan, keys, aggs, how, &of.layout)?;
     let columns = keys + aggs.len();
     Ok(Planned {
         plan,
