@@ -11,7 +11,9 @@ use au_value::Value;
 // Neighbours are looked at in windows, so that equal keys are seen that stand together as well as those that are spread.
 // There are the more windows the more rows there are, up to so many.
 const WINDOW: usize = 32;
+
 const WINDOWS: usize = 16;
+
 const ROWS_FOR_A_WINDOW: usize = 256;
 
 // One row in so many may repeat the keys of another where each row is to stay by itself. A row too few in a fold costs a
