@@ -10,15 +10,18 @@ use Rattle.au_algebra.specs.declared.query.Agg.{Agg}
 use Rattle.au_algebra.specs.Bounded.{Bounded, combine}
 use Rattle.au_algebra.specs.Fits.{triple_numbers}
 use Rattle.au_algebra.specs.Laws.{IsRelation}
+use Rattle.au_algebra.specs.Lists.{copies}
 use Rattle.au_algebra.specs.Trees.{Tree, Table, Select, Project, Product, Union, Difference, Distinct, Group, Total}
 use Rattle.au_algebra.specs.Typing.{IsTyped, kinds_if, kinds_of}
 use Rattle.au_algebra.proofs.ByProduct.{bounded_is}
 use Rattle.au_algebra.proofs.Items.{some_is}
 use Rattle.au_algebra.proofs.TreeRelation.{tree_relation}
-use Rattle.au_plain.specs.PlanKinds.{FitTables}
+use Rattle.au_plain.specs.PlanKinds.{FitTables, HaveKinds, plan_kinds}
 use Rattle.au_plain.specs.Plans.{PlanTree, Scan}
 use Rattle.au_encode.specs.Encode.{encode, encoded_kinds}
 use Rattle.au_encode.specs.Gives.{Gives}
+use Rattle.au_encode.proofs.EncodedKinds.{rows_have_kinds}
+use Rattle.au_split.specs.Reorders.{Reorders}
 use Rattle.au_rwexpr.proofs.Filled.{wide_enough}
 use Rattle.au_rwcore.specs.Gives.{Multiplies, Projects, Selects, Unites}
 use Rattle.au_combine.specs.Gives.{Combines}
@@ -138,6 +141,24 @@ whole_plan kinds q p c typed gives =
     let k = typed_kinds kinds q typed in
     record {
       typed = λ ks e. (gives (map (λ js. []) kinds) ks (record { relations = empty_relations kinds; fit = empty_fit kinds }) e).1.typed;
-      rows = λ ts ok. (gives ts k.0 ok k.1).1.encoded ∙ ap encode (bounded_is q ts);
+      rows = λ ts ok v. ap (copies v) ((gives ts k.0 ok k.1).1.encoded ∙ ap encode (bounded_is q ts));
       fits = λ ts ok f. (gives ts k.0 ok k.1).1.fit (subst Fit (sym (numbers_is q ts)) f);
+    }
+
+-- encoded tables have the encoded kinds
+encoded_have : (kinds : List (List Kind)) (ts : List Bounded) → AllZip IsRelation kinds ts → AllZip HaveKinds (map encoded_kinds kinds) (map encode ts)
+encoded_have [] [] z = tt
+encoded_have [] (t ∷ ts) z = elim z [ ]
+encoded_have (ks ∷ kinds) [] z = elim z [ ]
+encoded_have (ks ∷ kinds) (t ∷ ts) z = (rows_have_kinds ks t z.0, encoded_have kinds ts z.1)
+
+-- a plan with the same rows in another order is a plan of the tree, too
+pub reordered_plan : (kinds : List (List Kind)) (q : Tree) (p r : PlanTree) → IsTyped kinds q → IsPlanOf kinds q p → Reorders (map encoded_kinds kinds) p r → IsPlanOf kinds q r
+reordered_plan kinds q p r typed whole same =
+    let k = typed_kinds kinds q typed in
+    let is : plan_kinds (map encoded_kinds kinds) p ≡ Some (encoded_kinds k.0) = whole.typed k.0 k.1 in
+    record {
+      typed = λ ks e. same.typed (encoded_kinds ks) (whole.typed ks e);
+      rows = λ ts ok v. same.rows (map encode ts) (encoded_kinds k.0) (encoded_have kinds ts ok.relations) is v ∙ whole.rows ts ok v;
+      fits = λ ts ok f. same.numbers (map encode ts) (encoded_kinds k.0) (encoded_have kinds ts ok.relations) ok.fit is (whole.fits ts ok f);
     }

@@ -38,8 +38,8 @@ pub fn encoded_text(alloc: Global, table: &Table) -> Result<Vec<u8>, NoMemory>
     plain_text(alloc, kinds.as_slice(), rows.as_slice())
 }
 
-// The kinds of the encoded columns: that of each column's values three times, and three of whole numbers.
-fn encoded_kinds(alloc: Global, columns: &[Column]) -> Result<Vec<Kind>, NoMemory>
+/// The kinds of the encoded columns: that of each column's values three times, and three of whole numbers.
+pub(crate) fn encoded_kinds(alloc: Global, columns: &[Column]) -> Result<Vec<Kind>, NoMemory>
     ensures { IfOk result (λ v. v.items ≡ encoded_kinds_of (map (λ c. data_kind c.kind) columns.now)) }
 {
     let mut kinds = Vec::new(alloc);
