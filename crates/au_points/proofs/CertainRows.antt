@@ -1,9 +1,8 @@
 -- The distinct rows of rows whose ranges are the guesses of others' keys.
-use Rattle.std.specs.Prelude.{◌≡◌, ℕ, ◌+◌, ◌≤◌, ◌<◌, Bool, true, false, not, ◌&&◌, ◌||◌, cond, nat_le, List, [], ◌∷◌, ◌++◌, length, map, filter, take, if◌then◌else◌}
+use Rattle.std.specs.Prelude.{◌≡◌, ℕ, ◌+◌, ◌≤◌, ◌<◌, Bool, true, false, not, ◌&&◌, ◌||◌, cond, nat_le, List, [], ◌∷◌, ◌++◌, length, map, filter, take}
 use Rattle.std.specs.List.{AllByRecursion, list_any}
 use Rattle.std.proofs.Common.{arith, refl, sym, ◌∙◌, ap}
 use Rattle.std.proofs.lemmas.List.{append-nil}
-use Rattle.au_value.specs.declared.kinds.Kind.{Kind}
 use Rattle.au_value.specs.declared.value.Value.{Value}
 use Rattle.au_value.specs.Ranges.{Span, certain, all_certain, guesses}
 use Rattle.au_value.specs.Lists.{distinct}
@@ -11,13 +10,12 @@ use Rattle.au_annot.specs.Triples.{Counts, counts, one}
 use Rattle.au_algebra.specs.Entries.{entry}
 use Rattle.au_algebra.specs.Lists.{same_row, copies}
 use Rattle.au_algebra.specs.Bounded.{RangeRow, Bounded, distinct_rows, hull_of, most_of, output, present, some_of}
-use Rattle.au_algebra.specs.Laws.{IsRelation}
 use Rattle.au_algebra.proofs.Copies.{copies-cons, same_row_is}
 use Rattle.au_algebra.proofs.DistinctKeys.{Keys, Occurs, occurs_distinct}
 use Rattle.au_algebra.proofs.Each as each
 use Rattle.au_algebra.proofs.Filters.{filter_none}
-use Rattle.au_points.specs.Points.{point_counts, points_of, point_outputs}
-use Rattle.au_points.specs.Members.{key_row, point_rows, guess_row, PointsAreDistinct}
+use Rattle.au_points.specs.Points.{point_counts, points_of}
+use Rattle.au_points.specs.Members.{point_rows, guess_row, PointsAreDistinct}
 use Rattle.au_points.proofs.PointBasics.{certain_guesses, points_certain}
 use Rattle.au_points.proofs.PointGroups.{hull_of_point, le_if}
 use Rattle.au_points.proofs.PointsWithin.{all_present}

@@ -1,15 +1,15 @@
 -- With Product, Group and Distinct themselves the relation, the answer and its numbers are the bounded ones.
-use Rattle.std.specs.Prelude.{◌≡◌, Bool, List, ◌++◌, take, flat_map, ℤ, if◌then◌else◌}
+use Rattle.std.specs.Prelude.{◌≡◌, List, ◌++◌, take, flat_map, if◌then◌else◌}
 use Rattle.std.specs.List.{list_all}
-use Rattle.std.proofs.Common.{refl, ◌∙◌, ap}
+use Rattle.std.proofs.Common.{refl, ap}
 use Rattle.au_value.specs.Numeral.{is_i128}
 use Rattle.au_expr.specs.Numbers.{expr_numbers}
 use Rattle.au_algebra.specs.Bounded as op
 use Rattle.au_algebra.specs.Bounded.{Bounded, all_rows, bounded, bounded_answer, combine, normal, product}
-use Rattle.au_algebra.specs.Fits.{agg_numbers, answer_numbers, difference_sums, fits, grouping_numbers, numbers, triple_numbers}
+use Rattle.au_algebra.specs.Fits.{agg_numbers, difference_sums, grouping_numbers, numbers, triple_numbers}
 use Rattle.au_algebra.specs.Products.{bounded_by}
 use Rattle.au_algebra.specs.Trees.{Tree, Table, Select, Project, Product, Union, Difference, Distinct, Group, Total}
-use Rattle.au_points.specs.Groupings.{by_hulls, bounded_with, answer_with}
+use Rattle.au_points.specs.Groupings.{by_hulls, bounded_with}
 use Rattle.au_points.specs.GroupingFits.{HullsAreGroup, numbers_with, pair_numbers}
 
 relation_is : (join : Bounded → Bounded → Bounded) (q : Tree) (ts : List Bounded) → bounded_with join by_hulls q ts ≡ bounded_by join q ts

@@ -1,10 +1,10 @@
 -- The members of the points are each point joined with the rows whose keys hold it.
-use Rattle.std.specs.Prelude.{◌≡◌, ◌≤◌, ℕ, zero, suc, ◌+◌, ◌*◌, ◌==◌, Bool, true, false, not, ◌&&◌, cond, List, [], ◌∷◌, ◌++◌, length, map, filter, flat_map, take, drop}
+use Rattle.std.specs.Prelude.{◌≡◌, ◌≤◌, ℕ, zero, suc, ◌*◌, ◌==◌, Bool, true, false, not, cond, List, [], ◌∷◌, ◌++◌, length, map, filter, flat_map, take, drop}
 use Rattle.std.specs.List.{AllByRecursion}
 use Rattle.std.proofs.Common.{arith, refl, sym, ◌∙◌, ap, subst, inl, inr}
 use Rattle.std.proofs.lemmas.List.{map-append, length-map, take-append-drop}
 use Rattle.std.proofs.lemmas.List.Elements.{filter-append}
-use Rattle.std.proofs.lemmas.Bool.{and_parts, and_from, cases_Bool, eqb-true, true≢false}
+use Rattle.std.proofs.lemmas.Bool.{cases_Bool, eqb-true, true≢false}
 use Rattle.au_value.specs.declared.comparison.Comparison.TheVariants.{Equal}
 use Rattle.au_value.specs.declared.kinds.Kind.{Kind}
 use Rattle.au_value.specs.declared.value.Value.{Value}
@@ -13,18 +13,17 @@ use Rattle.au_value.specs.Ranges.{Span, certain, certainly_equal, overlap, all_o
 use Rattle.au_annot.specs.Triples.{counts, is_none, one, times}
 use Rattle.au_expr.specs.Evaluate.{cell_at}
 use Rattle.au_expr.specs.OnRanges.{and, compare, flags, on_ranges, range_of}
-use Rattle.au_expr.specs.Terms.{Term}
 use Rattle.au_algebra.specs.Entries.{entry}
 use Rattle.au_algebra.specs.Lists.{same_row}
 use Rattle.au_algebra.specs.Bounded.{RangeRow, Bounded, present, product, select, weight}
-use Rattle.au_algebra.specs.Laws.{IsRangeRow, IsRelation}
+use Rattle.au_algebra.specs.Laws.{IsRelation}
 use Rattle.au_algebra.proofs.Certain.{certain_left, all_certain_overlap}
 use Rattle.au_algebra.proofs.Copies.{same_row_is, same_row_refl}
 use Rattle.au_algebra.proofs.DistinctKeys.{Keys}
 use Rattle.au_algebra.proofs.Hulls.{KeysWide}
 use Rattle.au_algebra.proofs.KeptByGroup.{keys_wide}
 use Rattle.au_points.specs.Points.{points_of}
-use Rattle.au_points.specs.Members.{equal_columns, members, point_rows}
+use Rattle.au_points.specs.Members.{equal_columns, members}
 use Rattle.au_points.proofs.CertainRows.{point_row, points_are}
 use Rattle.au_points.proofs.PointBasics.{and_true, certain_guesses, points_certain}
 use Rattle.au_points.proofs.PointGroups.{beside, joined_points, long_take, members_beside}

@@ -1,13 +1,12 @@
 -- Of the groups whose keys nobody guessed none is certain and none is guessed.
-use Rattle.std.specs.Prelude.{◌≡◌, ℕ, true, false, ◌&&◌, cond, nat_le, List, [], ◌∷◌, map, filter}
+use Rattle.std.specs.Prelude.{◌≡◌, ℕ, false, cond, nat_le, List, [], ◌∷◌, map, filter}
 use Rattle.std.specs.List.{AllByRecursion, list_any}
 use Rattle.std.proofs.Common.{refl, ap}
 use Rattle.std.proofs.lemmas.Bool.{or_from}
 use Rattle.au_value.specs.Ranges.{Span, guesses}
-use Rattle.au_value.specs.declared.value.Value.{Value}
 use Rattle.au_algebra.specs.declared.query.Agg.{Agg}
 use Rattle.au_algebra.specs.Lists.{same_row}
-use Rattle.au_algebra.specs.Bounded.{RangeRow, Bounded, group_by, guessed_keys, output}
+use Rattle.au_algebra.specs.Bounded.{Bounded, group_by, guessed_keys, output}
 use Rattle.au_algebra.proofs.DistinctKeys.{Keys}
 use Rattle.au_algebra.proofs.Each.{all_filter}
 use Rattle.au_points.specs.BesideGroup.{OthersArePossible}

@@ -3,8 +3,7 @@
 use Rattle.std.specs.Prelude.{◌≡◌, ℕ, ◌+◌, ◌≤◌, ◌<◌, Bool, true, false, not, cond, List, [], ◌∷◌, ◌++◌, length, map, filter, nat_le, nat_lt}
 use Rattle.std.specs.List.{AllByRecursion, AllZip, list_any}
 use Rattle.std.proofs.Common.{arith, refl, sym, ◌∙◌, ap, subst, inl, inr}
-use Rattle.std.proofs.lemmas.List.{length-map, length-append}
-use Rattle.std.proofs.lemmas.List.Sums.{sum_by-cons}
+use Rattle.std.proofs.lemmas.List.{length-map}
 use Rattle.std.proofs.lemmas.Bool.{and_parts, and_from, cases_Bool, cases_lt, lt-ltb, ltb-true, ltb-false, leb-true, true≢false}
 use Rattle.au_value.specs.declared.kinds.Kind.{Kind}
 use Rattle.au_value.specs.declared.value.Value.{Value}
@@ -12,17 +11,16 @@ use Rattle.au_value.specs.Ranges.{Span, certain, all_hold, all_overlap, all_cert
 use Rattle.au_value.specs.Lists.{distinct}
 use Rattle.au_algebra.specs.declared.query.Agg.{Agg}
 use Rattle.au_algebra.specs.Lists.{same_row, copies}
-use Rattle.au_algebra.specs.Bounded.{RangeRow, Bounded, aggregate, most_of, group_by, union}
+use Rattle.au_algebra.specs.Bounded.{RangeRow, Bounded, aggregate, group_by, union}
 use Rattle.au_algebra.specs.Ordinary as ordinary
 use Rattle.au_algebra.specs.Ordinary.{Rows}
 use Rattle.au_algebra.specs.Distribution.{Bounds}
 use Rattle.au_algebra.specs.Laws.{IsRangeRow, IsRelation}
 use Rattle.au_algebra.proofs.Spread.{Takes, Bounds-Spread, Spread-Bounds}
-use Rattle.au_algebra.proofs.Parts.{Held, joined, Parted, Spread-Parted, Parted-Spread, bounds_up_to_order, occurring_held}
+use Rattle.au_algebra.proofs.Parts.{Held, joined, Parted, Spread-Parted, Parted-Spread, bounds_up_to_order}
 use Rattle.au_algebra.proofs.Occurring.{SameCopies, copies-filter, map_occurs, first_occurs, source, same_map}
-use Rattle.au_algebra.proofs.Places.{At, at_first, at_later, at_takes, at_copies, Place, place_of, passing, row_keys, is_sure, is_sure_there, hull_wider}
+use Rattle.au_algebra.proofs.Places.{At, at_first, at_later, at_takes, at_copies, Place, place_of, passing, row_keys, is_sure, is_sure_there}
 use Rattle.au_algebra.proofs.SharedKeys.{shares_together}
-use Rattle.au_algebra.proofs.SumRanges.{Gives}
 use Rattle.au_algebra.proofs.AggregateRanges.{IsFitting, aggregates_hold, all_unless_sum}
 use Rattle.au_algebra.proofs.Members as members
 use Rattle.au_algebra.proofs.GroupHomes as homes
@@ -34,7 +32,7 @@ use Rattle.au_algebra.proofs.Each.{all_filter, all_from}
 use Rattle.au_algebra.proofs.Cells.{hold_append}
 use Rattle.au_algebra.proofs.Hulls.{KeysWide}
 use Rattle.au_algebra.proofs.KeptByGroup.{group_by_bounds}
-use Rattle.au_algebra.proofs.KeptBySelect.{union_bounds, length-filter}
+use Rattle.au_algebra.proofs.KeptBySelect.{union_bounds}
 use Rattle.au_algebra.proofs.MergedBy.{pick_parts, takes_picked}
 use Rattle.au_algebra.proofs.DistinctKeys.{Keys, Occurs, none_twice_distinct, occurs_distinct, none_twice_filter, still_occurs, once}
 use Rattle.au_points.specs.Points.{at_point, point_output, points_of, unsure_rows, other_rows, group_by_points}

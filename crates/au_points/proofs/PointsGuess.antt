@@ -1,17 +1,15 @@
 -- Grouping by points guesses what Group guesses.
-use Rattle.std.specs.Prelude.{◌≡◌, ℕ, ◌≤◌, ◌<◌, Bool, true, false, cond, List, [], ◌∷◌, ◌++◌, length, map, filter, take}
+use Rattle.std.specs.Prelude.{◌≡◌, ℕ, ◌≤◌, ◌<◌, Bool, true, false, cond, List, [], ◌∷◌, ◌++◌, length, map, filter}
 use Rattle.std.specs.List.{list_any}
 use Rattle.std.proofs.Common.{arith, refl, sym, ◌∙◌, ap}
-use Rattle.std.proofs.lemmas.List.{map-append, take-map}
+use Rattle.std.proofs.lemmas.List.{map-append}
 use Rattle.std.proofs.lemmas.Bool.{true≢false}
-use Rattle.au_value.specs.declared.kinds.Kind.{Kind}
 use Rattle.au_value.specs.declared.value.Value.{Value}
 use Rattle.au_value.specs.Ranges.{Span, guesses}
 use Rattle.au_algebra.specs.declared.query.Agg.{Agg}
 use Rattle.au_algebra.specs.Lists.{same_row}
-use Rattle.au_algebra.specs.Bounded.{RangeRow, Bounded, aggregate, grouped, output, guessed_keys, group_by, group, distinct_rows, union}
+use Rattle.au_algebra.specs.Bounded.{RangeRow, Bounded, aggregate, grouped, output, guessed_keys, group_by, union}
 use Rattle.au_algebra.specs.Distribution.{guess_count}
-use Rattle.au_algebra.specs.Laws.{IsRelation}
 use Rattle.au_algebra.proofs.AggregateGuesses.{aggregates_guess}
 use Rattle.au_algebra.proofs.Choices.{cond_zero}
 use Rattle.au_algebra.proofs.DistinctKeys.{Keys}
@@ -21,9 +19,8 @@ use Rattle.au_algebra.proofs.GuessCounts.{guess-cons, guess-append, guess-presen
 use Rattle.au_algebra.proofs.GuessedByGroup as guessed
 use Rattle.au_algebra.proofs.GuessWorld.{guess_world, is_there}
 use Rattle.au_algebra.proofs.Hulls.{KeysWide}
-use Rattle.au_algebra.proofs.KeptByGroup.{keys_wide}
 use Rattle.au_algebra.proofs.Places.{belongs}
-use Rattle.au_algebra.proofs.RelationRows.{Triples, relation_triples, relation_wide}
+use Rattle.au_algebra.proofs.RelationRows.{Triples}
 use Rattle.au_points.specs.Points.{at_point, point_output, points_of, other_rows, group_by_points}
 use Rattle.au_points.proofs.PointBasics.{certain_guesses}
 

@@ -1,12 +1,11 @@
 -- The outputs of points are rows of ranges of the kinds of the keys and aggregates.
-use Rattle.std.specs.Prelude.{◌≡◌, ℕ, ◌≤◌, ◌<◌, true, not, List, [], ◌∷◌, ◌++◌, length, map, filter, take, replicate, Some}
+use Rattle.std.specs.Prelude.{◌≡◌, ℕ, ◌≤◌, ◌<◌, true, List, [], ◌∷◌, ◌++◌, length, map, filter, Some}
 use Rattle.std.specs.List.{AllByRecursion, AllZip, list_any}
 use Rattle.std.proofs.Common.{arith, refl, sym, ap, subst}
-use Rattle.std.proofs.lemmas.List.{append-nil, take-map, length-append, length-replicate}
-use Rattle.std.proofs.lemmas.Bool.{leb-true, true≢false}
+use Rattle.std.proofs.lemmas.Bool.{leb-true}
 use Rattle.au_value.specs.declared.kinds.Kind.{Kind}
 use Rattle.au_value.specs.declared.value.Value.{Value}
-use Rattle.au_value.specs.Ranges.{Span, IsRangeOf, certain, all_hold, all_overlap, all_certain, guesses}
+use Rattle.au_value.specs.Ranges.{Span, IsRangeOf, certain, all_hold, all_overlap, guesses}
 use Rattle.au_algebra.specs.declared.query.Agg.{Agg}
 use Rattle.au_algebra.specs.Typing.{agg_kind, all_kinds}
 use Rattle.au_algebra.specs.Lists.{same_row, copies}
@@ -16,26 +15,23 @@ use Rattle.au_algebra.specs.Ordinary.{Rows}
 use Rattle.au_algebra.specs.Laws.{IsRangeRow, IsRelation}
 use Rattle.au_algebra.proofs.AggregateGuesses.{aggregates_guess}
 use Rattle.au_algebra.proofs.AggregateKinds.{typed_fitting}
-use Rattle.au_algebra.proofs.AggregateRanges.{IsFitting, aggregates_hold, all_unless_sum}
+use Rattle.au_algebra.proofs.AggregateRanges.{IsFitting, all_unless_sum}
 use Rattle.au_algebra.proofs.Certain.{both_held}
 use Rattle.au_algebra.proofs.Copies.{same_row_is}
-use Rattle.au_algebra.proofs.DistinctKeys.{Keys, Occurs, occurs_distinct}
-use Rattle.au_algebra.proofs.Each.{all_filter, all_from, all_append, zip_from}
+use Rattle.au_algebra.proofs.DistinctKeys.{Keys, Occurs}
+use Rattle.au_algebra.proofs.Each.{all_filter, all_from}
 use Rattle.au_algebra.proofs.GroupHomes as homes
-use Rattle.au_algebra.proofs.GroupRelation.{output_triple, keys_ranges}
+use Rattle.au_algebra.proofs.GroupRelation.{output_triple}
 use Rattle.au_algebra.proofs.GuessedByGroup as guessed
 use Rattle.au_algebra.proofs.GuessParts.{guess_parts, CountsWithin, parts_taken, at_part, guessing_row, group_occurs, joined_guesses}
 use Rattle.au_algebra.proofs.GuessWorld.{guess_world, is_there}
-use Rattle.au_algebra.proofs.Hulls.{KeysWide, hull_of_ranges}
-use Rattle.au_algebra.proofs.KeptByGroup.{take_holds, keys_wide, keys_valid}
+use Rattle.au_algebra.proofs.Hulls.{KeysWide}
 use Rattle.au_algebra.proofs.MergedBy.{pick_parts}
 use Rattle.au_algebra.proofs.OutputRanges.{aggregates_range}
 use Rattle.au_algebra.proofs.Parts.{joined}
 use Rattle.au_algebra.proofs.Places.{At, at_each, at_filter, passing, belongs, row_keys}
-use Rattle.au_algebra.proofs.PositiveRelation.{zip_append, present_relation}
-use Rattle.au_algebra.proofs.RelationRows.{HoldsGuesses, relation_holds, relation_wide, relation_ranges, relation_triples, IsLooseRow, IsLoose}
-use Rattle.au_algebra.proofs.Spread.{Takes}
-use Rattle.au_algebra.proofs.SumRanges.{Gives}
+use Rattle.au_algebra.proofs.PositiveRelation.{zip_append}
+use Rattle.au_algebra.proofs.RelationRows.{HoldsGuesses, relation_holds, relation_triples, IsLooseRow, IsLoose}
 use Rattle.au_points.specs.Points.{at_point, point_output}
 use Rattle.au_points.proofs.PointBasics.{hold_themselves, certain_ranges}
 use Rattle.au_points.proofs.PointsBound.{point_aggregates}

@@ -1,5 +1,5 @@
 -- Where the keys of the rows that guess a point are certain, its row is Group's own.
-use Rattle.std.specs.Prelude.{◌≡◌, ℕ, ◌+◌, ◌<◌, Bool, true, false, not, ◌&&◌, ◌||◌, cond, nat_le, List, [], ◌∷◌, ◌++◌, length, map, filter, take}
+use Rattle.std.specs.Prelude.{◌≡◌, ◌+◌, ◌<◌, Bool, true, false, not, ◌&&◌, ◌||◌, cond, nat_le, List, [], ◌∷◌, ◌++◌, length, map, filter, take}
 use Rattle.std.specs.List.{AllByRecursion, AllZip, list_any}
 use Rattle.std.proofs.Common.{arith, refl, sym, ◌∙◌, ap}
 use Rattle.std.proofs.lemmas.Bool.{and_parts}
@@ -13,16 +13,15 @@ use Rattle.au_annot.specs.Triples.{counts}
 use Rattle.au_algebra.specs.declared.query.Agg.{Agg}
 use Rattle.au_algebra.specs.Entries.{entry}
 use Rattle.au_algebra.specs.Lists.{same_row}
-use Rattle.au_algebra.specs.Bounded.{RangeRow, Bounded, Grouped, aggregate, group, group_by, group_counts, grouped, guessed_keys, hull_of, most_of, output, present, some_of}
-use Rattle.au_algebra.specs.Laws.{IsRelation}
+use Rattle.au_algebra.specs.Bounded.{RangeRow, Bounded, Grouped, aggregate, group_by, group_counts, grouped, hull_of, most_of, output, present, some_of}
 use Rattle.au_algebra.proofs.Copies.{same_row_is}
 use Rattle.au_algebra.proofs.DistinctKeys.{Keys, Occurs, occurs_distinct}
 use Rattle.au_algebra.proofs.Each as each
 use Rattle.au_algebra.proofs.Each.{all_filter}
 use Rattle.au_algebra.proofs.Filters.{filter_none}
 use Rattle.au_algebra.proofs.GroupRelation.{keys_ranges}
-use Rattle.au_points.specs.BesideGroup.{CertainKeys, SameWhereCertain, SameWhereAllCertain}
-use Rattle.au_points.specs.Points.{at_point, point_output, points_of, unsure_rows, possible_row, other_rows, other_outputs}
+use Rattle.au_points.specs.BesideGroup.{SameWhereCertain, SameWhereAllCertain}
+use Rattle.au_points.specs.Points.{at_point, point_output, points_of, possible_row, other_outputs}
 use Rattle.au_points.proofs.CertainRows.{own_some}
 use Rattle.au_points.proofs.PointBasics.{certain_beside}
 use Rattle.au_points.proofs.PointGroups.{hull_of_point}

@@ -1,10 +1,10 @@
 -- Grouping by points by other operators: the points are distinct rows, their members are selected from the pairs of a
 -- point and a row, and their outputs are the groups of these.
-use Rattle.std.specs.Prelude.{◌≡◌, ◌≤◌, ℕ, zero, suc, ◌+◌, true, List, [], map, take, length, Some, if◌then◌else◌}
+use Rattle.std.specs.Prelude.{◌≡◌, ℕ, zero, suc, ◌+◌, true, List, [], map, take, Some, if◌then◌else◌}
 use Rattle.au_value.specs.declared.comparison.Comparison.TheVariants.{Equal}
 use Rattle.au_value.specs.declared.kinds.Kind.{Kind}
 use Rattle.au_value.specs.declared.value.Value.TheVariants.{Flag}
-use Rattle.au_value.specs.Ranges.{Span, certain, all_certain, guesses}
+use Rattle.au_value.specs.Ranges.{certain, all_certain, guesses}
 use Rattle.au_annot.specs.Triples.{counts, one}
 use Rattle.au_expr.specs.Figures.{Fit}
 use Rattle.au_expr.specs.Terms.{Term, Column, Literal, Compare, And}
@@ -15,7 +15,7 @@ use Rattle.au_algebra.specs.Bounded.{RangeRow, Bounded, distinct_rows, group, pr
 use Rattle.au_algebra.specs.Fits.{grouping_numbers}
 use Rattle.au_algebra.specs.Laws.{IsRelation}
 use Rattle.au_algebra.specs.Typing.{group_kinds}
-use Rattle.au_points.specs.Points.{point_numbers, point_outputs, points_of}
+use Rattle.au_points.specs.Points.{point_numbers, point_outputs}
 
 -- ---- the points
 

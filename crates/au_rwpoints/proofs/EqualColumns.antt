@@ -1,9 +1,7 @@
 -- The condition that columns are equal to others: its kind, its numbers, and how it is made.
-use Rattle.std.specs.Prelude.{◌≡◌, ◌≤◌, ℕ, zero, suc, ◌+◌, ◌-◌, ◌<◌, Bool, true, ◌&&◌, List, [], ◌∷◌, ◌++◌, length, take, Some, slice_get, is_some}
-use Rattle.std.specs.List.{AllByRecursion}
-use Rattle.std.proofs.Common.{arith, refl, sym, ◌∙◌, ap, subst}
+use Rattle.std.specs.Prelude.{◌≡◌, ◌≤◌, ℕ, zero, suc, ◌+◌, ◌-◌, ◌<◌, ◌&&◌, List, [], ◌∷◌, ◌++◌, length, take, Some, slice_get, is_some}
+use Rattle.std.proofs.Common.{arith, refl, ◌∙◌, ap, subst}
 use Rattle.std.proofs.lemmas.List.{length-take-le}
-use Rattle.au_value.specs.KindLaws.{kind_itself}
 use Rattle.au_value.specs.declared.comparison.Comparison.TheVariants.{Equal}
 use Rattle.au_value.specs.declared.kinds.Kind.{Kind}
 use Rattle.au_value.specs.declared.kinds.Kind.TheVariants.{Flag}

@@ -1,5 +1,5 @@
 -- The plans of Group and Distinct by points.
-use Rattle.std.specs.Prelude.{◌≡◌, ◌≤◌, ℕ, zero, suc, ◌+◌, ◌*◌, Bool, true, not, cond, List, [], ◌∷◌, ◌++◌, filter, flat_map, length, map, nat_le, take, Some, option_and_then, None, pos, slice_get, ℤ, if◌then◌else◌}
+use Rattle.std.specs.Prelude.{◌≡◌, ◌≤◌, ℕ, zero, suc, ◌+◌, Bool, true, not, cond, List, [], ◌∷◌, ◌++◌, filter, length, map, nat_le, take, Some, option_and_then, None, pos, slice_get, if◌then◌else◌}
 use Rattle.std.specs.List.{AllByRecursion}
 use Rattle.std.proofs.Common.{arith, refl, sym, ◌∙◌, ap, subst}
 use Rattle.std.proofs.lemmas.Bool.{leb-true, le-leb}
@@ -7,7 +7,7 @@ use Rattle.std.proofs.lemmas.Grind.{flat_map-append}
 use Rattle.std.proofs.lemmas.List.{length-append, length-take-le}
 use Rattle.au_value.specs.declared.kinds.Kind.{Kind}
 use Rattle.au_value.specs.declared.kinds.Kind.TheVariants.{Int}
-use Rattle.au_value.specs.Ranges.{IsRangeOf, Span, all_certain}
+use Rattle.au_value.specs.Ranges.{IsRangeOf, all_certain}
 use Rattle.au_expr.specs.Figures.{Fit}
 use Rattle.au_expr.specs.Kinds.{is_kind}
 use Rattle.au_expr.proofs.Fits.{fit_both, fit_parts}
@@ -16,12 +16,10 @@ use Rattle.au_algebra.specs.declared.query.Agg.TheVariants.{Sum, Min, Max}
 use Rattle.au_algebra.specs.Bounded.{RangeRow, Bounded, distinct_rows, group, union}
 use Rattle.au_algebra.specs.Fits.{grouping_numbers, triple_numbers}
 use Rattle.au_algebra.specs.Laws.{IsRangeRow, IsRelation}
-use Rattle.au_algebra.specs.Ordinary.{Rows}
 use Rattle.au_algebra.specs.Typing.{agg_kind, all_kinds, group_kinds}
 use Rattle.au_algebra.proofs.Each.{all_append}
 use Rattle.au_algebra.proofs.Items.{chosen_is}
 use Rattle.au_plain.specs.Plans.{PlanTree}
-use Rattle.au_plain.specs.PlanKinds.{FitTables}
 use Rattle.au_encode.specs.Gives.{Gives}
 use Rattle.au_encode.proofs.Decoded.{cells_length}
 use Rattle.au_rwexpr.proofs.Present.{present_all}

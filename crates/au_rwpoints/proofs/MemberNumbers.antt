@@ -1,7 +1,7 @@
 -- The numbers of the members of points fit where those of the rows do.
 use Rattle.std.specs.Prelude.{◌≡◌, ◌≤◌, ℕ, ◌*◌, Bool, true, false, not, cond, List, [], ◌∷◌, ◌++◌, flat_map, map, pos, take, ℤ}
 use Rattle.std.specs.List.{AllByRecursion}
-use Rattle.std.proofs.Common.{arith, refl, sym, ap, subst}
+use Rattle.std.proofs.Common.{arith, refl, sym, subst}
 use Rattle.au_value.specs.declared.value.Value.{Value}
 use Rattle.au_value.specs.Ranges.{Span}
 use Rattle.au_annot.specs.Triples.{Counts, is_none, one, times}
@@ -16,7 +16,7 @@ use Rattle.au_algebra.specs.Entries.{entry}
 use Rattle.au_algebra.specs.Fits.{triple_numbers}
 use Rattle.au_algebra.proofs.DistinctKeys.{Keys}
 use Rattle.au_algebra.proofs.Each.{all_append, all_filter}
-use Rattle.au_encode.proofs.HeldCells.{AllFitRows, FitRow}
+use Rattle.au_encode.proofs.HeldCells.{AllFitRows}
 use Rattle.au_rwexpr.proofs.Allowed.{lower_fits}
 use Rattle.au_rwexpr.proofs.PlanNumbersOf.{fit_all}
 use Rattle.au_points.specs.Members.{equal_columns, point_rows}

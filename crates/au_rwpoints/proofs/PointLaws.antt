@@ -1,12 +1,11 @@
 -- The plans of the points and of their members.
-use Rattle.std.specs.Prelude.{◌≡◌, ◌≤◌, ℕ, ◌+◌, ◌*◌, List, [], ◌∷◌, ◌++◌, length, map, take, flat_map, nat_le, Some, ℤ}
-use Rattle.std.proofs.Common.{arith, refl, sym, ◌∙◌, ap, subst}
+use Rattle.std.specs.Prelude.{◌≡◌, ◌≤◌, ℕ, ◌+◌, List, ◌++◌, length, map, take, flat_map, ℤ}
+use Rattle.std.proofs.Common.{arith, sym, ◌∙◌, ap, subst}
 use Rattle.std.proofs.lemmas.List.{length-append, length-take-le}
 use Rattle.au_value.specs.declared.kinds.Kind.{Kind}
-use Rattle.au_expr.specs.Figures.{Fit}
 use Rattle.au_expr.specs.Numbers.{expr_numbers}
 use Rattle.au_expr.proofs.Fits.{fit_both}
-use Rattle.au_algebra.specs.Bounded.{Bounded, distinct_rows, product, select}
+use Rattle.au_algebra.specs.Bounded.{Bounded, product, select}
 use Rattle.au_algebra.specs.Fits.{triple_numbers}
 use Rattle.au_algebra.specs.Ordinary.{Rows}
 use Rattle.au_plain.specs.Plans.{PlanTree}
@@ -16,7 +15,7 @@ use Rattle.au_encode.specs.Gives.{Gives}
 use Rattle.au_encode.proofs.HeldCells.{gives_held}
 use Rattle.au_rwcore.specs.Gives.{Multiplies, Selects}
 use Rattle.au_rwgroup.specs.Gives.{Distincts}
-use Rattle.au_points.specs.Members.{equal_columns, key_row, members, point_rows}
+use Rattle.au_points.specs.Members.{equal_columns, key_row, point_rows}
 use Rattle.au_rwpoints.specs.Gives.{Members, Points}
 use Rattle.au_rwpoints.specs.RowPlans.{key_plan}
 use Rattle.au_rwpoints.proofs.EqualColumns.{members_kind}

@@ -7,10 +7,9 @@ use Rattle.au_value.specs.declared.kinds.Kind.TheVariants as kind
 use Rattle.au_value.specs.declared.value.Value.{Value}
 use Rattle.au_value.specs.declared.value.Value.TheVariants.{Int}
 use Rattle.au_value.specs.Ranges.{IsRangeOf, Span, all_certain, certain, guesses}
-use Rattle.au_annot.specs.Triples.{Counts}
 use Rattle.au_expr.specs.Ordinary as on_values
 use Rattle.au_algebra.specs.Bounded.{RangeRow, Bounded}
-use Rattle.au_algebra.specs.Laws.{IsRangeRow, IsRelation}
+use Rattle.au_algebra.specs.Laws.{IsRangeRow}
 use Rattle.au_algebra.specs.Ordinary.{Rows}
 use Rattle.au_algebra.proofs.KeptByGroup.{take_ranges}
 use Rattle.au_plain.specs.PTerms.{PTerm}

@@ -1,11 +1,10 @@
 -- The rows with unsure keys as a plan.
-use Rattle.std.specs.Prelude.{◌≡◌, ◌≤◌, ℕ, zero, suc, Bool, true, false, not, cond, List, [], ◌∷◌, filter, flat_map, length, map, take, Some, ℤ}
+use Rattle.std.specs.Prelude.{◌≡◌, ◌≤◌, ℕ, zero, suc, Bool, true, false, not, cond, List, [], ◌∷◌, filter, length, take, ℤ}
 use Rattle.std.specs.List.{AllByRecursion}
 use Rattle.std.proofs.Common.{arith, refl, sym, ◌∙◌, ap, subst}
 use Rattle.std.proofs.lemmas.List.{append-nil, length-take-le}
 use Rattle.au_value.specs.declared.kinds.Kind.{Kind}
 use Rattle.au_value.specs.declared.kinds.Kind.TheVariants as kind
-use Rattle.au_value.specs.declared.value.Value.{Value}
 use Rattle.au_value.specs.declared.value.Value.TheVariants as value
 use Rattle.au_value.specs.Ranges.{IsRangeOf, Span, all_certain}
 use Rattle.au_expr.specs.Figures.{Fit}
@@ -15,10 +14,10 @@ use Rattle.au_algebra.specs.Bounded.{RangeRow, Bounded}
 use Rattle.au_algebra.specs.Laws.{IsRangeRow, IsRelation}
 use Rattle.au_algebra.specs.Ordinary.{Rows}
 use Rattle.au_algebra.proofs.Each.{all_filter}
-use Rattle.au_plain.specs.Meaning.{passes, plain_rows}
+use Rattle.au_plain.specs.Meaning.{passes}
 use Rattle.au_plain.specs.PTerms.{PTerm, Not, plain_value}
 use Rattle.au_plain.specs.PlanKinds.{FitTables, plain_kind}
-use Rattle.au_plain.specs.PlanNumbers.{plan_numbers, term_numbers}
+use Rattle.au_plain.specs.PlanNumbers.{term_numbers}
 use Rattle.au_plain.specs.Plans.{PlanTree, Filter}
 use Rattle.au_encode.specs.Encode.{encode, encode_row, encoded_kinds}
 use Rattle.au_encode.specs.Gives.{Gives}

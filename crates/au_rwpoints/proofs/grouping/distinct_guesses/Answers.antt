@@ -1,5 +1,5 @@
 -- The rows are those of the definition.
-use Rattle.std.proofs.Common.{◌≡◌, ◌≤◌, ◌∙◌, ap, subst}
+use Rattle.std.proofs.Common.{◌≤◌, ◌∙◌, ap, subst}
 use Rattle.au_plain.specs.Plans.{plan_tree}
 use Rattle.au_plain.specs.PlanNumbers.{scans}
 use Rattle.au_rwgroup.specs.Gives.{Distincts}

@@ -1,9 +1,8 @@
 -- The condition is the definition's.
-use Rattle.std.proofs.Common.{◌≡◌, subst}
+use Rattle.std.proofs.Common.{subst}
 use Rattle.std.proofs.lemmas.Result.{IfOk-at_ok}
 use Rattle.au_expr.specs.Terms.{term}
 use Rattle.au_plain.specs.Plans.{plan_tree}
-use Rattle.au_points.specs.Members.{equal_columns}
 use Rattle.au_rwcore.specs.Gives.{Selects}
 use Rattle.au_rwpoints.proofs.pairing.with_equal_keys.Goals as goal
 
