@@ -11,7 +11,7 @@ use crate::row_plans::{guess_rows, other_rows};
 use au_algebra::Agg;
 use au_plain::{Layout, Plan, copy_plan};
 use au_rwcore::union;
-use au_rwgroup::{distinct as distinct_of, group as group_of};
+use au_rwgroup::{Folding, distinct as distinct_of, group as group_of};
 use au_value::{NoMemory, beside, both};
 use std::alloc::Global;
 
@@ -55,7 +55,14 @@ fn point_groups(
 {
     let (wide, with_members) = beside(joined_layout(keys, layout), with_members)?;
     let (moved, with_members) = beside(behind(alloc, keys, aggs), with_members)?;
-    let plan = group_of(alloc, with_members, keys, moved.as_slice(), &wide)?;
+    let plan = group_of(
+        alloc,
+        with_members,
+        keys,
+        moved.as_slice(),
+        Folding::EqualKeys,
+        &wide,
+    )?;
     Ok(plan)
 }
 
@@ -112,7 +119,7 @@ fn other_groups(
     ensures scans { IfOk result (λ p. scans (plan_tree p) ≤ 2 * scans (plan_tree of)) }
 {
     let rows = other_rows(alloc, of, layout.columns, keys)?;
-    let plan = group_of(alloc, rows, keys, aggs, layout)?;
+    let plan = group_of(alloc, rows, keys, aggs, Folding::EqualKeys, layout)?;
     Ok(plan)
 }
 
