@@ -55,6 +55,7 @@ fn read(rows: &[Row])
     ensures { AllByRecursion (λ r. IsTriple r.1 × r.1.most < 2 ^ 127) rows.now }
 {
     for row in rows {
+        // Read for the proof alone: a count lies in its range.
         let _fits = row.1.most();
     }
 }
@@ -81,6 +82,7 @@ fn merged(alloc: Global, rows: Vec<Row>) -> Result<Rel<Range, Triple>, EvalFault
     let Some(mut current) = rest.next() else {
         return Ok(Rel { rows: done });
     };
+    // Read for the proof alone: a count lies in its range.
     let _fits = current.1.most();
     for row in rest {
         current = step(&mut done, current, row)?;
@@ -106,6 +108,7 @@ fn step(done: &mut Vec<Row>, current: Row, row: Row) -> Result<Row, EvalFault>
             Err(Overflow) => Err(EvalFault::Overflow),
         }
     } else {
+        // Read for the proof alone: a count lies in its range.
         let _fits = row.1.most();
         match done.push(current) {
             Ok(()) => Ok(row),
@@ -121,10 +124,13 @@ fn sum(a: Triple, b: Triple) -> Result<Triple, Overflow>
     ensures fits { IfOk result (λ t. t.most < 2 ^ 127) }
     ensures overflow { OnErr result (2 ^ 127 ≤ a.most + b.most) }
 {
+    // Read for the proof alone: a count lies in its range.
     let _first = a.most();
+    // Read for the proof alone: a count lies in its range.
     let _second = b.most();
     match a.plus(b) {
         Ok(sum) => {
+            // Read for the proof alone: a count lies in its range.
             let _fits = sum.most();
             Ok(sum)
         }

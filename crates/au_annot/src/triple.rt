@@ -51,6 +51,7 @@ impl Triple {
         ensures fits { self.least < 2 ^ 127 }
     {
         let least = self.least;
+        // Read for the proof alone: a count lies in its range.
         let _fits = least.get();
         least
     }
@@ -62,6 +63,7 @@ impl Triple {
         ensures fits { self.guess < 2 ^ 127 }
     {
         let guess = self.guess;
+        // Read for the proof alone: a count lies in its range.
         let _fits = guess.get();
         guess
     }
@@ -73,6 +75,7 @@ impl Triple {
         ensures fits { self.most < 2 ^ 127 }
     {
         let most = self.most;
+        // Read for the proof alone: a count lies in its range.
         let _fits = most.get();
         most
     }

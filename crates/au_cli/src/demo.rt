@@ -71,7 +71,7 @@ fn generated<R: Threads + Sync>(
 }
 
 // The table under its name.
-fn named(alloc: Global, table: Table) -> Result<Vec<(Word, Table)>, NoMemory>
+fn demo_tables(alloc: Global, table: Table) -> Result<Vec<(Word, Table)>, NoMemory>
     ensures { IfOk result (λ ts. ts.items ≡ (demo_name, table) ∷ []) }
 {
     let name = Word::new(String::from_str(alloc, NAME)?);
@@ -107,7 +107,7 @@ fn answered<R: Threads + Sync, G: Gate + Sync>(
     ensures holds { IfOk result (λ a. RowsHold ((demo_name, table) ∷ []) (statement_tree statement.now) a.rows) }
     ensures overflow { result ≡ Err EvalFault.Overflow → answer_fits false ((demo_name, table) ∷ []) (statement_tree statement.now) ≡ false }
 {
-    let tables = match named(alloc, table) {
+    let tables = match demo_tables(alloc, table) {
         Ok(tables) => tables,
         Err(NoMemory) => return Err(EvalFault::NoMemory),
     };

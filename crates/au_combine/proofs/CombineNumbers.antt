@@ -30,7 +30,7 @@ use Rattle.au_encode.proofs.Decoded.{cells_length}
 use Rattle.au_combine.specs.Boxes.{sg_places, box_aggs, combine_plan}
 use Rattle.au_rwexpr.proofs.Places.{At, Ends}
 use Rattle.au_rwexpr.proofs.Picks.{coded_cells, coded_triple}
-use Rattle.au_rwexpr.proofs.Gives.{Gives}
+use Rattle.au_rwexpr.proofs.Gives.{GivesEncoded}
 use Rattle.au_rwexpr.proofs.Coded.{rl, rs, rh, cl, cg, cm}
 use Rattle.au_combine.proofs.BoxRows.{keys_are}
 use Rattle.au_combine.proofs.Grouping.{numbers_made}
@@ -80,7 +80,7 @@ module _ (ks : List Kind) where
       ∙ sym (flat_map-map triple_of (λ key. merged (guessing key rows)) all)
 
   -- Combine's plan adds no number that does not fit.
-  pub combine_fits : (ts : List Rows) (p : PlanTree) (rows : Bounded) → IsRelation ks rows → Gives ts p rows → Fit (triple_numbers (bounded.combine rows)) → Fit (plan_numbers p ts) → Fit (plan_numbers (combine_plan c p) ts)
+  pub combine_fits : (ts : List Rows) (p : PlanTree) (rows : Bounded) → IsRelation ks rows → GivesEncoded ts p rows → Fit (triple_numbers (bounded.combine rows)) → Fit (plan_numbers p ts) → Fit (plan_numbers (combine_plan c p) ts)
   combine_fits ts p rows ok g f np =
       let aggs = box_aggs 0 c ++ sums in
       fit_both (plan_numbers p ts) (group_numbers (sg_places 0 c) aggs (plain_rows p ts)) np

@@ -24,7 +24,7 @@ use Rattle.au_encode.proofs.Decoded.{cells_length}
 use Rattle.au_combine.specs.Boxes.{combine_plan}
 use Rattle.au_rwexpr.proofs.Places.{At, Ends}
 use Rattle.au_rwexpr.proofs.Picks.{coded_cells, coded_triple}
-use Rattle.au_rwexpr.proofs.Gives.{Gives, map-map}
+use Rattle.au_rwexpr.proofs.Gives.{GivesEncoded, map-map}
 use Rattle.au_combine.proofs.BoxRows.{boxes_rows}
 use Rattle.au_rwexpr.proofs.Coded.{rl, rs, rh, cl, cg, cm}
 
@@ -61,7 +61,7 @@ module _ (ks : List Kind) where
       ∷ []
 
   -- Combine's plan gives the rows of the bounded combine.
-  pub combine_gives : (ts : List Rows) (p : PlanTree) (rows : Bounded) → IsRelation ks rows → Gives ts p rows → Gives ts (combine_plan c p) (bounded.combine rows)
+  pub combine_gives : (ts : List Rows) (p : PlanTree) (rows : Bounded) → IsRelation ks rows → GivesEncoded ts p rows → GivesEncoded ts (combine_plan c p) (bounded.combine rows)
   combine_gives ts p rows ok g =
       boxes_rows (IsRangeRow ks) encode_row (λ r. r.cells) c (λ r v. coded_cells rl rs rh cl cg cm c r.cells r.annot (cells_length IsRangeOf ks r.cells v.cells))
       (λ r v. cells_length IsRangeOf ks r.cells v.cells) sums ts p rows ok g

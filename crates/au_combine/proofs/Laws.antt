@@ -8,7 +8,7 @@ use Rattle.au_algebra.specs.Fits.{triple_numbers}
 use Rattle.au_algebra.proofs.DifferenceRelation.{combine_relation}
 use Rattle.au_plain.specs.Plans.{PlanTree}
 use Rattle.au_plain.specs.PlanNumbers.{scans}
-use Rattle.au_encode.specs.Gives.{Gives}
+use Rattle.au_encode.specs.Gives.{GivesRelation}
 use Rattle.au_combine.specs.Boxes.{combine_plan}
 use Rattle.au_combine.specs.Gives.{Combines}
 use Rattle.au_combine.proofs.BoxKinds.{combine_kinds}
@@ -19,7 +19,7 @@ module _ (c : ℕ) (of p : PlanTree) (is : p ≡ combine_plan c of) where
   combine_as_is : Combines c of (combine_plan c of)
   combine_as_is kinds tables ks rows ns long g =
       let own = triple_numbers (bounded.combine rows) in
-      subst (λ n. Gives kinds tables (combine_plan n of) ks (bounded.combine rows) (ns ++ own)) long
+      subst (λ n. GivesRelation kinds tables (combine_plan n of) ks (bounded.combine rows) (ns ++ own)) long
       (record {
         typed = combine_kinds kinds ks of g.typed;
         relation = combine_relation ks rows g.relation;

@@ -15,7 +15,7 @@ use Rattle.au_plain.specs.Plans.{PlanTree}
 use Rattle.au_plain.specs.PlanKinds.{FitRows, FitTables, row_fits}
 use Rattle.au_plain.proofs.Held.{RowFits, rows_fit}
 use Rattle.au_encode.specs.Encode.{encode, encode_cells, encode_counts, encoded_kinds}
-use Rattle.au_encode.specs.Gives.{Gives}
+use Rattle.au_encode.specs.Gives.{GivesRelation}
 
 -- the components of each range fit
 abbrev pub AllFit : List Span → Type 0
@@ -57,6 +57,6 @@ encoded_held (r ∷ rows) h =
 -- the rows of a plan that gives a relation, over tables whose numbers lie in the range
 pub gives_held :
     (kinds : List (List Kind)) (tables : List Rows) (p : PlanTree) (ks : List Kind) (rows : Bounded) (numbers : List ℤ) →
-    Gives kinds tables p ks rows numbers → FitTables tables → Fit numbers → AllFitRows rows
+    GivesRelation kinds tables p ks rows numbers → FitTables tables → Fit numbers → AllFitRows rows
 gives_held kinds tables p ks rows numbers g h f =
     encoded_held rows (subst FitRows g.encoded (rows_fit kinds (encoded_kinds ks) p tables g.typed h (g.fit f)))

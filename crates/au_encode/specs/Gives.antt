@@ -14,7 +14,7 @@ use Rattle.au_encode.specs.Encode.{encode, encoded_kinds}
 -- Over tables of these column kinds and these rows the plan gives a relation with columns `ks`: it is typed, with their
 -- encoded kinds; its rows are the encoded rows of the relation, in its order; and no number that it makes leaves the
 -- range where none of `numbers` does.
-pub record Gives (kinds : List (List Kind)) (tables : List Rows) (p : PlanTree) (ks : List Kind) (rows : Bounded) (numbers : List ℤ) : Type 0 where
+pub record GivesRelation (kinds : List (List Kind)) (tables : List Rows) (p : PlanTree) (ks : List Kind) (rows : Bounded) (numbers : List ℤ) : Type 0 where
   pub typed : plan_kinds kinds p ≡ Some (encoded_kinds ks)
   pub relation : IsRelation ks rows
   pub encoded : plain_rows p tables ≡ encode rows

@@ -31,7 +31,7 @@ mod SliceRuns
 mod StageRuns
 mod StageSteps
 mod Together
-mod Told
+mod AnswerRows
 mod TableRelations
 mod TreeKinds
 mod TreeSizes

@@ -21,7 +21,7 @@ use Rattle.au_algebra.proofs.Items.{and_then_is, chosen_is, some_is}
 use Rattle.au_algebra.proofs.PositiveRelation.{same_kinds_is}
 use Rattle.au_plain.specs.PlanKinds.{FitTables}
 use Rattle.au_plain.specs.Plans.{PlanTree}
-use Rattle.au_encode.specs.Gives.{Gives}
+use Rattle.au_encode.specs.Gives.{GivesRelation}
 use Rattle.au_rwcore.specs.Gives.{Multiplies, Projects, Selects, Unites}
 use Rattle.au_rwdiff.specs.Gives.{Subtracts}
 use Rattle.au_rwgroup.specs.Gives.{Distincts, Groups, Totals}
@@ -41,7 +41,7 @@ typed_kinds kinds q typed = some_kinds (kinds_of kinds q) typed
 -- ---- numbers
 
 -- a plan gives what it gives also where more numbers are to fit
-pub more_numbers : (tk : List (List Kind)) (tables : List Rows) (p : PlanTree) (ks : List Kind) (rows : Bounded) (ms ns : List ℤ) → (Fit ns → Fit ms) → Gives tk tables p ks rows ms → Gives tk tables p ks rows ns
+pub more_numbers : (tk : List (List Kind)) (tables : List Rows) (p : PlanTree) (ks : List Kind) (rows : Bounded) (ms ns : List ℤ) → (Fit ns → Fit ms) → GivesRelation tk tables p ks rows ms → GivesRelation tk tables p ks rows ns
 more_numbers tk tables p ks rows ms ns less g = record { typed = g.typed; relation = g.relation; encoded = g.encoded; fit = λ f. g.fit (less f) }
 
 -- the numbers of a difference hold those of its plan, in which the combined triples stand twice
@@ -63,7 +63,7 @@ Counts C = (p : PlanTree) (c : ℕ) (ks : List Kind) (rows : Bounded) (ns : List
 abbrev pub One : (PlanTree → ℕ → List Kind → Bounded → List ℤ → Type 0) → Type 0
 One C =
     (of made : PlanTree) (c d : ℕ) (ks js : List Kind) (rows out : Bounded) (ms ns : List ℤ) → length js ≡ d →
-    ((tk : List (List Kind)) (tables : List Rows) → FitTables tables → Gives tk tables of ks rows ms → Gives tk tables made js out ns) →
+    ((tk : List (List Kind)) (tables : List Rows) → FitTables tables → GivesRelation tk tables of ks rows ms → GivesRelation tk tables made js out ns) →
     C of c ks rows ms → C made d js out ns
 
 -- and to a plan over two
@@ -71,7 +71,7 @@ abbrev pub Two :
     (PlanTree → ℕ → List Kind → Bounded → List ℤ → Type 0) → (PlanTree → ℕ → List Kind → Bounded → List ℤ → Type 0) → (PlanTree → ℕ → List Kind → Bounded → List ℤ → Type 0) → Type 0
 Two A B C =
     (left right made : PlanTree) (m n d : ℕ) (ks js hs : List Kind) (xs ys zs : Bounded) (ms ns os : List ℤ) → length hs ≡ d →
-    ((tk : List (List Kind)) (tables : List Rows) → FitTables tables → Gives tk tables left ks xs ms → Gives tk tables right js ys ns → Gives tk tables made hs zs os) →
+    ((tk : List (List Kind)) (tables : List Rows) → FitTables tables → GivesRelation tk tables left ks xs ms → GivesRelation tk tables right js ys ns → GivesRelation tk tables made hs zs os) →
     A left m ks xs ms → B right n js ys ns → C made d hs zs os
 
 -- ---- the plan of each operator

@@ -24,7 +24,7 @@ use Rattle.au_blocks.specs.declared.column.Column.{Column}
 use Rattle.au_translate.specs.Headline.{HoldsInEveryWorld}
 use Rattle.au_translate.specs.Translate.{bounded_table}
 use Rattle.au_translate.proofs.BoundedAnswer.{bounded_answer_holds}
-use Rattle.au_engine.specs.Answers.{shown_fits}
+use Rattle.au_engine.specs.Answers.{combined_normal_fits}
 use Rattle.au_engine.proofs.TableRelations.{are_relations}
 
 first_true : (a b : Bool) → (a && b) ≡ true → a ≡ true
@@ -125,7 +125,7 @@ result_fits (Total aggs q) ts h = refl
 
 -- ---- the numbers of the answer
 
-fits_is : (combined : Bool) (q : Tree) (ts : List Bounded) → fits combined q ts ≡ (fit (numbers q ts) && shown_fits combined (bounded q ts))
+fits_is : (combined : Bool) (q : Tree) (ts : List Bounded) → fits combined q ts ≡ (fit (numbers q ts) && combined_normal_fits combined (bounded q ts))
 unfolding fit
 fits_is true q ts =
     let rows = combine (bounded q ts) in
@@ -137,21 +137,21 @@ fits_is false q ts =
     ∙ ap (λ b. list_all is_i128 (numbers q ts) && b) (list_all-append is_i128 (triple_numbers rows) (triple_numbers (normal rows)))
 
 pub answer_fits : (combined : Bool) (q : Tree) (ts : List Bounded) → list_all is_i128 (numbers q ts) ≡ true
-    → (triples_fit (bounded q ts) ≡ true → shown_fits combined (bounded q ts) ≡ true) → fits combined q ts ≡ true
+    → (triples_fit (bounded q ts) ≡ true → combined_normal_fits combined (bounded q ts) ≡ true) → fits combined q ts ≡ true
 unfolding fit
 answer_fits combined q ts h shown =
-    fits_is combined q ts ∙ both_true (list_all is_i128 (numbers q ts)) (shown_fits combined (bounded q ts)) h (shown (result_fits q ts h))
+    fits_is combined q ts ∙ both_true (list_all is_i128 (numbers q ts)) (combined_normal_fits combined (bounded q ts)) h (shown (result_fits q ts h))
 
 pub evaluation_overflows : (combined : Bool) (q : Tree) (ts : List Bounded) → list_all is_i128 (numbers q ts) ≡ false → fits combined q ts ≡ false
 unfolding fit
-evaluation_overflows combined q ts h = fits_is combined q ts ∙ ap (λ b. b && shown_fits combined (bounded q ts)) h
+evaluation_overflows combined q ts h = fits_is combined q ts ∙ ap (λ b. b && combined_normal_fits combined (bounded q ts)) h
 
 second_false : (a b : Bool) → b ≡ false → (a && b) ≡ false
 second_false true b e = e
 second_false false b e = refl
 
-pub showing_overflows : (combined : Bool) (q : Tree) (ts : List Bounded) → shown_fits combined (bounded q ts) ≡ false → fits combined q ts ≡ false
-showing_overflows combined q ts h = fits_is combined q ts ∙ second_false (fit (numbers q ts)) (shown_fits combined (bounded q ts)) h
+pub showing_overflows : (combined : Bool) (q : Tree) (ts : List Bounded) → combined_normal_fits combined (bounded q ts) ≡ false → fits combined q ts ≡ false
+showing_overflows combined q ts h = fits_is combined q ts ∙ second_false (fit (numbers q ts)) (combined_normal_fits combined (bounded q ts)) h
 
 pub normal_overflows : (combined : Bool) (q : Tree) (ts : List Bounded) → triples_fit (bounded_answer combined q ts) ≡ false → fits combined q ts ≡ false
 normal_overflows combined q ts h =

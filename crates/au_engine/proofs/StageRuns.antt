@@ -20,7 +20,7 @@ use Rattle.au_physical.specs.PhysicalNumbers.{physical_numbers}
 use Rattle.au_physical.specs.Physicals.{PhysicalTree}
 use Rattle.au_plan.proofs.UpToOrder.{all_same}
 use Rattle.au_encode.specs.Encode.{encode, encoded_kinds}
-use Rattle.au_encode.specs.Gives.{Gives}
+use Rattle.au_encode.specs.Gives.{GivesRelation}
 use Rattle.au_engine.specs.Inputs.{StandsReady}
 use Rattle.au_engine.specs.Stages.{Adds, CanRunPlan, FindsRows, GivesOver, LeavesRange, SameRows}
 use Rattle.au_engine.proofs.HeldRows.{physical_fit}
@@ -52,12 +52,12 @@ module _ (held : List Rows) (p : PlanTree) (c : ℕ) (ks : List Kind) (rows : Bo
   held_kinds = same_kinds own.kinds held own.tables own.same own.typed
 
   module _ (held_fit : FitTables held) where
-    here : Gives own.kinds own.tables p ks rows ns
+    here : GivesRelation own.kinds own.tables p ks rows ns
     here =
         let t : own.tables ++ [] ≡ own.tables = append-nil own.tables in
         let k : own.kinds ++ [] ≡ own.kinds = append-nil own.kinds in
-        subst (λ tk. Gives tk own.tables p ks rows ns) k
-        (subst (λ ts. Gives (own.kinds ++ []) ts p ks rows ns) t (own.gives [] [] [] [] refl refl (subst FitTables (sym t) (same_fits held own.tables own.same held_fit))))
+        subst (λ tk. GivesRelation tk own.tables p ks rows ns) k
+        (subst (λ ts. GivesRelation (own.kinds ++ []) ts p ks rows ns) t (own.gives [] [] [] [] refl refl (subst FitTables (sym t) (same_fits held own.tables own.same held_fit))))
 
     -- it gives a relation
     pub adds_relation : IsRelation ks rows

@@ -10,7 +10,7 @@ use Rattle.au_algebra.specs.Ordinary.{Rows}
 use Rattle.au_plain.specs.PlanKinds.{FitTables, HaveKinds}
 use Rattle.au_plain.specs.Plans.{PlanTree, Scan}
 use Rattle.au_encode.specs.Encode.{encode, encoded_kinds}
-use Rattle.au_encode.specs.Gives.{Gives}
+use Rattle.au_encode.specs.Gives.{GivesRelation}
 use Rattle.au_encode.proofs.EncodedKinds.{rows_have_kinds}
 use Rattle.au_rwexpr.proofs.Filled.{scan_gives as scanned}
 use Rattle.au_expr.specs.Figures.{Fit}
@@ -47,14 +47,14 @@ right_group xs ys zs us = ap (λ l. l ++ us) (append_assoc xs ys zs)
 -- ---- a plan over tables
 
 -- a plan gives the same over the same tables
-moved : (p : PlanTree) (ks : List Kind) (rows : Bounded) (ns : List ℤ) (tk uk : List (List Kind)) (ts us : List Rows) → tk ≡ uk → ts ≡ us → Gives tk ts p ks rows ns → Gives uk us p ks rows ns
-moved p ks rows ns tk uk ts us e f g = subst (λ hs. Gives uk hs p ks rows ns) f (subst (λ hs. Gives hs ts p ks rows ns) e g)
+moved : (p : PlanTree) (ks : List Kind) (rows : Bounded) (ns : List ℤ) (tk uk : List (List Kind)) (ts us : List Rows) → tk ≡ uk → ts ≡ us → GivesRelation tk ts p ks rows ns → GivesRelation uk us p ks rows ns
+moved p ks rows ns tk uk ts us e f g = subst (λ hs. GivesRelation uk hs p ks rows ns) f (subst (λ hs. GivesRelation hs ts p ks rows ns) e g)
 
 -- the Scan of rows that were put behind others
 module _ (old new : List Rows) (found : Rows) (behind : new ≡ old ++ found ∷ []) (c : ℕ) (ks : List Kind) (rows : Bounded) (long : length ks ≡ c) (relation : IsRelation ks rows) (same : SameRows found (encode rows)) where
   scan_gives :
       (ns : List ℤ) (front back : List (List Kind)) (before after : List Rows) → length front ≡ length old → length before ≡ length old →
-      Gives ((front ++ encoded_kinds ks ∷ []) ++ back) ((before ++ encode rows ∷ []) ++ after) (Scan (length old) (3 * length ks + 3)) ks rows ns
+      GivesRelation ((front ++ encoded_kinds ks ∷ []) ++ back) ((before ++ encode rows ∷ []) ++ after) (Scan (length old) (3 * length ks + 3)) ks rows ns
   scan_gives ns front back before after fn bn =
       let tk = (front ++ encoded_kinds ks ∷ []) ++ back in
       let tables = (before ++ encode rows ∷ []) ++ after in
@@ -75,7 +75,7 @@ module _ (old new : List Rows) (found : Rows) (behind : new ≡ old ++ found ∷
           typed = (rows_have_kinds ks rows relation, tt);
           same = (same, tt);
           gives = λ front back before after fn bn ft.
-              subst (λ q. Gives ((front ++ encoded_kinds ks ∷ []) ++ back) ((before ++ encode rows ∷ []) ++ after) q ks rows ns) (sym scan)
+              subst (λ q. GivesRelation ((front ++ encoded_kinds ks ∷ []) ++ back) ((before ++ encode rows ∷ []) ++ after) q ks rows ns) (sym scan)
               (scan_gives ns front back before after fn bn);
         };
       }
@@ -83,7 +83,7 @@ module _ (old new : List Rows) (found : Rows) (behind : new ≡ old ++ found ∷
 -- an operator over one input
 pub one_adds :
     (old new : List Rows) (of made : PlanTree) (c d : ℕ) (ks js : List Kind) (rows out : Bounded) (ms ns : List ℤ) → length js ≡ d →
-    ((tk : List (List Kind)) (tables : List Rows) → FitTables tables → Gives tk tables of ks rows ms → Gives tk tables made js out ns) →
+    ((tk : List (List Kind)) (tables : List Rows) → FitTables tables → GivesRelation tk tables of ks rows ms → GivesRelation tk tables made js out ns) →
     Adds old new of c ks rows ms → Adds old new made d js out ns
 one_adds old new of made c d ks js rows out ms ns long step a = record {
   added = a.added;
@@ -100,7 +100,7 @@ one_adds old new of made c d ks js rows out ms ns long step a = record {
 }
 
 -- an operator over two inputs
-module _ (left right made : PlanTree) (ks js hs : List Kind) (xs ys zs : Bounded) (ms ns os : List ℤ) (step : (tk : List (List Kind)) (tables : List Rows) → FitTables tables → Gives tk tables left ks xs ms → Gives tk tables right js ys ns → Gives tk tables made hs zs os) where
+module _ (left right made : PlanTree) (ks js hs : List Kind) (xs ys zs : Bounded) (ms ns os : List ℤ) (step : (tk : List (List Kind)) (tables : List Rows) → FitTables tables → GivesRelation tk tables left ks xs ms → GivesRelation tk tables right js ys ns → GivesRelation tk tables made hs zs os) where
   two_over : (n : ℕ) (L R : List Rows) → GivesOver n L left ks xs ms → GivesOver (n + length L) R right js ys ns → GivesOver n (L ++ R) made hs zs os
   two_over n L R g h = record {
     kinds = g.kinds ++ h.kinds;

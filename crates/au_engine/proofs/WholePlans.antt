@@ -19,7 +19,7 @@ use Rattle.au_algebra.proofs.TreeRelation.{tree_relation}
 use Rattle.au_plain.specs.PlanKinds.{FitTables, HaveKinds, plan_kinds}
 use Rattle.au_plain.specs.Plans.{PlanTree, Scan}
 use Rattle.au_encode.specs.Encode.{encode, encoded_kinds}
-use Rattle.au_encode.specs.Gives.{Gives}
+use Rattle.au_encode.specs.Gives.{GivesRelation}
 use Rattle.au_encode.proofs.EncodedKinds.{rows_have_kinds}
 use Rattle.au_split.specs.Reorders.{Reorders}
 use Rattle.au_rwexpr.proofs.Filled.{wide_enough}
@@ -48,7 +48,7 @@ schema_at schemas i s within is =
 module _ (kinds : List (List Kind)) (ts : List Bounded) (ok : AreEncodable kinds ts) where
   -- what a plan gives over the encoded tables
   abbrev pub Knows : PlanTree → ℕ → List Kind → Bounded → List ℤ → Type 0
-  Knows p c ks rows ns = (length ks ≡ c) × Gives (map encoded_kinds kinds) (map encode ts) p ks rows ns
+  Knows p c ks rows ns = (length ks ≡ c) × GivesRelation (map encoded_kinds kinds) (map encode ts) p ks rows ns
 
   pub counts_known : Counts Knows
   counts_known p c ks rows ns k = k.0
@@ -73,13 +73,13 @@ module _ (kinds : List (List Kind)) where
       let known : length ks ≡ c = sym (ap length same) ∙ long in
       let found : slice_get tk i ≡ Some (encoded_kinds ks) = slice_get-map encoded_kinds kinds i ∙ ap (option_map encoded_kinds) typed in
       let scan : p ≡ Scan i (3 * length ks + 3) = is ∙ ap (λ n. Scan i (3 * n + 3)) (sym known) in
-      let gives : Gives tk tables (Scan i (3 * length ks + 3)) ks (tree_rows None (Table i) ts) (tree_numbers None (Table i) ts) = record {
+      let gives : GivesRelation tk tables (Scan i (3 * length ks + 3)) ks (tree_rows None (Table i) ts) (tree_numbers None (Table i) ts) = record {
         typed = ap (option_and_then (λ js. kinds_if (length js == 3 * length ks + 3) js)) found ∙ wide_enough ks;
         relation = tree_relation kinds ts ok.relations (Table i) ks typed;
         encoded = ap (λ o. unwrap_or o []) (slice_get-map encode ts i) ∙ scanned (slice_get ts i);
         fit = λ f. refl;
       } in
-      (known ∙ sym wide, subst (λ (plan : PlanTree). Gives tk tables plan ks (tree_rows None (Table i) ts) (tree_numbers None (Table i) ts)) (sym scan) gives)
+      (known ∙ sym wide, subst (λ (plan : PlanTree). GivesRelation tk tables plan ks (tree_rows None (Table i) ts) (tree_numbers None (Table i) ts)) (sym scan) gives)
 
   module _ (q : Tree) (of made : PlanTree) (c d : ℕ) (part : GivesTree kinds q of c) where
     pub select_whole : (e : Term) → d ≡ c → Selects c e of made → GivesTree kinds (Select e q) made d

@@ -21,7 +21,7 @@ use Rattle.au_blocks.specs.Tables.{BlockTable, IsBlockTable, column_kinds}
 use Rattle.au_algebra.specs.Bounded.{Bounded}
 use Rattle.au_algebra.proofs.Each.{all_filter}
 use Rattle.au_algebra.proofs.Extremes.{greatest_among, least_among}
-use Rattle.au_translate.specs.Translate.{block_row, bounded_table, high_at, low_at, ranges_of, shown, span_in, triple_of}
+use Rattle.au_translate.specs.Translate.{block_row, bounded_table, high_at, low_at, ranges_of, marked_or_first, span_in, triple_of}
 use Rattle.au_translate.proofs.BlockRelation.{table_relation, triple_order}
 use Rattle.au_plain.specs.PlanKinds.{FitRows, row_fits}
 use Rattle.au_encode.specs.Encode.{encode, encode_cells, encode_counts, encode_row, encoded_kinds, triple_kinds}
@@ -94,7 +94,7 @@ chosen_written (a ∷ cs) (suc i) h = chosen_written cs i h.1
 
 ranges_written : (b : Choices) → 0 < length b.alternatives → IsWritableBlock b → AllEnds (ranges_of b)
 ranges_written b some h =
-    spans_written b.alternatives h some 0 (guesses (shown b).cells) (guesses_written (shown b).cells (chosen_written b.alternatives (unwrap_or b.guess 0) h))
+    spans_written b.alternatives h some 0 (guesses (marked_or_first b).cells) (guesses_written (marked_or_first b).cells (chosen_written b.alternatives (unwrap_or b.guess 0) h))
 
 -- ---- its numbers of copies
 

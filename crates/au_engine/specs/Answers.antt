@@ -126,5 +126,5 @@ RowsCause fit engine.Overflow = fit ≡ false
 RowsCause fit _ = ⊥
 
 -- whether the triples of rows fit as they are shown: combined where that is asked for, and in their normal form
-abbrev pub shown_fits : Bool → Bounded → Bool
-shown_fits combined rows = let shown = if combined then combine rows else rows in triples_fit shown && triples_fit (normal shown)
+abbrev pub combined_normal_fits : Bool → Bounded → Bool
+combined_normal_fits combined rows = let shown = if combined then combine rows else rows in triples_fit shown && triples_fit (normal shown)

@@ -14,7 +14,7 @@ use Rattle.au_plain.specs.PlanKinds.{FitTables, plan_kinds}
 use Rattle.au_plain.specs.PlanNumbers.{plan_numbers}
 use Rattle.au_plain.specs.Plans.{PlanTree}
 use Rattle.au_encode.specs.Encode.{encode, encoded_kinds}
-use Rattle.au_encode.specs.Gives.{Gives}
+use Rattle.au_encode.specs.Gives.{GivesRelation}
 use Rattle.au_engine.specs.Compressing.{tree_numbers, tree_rows}
 
 -- relations of these columns, whose whole numbers lie between -2^127 and 2^127 - 1 where they are encoded
@@ -34,4 +34,4 @@ pub record IsPlanOf (kinds : List (List Kind)) (q : Tree) (p : PlanTree) : Type 
 abbrev pub GivesTree : List (List Kind) → Tree → PlanTree → ℕ → Type 0
 GivesTree kinds q p c =
     (ts : List Bounded) (ks : List Kind) → AreEncodable kinds ts → kinds_of kinds q ≡ Some ks →
-    (length ks ≡ c) × Gives (map encoded_kinds kinds) (map encode ts) p ks (tree_rows None q ts) (tree_numbers None q ts)
+    (length ks ≡ c) × GivesRelation (map encoded_kinds kinds) (map encode ts) p ks (tree_rows None q ts) (tree_numbers None q ts)

@@ -18,7 +18,7 @@ use Rattle.au_plain.specs.PlanKinds.{FitTables, HaveKinds}
 use Rattle.au_plain.specs.Plans.{PlanTree}
 use Rattle.au_combine.specs.Gives.{Combines}
 use Rattle.au_encode.specs.Encode.{decode, encode}
-use Rattle.au_encode.specs.Gives.{Gives}
+use Rattle.au_encode.specs.Gives.{GivesRelation}
 use Rattle.au_engine.specs.Compressing.{tree_numbers, tree_rows}
 
 -- two lists have the same rows, each equally often
@@ -35,7 +35,7 @@ pub record GivesOver (n : ℕ) (held : List Rows) (p : PlanTree) (ks : List Kind
   pub same : AllZip SameRows held tables
   pub gives :
       (front back : List (List Kind)) (before after : List Rows) → length front ≡ n → length before ≡ n → FitTables ((before ++ tables) ++ after) →
-      Gives ((front ++ kinds) ++ back) ((before ++ tables) ++ after) p ks rows ns
+      GivesRelation ((front ++ kinds) ++ back) ((before ++ tables) ++ after) p ks rows ns
 
 -- Tables were put behind others, and over them a plan gives a relation of `c` columns.
 pub record Adds (old new : List Rows) (p : PlanTree) (c : ℕ) (ks : List Kind) (rows : Bounded) (ns : List ℤ) : Type 0 where

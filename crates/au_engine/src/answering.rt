@@ -13,7 +13,7 @@ ghost use Rattle.au_algebra.specs.Fits.{numbers, triples_fit};
 ghost use Rattle.au_value.specs.declared.kinds.Kind.{Kind};
 ghost use Rattle.au_value.specs.Order.{data_kind};
 ghost use Rattle.au_value.specs.Numeral.{is_i128};
-ghost use Rattle.au_engine.specs.Answers.{AnswerCause, RowsCause, RowsHold, blocks_of, shown_fits, tree_answer, tree_asked, tree_asked_fits, tree_answer_fits, answer_fits, answer_kinds, answer_names, answer_rows as answer_rows_of, asked_fits, asked_rows, statement_defects};
+ghost use Rattle.au_engine.specs.Answers.{AnswerCause, RowsCause, RowsHold, blocks_of, combined_normal_fits, tree_answer, tree_asked, tree_asked_fits, tree_answer_fits, answer_fits, answer_kinds, answer_names, answer_rows as answer_rows_of, asked_fits, asked_rows, statement_defects};
 ghost use Rattle.au_engine.specs.Compressing.{IsCompression};
 
 use crate::faults::EngineFault;
@@ -21,7 +21,7 @@ use crate::options::Options;
 use crate::runner::Runner;
 use crate::running::evaluated_by_plan;
 use crate::tables::bounded_tables;
-use crate::typing::{named, resolved};
+use crate::typing::{names_and_kinds, resolved};
 use au_algebra::{Query, Rel, normal};
 use au_annot::Triple;
 use au_blocks::Table;
@@ -66,7 +66,7 @@ pub fn answer<R: Threads + Sync, G: Gate + Sync>(
     };
     let runner = Runner::new(rt, options.workers, gate);
     let rows = planned_rows(&runner, alloc, &typed.query, tables, options);
-    match told(typed, rows) {
+    match answer_of_rows(typed, rows) {
         Ok(answer) => Ok(answer),
         Err(fault) => Err(fault),
     }
@@ -96,20 +96,23 @@ pub fn answer_directly(
         Err(fault) => return Err(fault),
     };
     let rows = direct_rows(alloc, &typed.query, tables, combine);
-    match told(typed, rows) {
+    match answer_of_rows(typed, rows) {
         Ok(answer) => Ok(answer),
         Err(fault) => Err(fault),
     }
 }
 
 // What is answered of a typed tree with these rows.
-fn told(typed: Typed, rows: Result<Rel<Range, Triple>, EvalFault>) -> Result<Answer, EngineFault>
+fn answer_of_rows(
+    typed: Typed,
+    rows: Result<Rel<Range, Triple>, EvalFault>,
+) -> Result<Answer, EngineFault>
     ensures names { IfOk result (λ a. a.names.items ≡ typed.names.items) }
     ensures kinds { IfOk result (λ a. a.kinds.items ≡ typed.kinds.items) }
     ensures rows { IfOk result (λ a. rows ≡ Ok a.rows) }
     ensures refused { (fit : Bool) → (rows ≡ Err EvalFault.Overflow → fit ≡ false) → IfErr result (RowsCause fit) }
 {
-    match beside(rows, named(typed)) {
+    match beside(rows, names_and_kinds(typed)) {
         Ok(parts) => {
             let (rows, columns) = parts;
             let (names, kinds) = columns;
@@ -159,7 +162,7 @@ fn direct_rows(
         Ok(rows) => rows,
         Err(fault) => return Err(fault),
     };
-    match shown(alloc, rows, combined) {
+    match combined_normal(alloc, rows, combined) {
         Ok(answer) => Ok(answer),
         Err(fault) => Err(fault),
     }
@@ -184,15 +187,15 @@ fn evaluated_directly(
 }
 
 // Rows as they are shown: combined where that is asked for, and in their normal form.
-fn shown(
+fn combined_normal(
     alloc: Global,
     rows: Rel<Range, Triple>,
     combined: bool,
 ) -> Result<Rel<Range, Triple>, EvalFault>
     requires { (ks : List Kind) × IsRelation ks rows }
     ensures rows { IfOk result (λ r. r ≡ normal_of (if combined then combine_of rows else rows)) }
-    ensures fits { OnOk result (triples_fit rows ≡ true → shown_fits combined rows ≡ true) }
-    ensures overflow { result ≡ Err EvalFault.Overflow → shown_fits combined rows ≡ false }
+    ensures fits { OnOk result (triples_fit rows ≡ true → combined_normal_fits combined rows ≡ true) }
+    ensures overflow { result ≡ Err EvalFault.Overflow → combined_normal_fits combined rows ≡ false }
 {
     if !combined {
         return normal(alloc, rows);

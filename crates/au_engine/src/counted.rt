@@ -16,7 +16,7 @@ use crate::counted_steps::{
 };
 use crate::input::Input;
 use crate::runner::Runner;
-use crate::stage::ready;
+use crate::stage::plan_with_rows;
 use au_algebra::Query;
 use au_blocks::Table;
 use au_expr::EvalFault;
@@ -47,7 +47,7 @@ pub(crate) fn counted_rows<R: Threads + Sync, G: Gate + Sync>(
         Ok(counted) => counted,
         Err(NoMemory) => return Err(EvalFault::NoMemory),
     };
-    let (plan, held) = match ready(runner, alloc, counted.plan, inputs) {
+    let (plan, held) = match plan_with_rows(runner, alloc, counted.plan, inputs) {
         Ok(both) => both,
         Err(NoMemory) => return Err(EvalFault::NoMemory),
     };

@@ -101,6 +101,7 @@ pub(crate) fn union_of(
     ensures columns { IfOk result (λ p. p.columns ≡ left.columns) }
     ensures plan { IfOk result (λ p. Unites counts (plan_tree left.plan) (plan_tree right.plan) (plan_tree p.plan)) }
 {
+    // The contract alone speaks of the number of counts.
     let _ = counts;
     let columns = left.columns;
     let plan = union_counted(alloc, left.plan, right.plan)?;

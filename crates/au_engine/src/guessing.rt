@@ -17,7 +17,7 @@ use crate::faults::EngineFault;
 use crate::input::Input;
 use crate::runner::Runner;
 use crate::tables::guessed_tables;
-use crate::typing::{named, resolved};
+use crate::typing::{names_and_kinds, resolved};
 use au_algebra::Rel;
 use au_annot::Count;
 use au_blocks::Table;
@@ -66,7 +66,7 @@ pub fn guess_answer<R: Threads + Sync, G: Gate + Sync>(
     };
     let runner = Runner::new(rt, 1, gate);
     let rows = guess_rows(&runner, alloc, &typed, tables);
-    match beside(rows, named(typed)) {
+    match beside(rows, names_and_kinds(typed)) {
         Ok(parts) => {
             let (rows, columns) = parts;
             let (names, kinds) = columns;
@@ -129,6 +129,7 @@ fn guess_inputs(alloc: Global, tables: &[(Word, Table)]) -> Result<Vec<Input<'_>
 {
     let mut inputs = Vec::with_capacity(alloc, tables.len())?;
     for table in tables {
+        // Read for the proof alone: the columns and the blocks of a table make one.
         let _columns = table.1.columns();
         inputs.push(Input::of_guesses(table.1.blocks()))?;
     }

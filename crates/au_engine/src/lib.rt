@@ -10,8 +10,8 @@
 //!
 //! ```text
 //! let statement = read_query(alloc, "SELECT city FROM orders")?;
-//! let options = Options { combine: false, compress: None };
-//! let answer = answer(alloc, &statement, tables.as_slice(), options)?;
+//! let options = Options { combine: false, workers: 1, compress: None };
+//! let answer = answer(&rt, alloc, &statement, tables.as_slice(), options, NoGate)?;
 //! ```
 //!
 //! It belongs to docs/ARCHITECTURE.md.

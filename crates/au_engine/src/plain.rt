@@ -103,7 +103,7 @@ fn plain_rows<R: Threads + Sync, G: Gate + Sync>(
     ensures kinds { IfOk result (λ rows. (ks : List Kind) → plain_kinds tables.now (plan_tree plan) ≡ Some ks → HaveKinds ks (rows_of rows)) }
     ensures overflow { result ≡ Err EvalFault.Overflow → plain_fits tables.now (plan_tree plan) ≡ false }
 {
-    let (plan, held) = match ready(alloc, plan, tables) {
+    let (plan, held) = match plan_with_guess_rows(alloc, plan, tables) {
         Ok(both) => both,
         Err(NoMemory) => return Err(EvalFault::NoMemory),
     };
@@ -118,7 +118,7 @@ fn plain_rows<R: Threads + Sync, G: Gate + Sync>(
 }
 
 // The physical plan of a plan, and the tables' guess rows.
-fn ready(
+fn plan_with_guess_rows(
     alloc: Global,
     plan: Plan,
     tables: &[(Word, Table)],

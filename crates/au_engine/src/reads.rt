@@ -91,6 +91,7 @@ fn blocks_read<R: Threads + Sync, G: Gate + Sync>(
     ensures reads { IfOk result (λ v. Reads number (encode (bounded_blocks blocks.now)) (rows_of v) (physical_tree plan.old) (physical_tree plan.new)) }
     ensures fit { OnOk result (FitRows (encode (bounded_blocks blocks.now))) }
 {
+    // Read for the proof alone: all numbers lie in their range.
     read_numbers(columns, blocks);
     let kept = narrow_scans(alloc, plan, number)?;
     match kept {

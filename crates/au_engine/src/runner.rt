@@ -1,4 +1,5 @@
-//! Those who run plans and encode tables: so many workers, and the gate that is told of their pieces.
+//! Those who run plans and encode tables: so many workers, and the gate that is told of the pieces in which they join or
+//! group rows.
 ghost use Rattle.std.specs.Prelude.{◌≡◌, ◌≤◌, IfOk, IfErr, false, true, map};
 ghost use Rattle.au_expr.specs.Figures.{fit};
 ghost use Rattle.au_expr.specs.declared.fault.EvalFault.TheVariants as fault;
@@ -32,7 +33,7 @@ use std::thread::Threads;
 // Fewer blocks or rows are worked by one worker: a thread costs more than what it saves on them.
 const FEW: usize = 8192;
 
-/// So many workers, 1 to 64, with the gate that is told of each piece of their work.
+/// So many workers, 1 to 64, with the gate that is told of the pieces in which several of them join or group rows.
 #[derive(Drop)]
 pub(crate) struct Runner<'a, R, G: Gate> {
     rt: &'a R,

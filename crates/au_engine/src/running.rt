@@ -25,7 +25,7 @@ use std::alloc::Global;
 use std::thread::Threads;
 
 // The plan of what is shown: combined rows where that is asked for.
-fn shown(alloc: Global, of: Planned, combined: bool) -> Result<Planned, NoMemory>
+fn combined_plan(alloc: Global, of: Planned, combined: bool) -> Result<Planned, NoMemory>
     ensures columns { IfOk result (λ p. p.layout.columns ≡ of.layout.columns) }
     ensures plan { IfOk result (λ p. Shows combined of.layout.columns (plan_tree of.plan) (plan_tree p.plan)) }
 {
@@ -54,7 +54,7 @@ fn evaluated_at_once<R: Threads + Sync, G: Gate + Sync>(
         Ok(planned) => planned,
         Err(fault) => return Err(fault),
     };
-    let planned = match shown(alloc, planned, options.combine) {
+    let planned = match combined_plan(alloc, planned, options.combine) {
         Ok(planned) => planned,
         Err(NoMemory) => return Err(EvalFault::NoMemory),
     };

@@ -37,7 +37,7 @@ pub(crate) fn run<R: Threads + Sync, G: Gate + Sync>(
     ensures fit { IfOk result (λ found. FitRows (rows_of found)) }
     ensures overflow { result ≡ Err EvalFault.Overflow → LeavesRange inputs.entry.items (plan_tree planned.plan) planned.layout.columns }
 {
-    let (plan, tables) = match ready(runner, alloc, planned.plan, inputs) {
+    let (plan, tables) = match plan_with_rows(runner, alloc, planned.plan, inputs) {
         Ok(both) => both,
         Err(NoMemory) => return Err(EvalFault::NoMemory),
     };
@@ -61,7 +61,7 @@ pub(crate) fn run_decoded<R: Threads + Sync, G: Gate + Sync>(
     ensures overflow { result ≡ Err EvalFault.Overflow → LeavesRange inputs.entry.items (plan_tree planned.plan) planned.layout.columns }
 {
     let columns = planned.layout.columns;
-    let (plan, tables) = match ready(runner, alloc, planned.plan, inputs) {
+    let (plan, tables) = match plan_with_rows(runner, alloc, planned.plan, inputs) {
         Ok(both) => both,
         Err(NoMemory) => return Err(EvalFault::NoMemory),
     };
@@ -72,7 +72,7 @@ pub(crate) fn run_decoded<R: Threads + Sync, G: Gate + Sync>(
 }
 
 /// The physical plan of a plan, and the rows that it reads of its inputs.
-pub(crate) fn ready<R: Threads + Sync, G: Gate + Sync>(
+pub(crate) fn plan_with_rows<R: Threads + Sync, G: Gate + Sync>(
     runner: &Runner<'_, R, G>,
     alloc: Global,
     plan: Plan,

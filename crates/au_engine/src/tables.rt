@@ -49,6 +49,7 @@ pub(crate) fn bounded_tables(
 {
     let mut relations = Vec::new(alloc);
     for table in tables {
+        // Read for the proof alone: the columns and the blocks of a table make one.
         let _columns = table.1.columns();
         relations.push(bounded(alloc, &table.1)?)?;
     }
@@ -65,6 +66,7 @@ pub(crate) fn guessed_tables(
 {
     let mut relations = Vec::new(alloc);
     for table in tables {
+        // Read for the proof alone: the columns and the blocks of a table make one.
         let _columns = table.1.columns();
         relations.push(guessed(alloc, &table.1)?)?;
     }
@@ -81,6 +83,7 @@ pub(crate) fn ua_tables(
 {
     let mut relations = Vec::new(alloc);
     for table in tables {
+        // Read for the proof alone: the columns and the blocks of a table make one.
         let _columns = table.1.columns();
         relations.push(ua_table(alloc, &table.1)?)?;
     }

@@ -43,7 +43,7 @@ pub(crate) fn resolved(
 }
 
 /// The names and the kinds of the columns of a typed tree, which is let go.
-pub(crate) fn named(typed: Typed) -> (Vec<Word>, Vec<Kind>)
+pub(crate) fn names_and_kinds(typed: Typed) -> (Vec<Word>, Vec<Kind>)
     ensures { (result.0 ≡ typed.names) × (result.1 ≡ typed.kinds) }
 {
     (typed.names, typed.kinds)

@@ -1,6 +1,6 @@
 pub mod CutRows
 pub mod Lists
-pub mod Handed
+pub mod PartFaults
 pub mod Parts
 pub mod Progress
 pub mod TermKinds

@@ -58,7 +58,7 @@ impl<G: Gate> Model for Run<G> {
 
 impl<G: Gate + Sync> Run<G> {
     /// A run of a plan that is typed for the tables, before its first batch, by so many workers: 1 to 64. The gate is told
-    /// of each piece of their work as it begins.
+    /// of the pieces in which several of them join or group rows, as they begin.
     pub fn start(
         alloc: Global,
         plan: Physical,

@@ -5,7 +5,7 @@ ghost use Rattle.au_exec.specs.ChainLaws.{cells};
 ghost use Rattle.au_exec.specs.Copies.{copies_apart};
 ghost use Rattle.au_exec.specs.Outcomes.{rows_of};
 
-use crate::pair::{Pair, pairs_of, rows_within};
+use crate::made_row::{MadeRow, made_rows, rows_within};
 use au_expr::EvalFault;
 use au_par::{NoGate, Piece, by_left_rows};
 use au_plain::{PRow, copy_rows};
@@ -16,16 +16,16 @@ use std::thread::Threads;
 // What is done with each row.
 struct Copying;
 
-impl Piece<PRow, Pair> for Copying {
+impl Piece<PRow, MadeRow> for Copying {
     ghost takes = { λ _ _. ⊤ };
 
     ghost results = { λ _ rows. cells rows };
 
     ghost overflows = { λ _ _. false };
 
-    fn work(&self, alloc: Global, rows: &[PRow]) -> Result<Vec<Pair>, EvalFault> {
-        match copied_pairs(alloc, rows) {
-            Ok(pairs) => Ok(pairs),
+    fn work(&self, alloc: Global, rows: &[PRow]) -> Result<Vec<MadeRow>, EvalFault> {
+        match copied_piece(alloc, rows) {
+            Ok(made) => Ok(made),
             Err(NoMemory) => Err(EvalFault::NoMemory),
         }
     }
@@ -51,15 +51,15 @@ pub(crate) fn copied_rows<R: Threads + Sync>(
         return copy_rows(alloc, rows);
     }
     match by_left_rows(rt, alloc, rows, workers, &Copying, &NoGate) {
-        Ok(pairs) => rows_within(alloc, pairs),
+        Ok(made) => rows_within(alloc, made),
         Err(_) => Err(NoMemory),
     }
 }
 
 // Copies of the rows of one piece.
-fn copied_pairs(alloc: Global, rows: &[PRow]) -> Result<Vec<Pair>, NoMemory>
+fn copied_piece(alloc: Global, rows: &[PRow]) -> Result<Vec<MadeRow>, NoMemory>
     ensures { IfOk result (λ v. v.items ≡ map (λ row. row.items) rows.now) }
 {
     let copied = copy_rows(alloc, rows)?;
-    pairs_of(alloc, copied)
+    made_rows(alloc, copied)
 }

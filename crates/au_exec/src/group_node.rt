@@ -11,7 +11,7 @@ ghost use Rattle.au_exec.specs.Opened.{Makes};
 ghost use Rattle.au_exec.specs.Tables.{CanGrowAll, grow_all, grown_fit, groups_table, table_with};
 
 use crate::boxed::boxed;
-use crate::drawn::drawn_groups;
+use crate::drawn::shared_groups;
 use crate::groups::{Groups, add_rows, finished};
 use crate::node::Node;
 use crate::pull::pull;
@@ -69,9 +69,9 @@ fn node_groups<R: Threads + Sync, G: Gate + Sync>(
     }
     match of {
         Node::Chain(operators, below) => {
-            drawn_groups(rt, alloc, workers, gate, keys, aggs, operators, below)
+            shared_groups(rt, alloc, workers, gate, keys, aggs, operators, below)
         }
-        other => drawn_groups(rt, alloc, workers, gate, keys, aggs, &[], other),
+        other => shared_groups(rt, alloc, workers, gate, keys, aggs, &[], other),
     }
 }
 

@@ -40,7 +40,7 @@ pub(crate) fn opened<R: Threads + Sync, G: Gate + Sync>(
     ensures { Makes (physical_rows (physical_tree plan.old) (map rows_of tables.items)) (fit (physical_numbers (physical_tree plan.old) (map rows_of tables.items))) result }
 {
     read_tables(rt, alloc, workers, plan, tables)?;
-    ready(rt, alloc, workers, gate, plan)
+    open_worked(rt, alloc, workers, gate, plan)
 }
 
 /// The same, where the node may be a join that is still to be worked.
@@ -62,7 +62,7 @@ pub(crate) fn opened_unworked<R: Threads + Sync, G: Gate + Sync>(
 
 // The node of a plan without Scans, whose rows are pulled one after the other: a join of it is worked by the workers.
 #[cycle(openings)]
-fn ready<R: Threads + Sync, G: Gate + Sync>(
+fn open_worked<R: Threads + Sync, G: Gate + Sync>(
     rt: &R,
     alloc: Global,
     workers: usize,
@@ -92,8 +92,8 @@ fn open<R: Threads + Sync, G: Gate + Sync>(
 {
     match plan {
         Physical::Hash(pairs, e, left, right) => {
-            let left = ready(rt, alloc, workers, gate, left)?;
-            let right = ready(rt, alloc, workers, gate, right)?;
+            let left = open_worked(rt, alloc, workers, gate, left)?;
+            let right = open_worked(rt, alloc, workers, gate, right)?;
             hashed(alloc, pairs, e, left, right)
         }
         Physical::Scan(_, _) => unreachable!(),
@@ -119,18 +119,18 @@ fn open<R: Threads + Sync, G: Gate + Sync>(
             of,
         ),
         Physical::Nested(e, left, right) => {
-            let left = ready(rt, alloc, workers, gate, left)?;
-            let right = ready(rt, alloc, workers, gate, right)?;
+            let left = open_worked(rt, alloc, workers, gate, left)?;
+            let right = open_worked(rt, alloc, workers, gate, right)?;
             nested(alloc, e, left, right)
         }
         Physical::Overlap(bounds, e, left, right) => {
-            let left = ready(rt, alloc, workers, gate, left)?;
-            let right = ready(rt, alloc, workers, gate, right)?;
+            let left = open_worked(rt, alloc, workers, gate, left)?;
+            let right = open_worked(rt, alloc, workers, gate, right)?;
             overlapping(rt, alloc, workers, *bounds, e, left, right)
         }
         Physical::Union(left, right) => {
-            let left = ready(rt, alloc, workers, gate, left)?;
-            let right = ready(rt, alloc, workers, gate, right)?;
+            let left = open_worked(rt, alloc, workers, gate, left)?;
+            let right = open_worked(rt, alloc, workers, gate, right)?;
             Ok(boxed(alloc, Node::Union(left, right))?)
         }
         Physical::Group(keys, aggs, of) => {

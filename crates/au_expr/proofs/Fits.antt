@@ -11,7 +11,7 @@ use Rattle.au_value.specs.declared.value.Value.{Value}
 use Rattle.au_value.specs.Ranges.{range, lesser, greater}
 use Rattle.au_expr.specs.declared.ends.Ends.{Ends}
 use Rattle.au_expr.specs.Ends as ints
-use Rattle.au_expr.specs.Ends.{int_range, gather, extremes}
+use Rattle.au_expr.specs.Ends.{int_range, all_three, extremes}
 use Rattle.au_expr.specs.Numbers.{number_if_any}
 use Rattle.au_expr.specs.OnRanges.{least_of_four, greatest_of_four}
 use Rattle.au_expr.specs.Figures.{Fit, fit}
@@ -36,7 +36,7 @@ fit_more x xs p q = and_from _ _ p q
 pub three_fit :
     (x y z : ℤ) (p q r : Result ℤ Overflow) (e : Result Ends Overflow) →
     OkIff p (IsTrue (is_i128 x)) x → OkIff q (IsTrue (is_i128 y)) y → OkIff r (IsTrue (is_i128 z)) z →
-    e ≡ gather p q r →
+    e ≡ all_three p q r →
     MatchResult e (λ n. Fit (x ∷ y ∷ z ∷ []) × (int_range n ≡ range (Int x) (Int y) (Int z))) (λ _. ¬ (Fit (x ∷ y ∷ z ∷ [])))
 three_fit x y z (Err f) q r e a b c h = rw h (unfit [] x (y ∷ z ∷ []) a)
 three_fit x y z (Ok l) (Err f) r e a b c h = rw h (unfit (x ∷ []) y (z ∷ []) b)

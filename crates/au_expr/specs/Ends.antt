@@ -12,11 +12,11 @@ abbrev pub int_range : Ends → Span
 int_range e = range (Int e.lo) (Int e.sg) (Int e.hi)
 
 -- the three, where each is there
-abbrev pub gather : Result ℤ Overflow → Result ℤ Overflow → Result ℤ Overflow → Result Ends Overflow
-gather (Err f) sg hi = Err f
-gather (Ok l) (Err f) hi = Err f
-gather (Ok l) (Ok s) (Err f) = Err f
-gather (Ok l) (Ok s) (Ok h) = Ok (record { lo = l; sg = s; hi = h })
+abbrev pub all_three : Result ℤ Overflow → Result ℤ Overflow → Result ℤ Overflow → Result Ends Overflow
+all_three (Err f) sg hi = Err f
+all_three (Ok l) (Err f) hi = Err f
+all_three (Ok l) (Ok s) (Err f) = Err f
+all_three (Ok l) (Ok s) (Ok h) = Ok (record { lo = l; sg = s; hi = h })
 
 -- the lesser and the greater of two numbers
 abbrev pub lesser_int : ℤ → ℤ → ℤ

@@ -2,7 +2,7 @@
 ghost use Rattle.std.specs.Prelude.{◌≡◌, ◌++◌, MatchResult};
 ghost use Rattle.au_value.specs.Ranges.{IsRange, IsRangeOf};
 ghost use Rattle.au_value.specs.declared.kinds.Kind.{Kind};
-ghost use Rattle.au_expr.specs.Ends.{int_range, gather, extremes as extremes_of, between as between_of};
+ghost use Rattle.au_expr.specs.Ends.{int_range, all_three, extremes as extremes_of, between as between_of};
 ghost use Rattle.au_expr.specs.Figures.{Fit};
 ghost use Rattle.au_expr.specs.Numbers.{components, end_products};
 ghost use Rattle.au_expr.specs.OnRanges as on_ranges;
@@ -48,7 +48,7 @@ fn gathered(
     sg: Result<i128, Overflow>,
     hi: Result<i128, Overflow>,
 ) -> Result<Ends, Overflow>
-    ensures { result ≡ gather lo sg hi }
+    ensures { result ≡ all_three lo sg hi }
 {
     Ok(Ends {
         lo: lo?,

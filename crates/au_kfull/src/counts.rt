@@ -66,6 +66,7 @@ fn sum_uncertain(keys: Keys, rows: &[Tuple<'_, Range, Triple>]) -> Result<Count,
     for row in rows {
         sum = sum.plus(uncertain(keys, row))?;
     }
+    // Read for the proof alone: a count lies in its range.
     let _fits = sum.get();
     Ok(sum)
 }
@@ -96,6 +97,7 @@ pub(crate) fn counts(keys: Keys, rows: &[Tuple<'_, Range, Triple>]) -> Result<Tr
     let Some(triple) = Triple::of(least, guess, most) else {
         unreachable!()
     };
+    // Read for the proof alone: a count lies in its range.
     let _fits = triple.most();
     Ok(triple)
 }

@@ -26,7 +26,7 @@ pub(crate) struct Grouping<'a> {
 }
 
 /// The key ranges and the rows of the output with the guessed keys of a row.
-pub(crate) fn gather<'a>(
+pub(crate) fn output_grouping<'a>(
     alloc: Global,
     keys: Keys,
     head: &[Range],

@@ -90,6 +90,7 @@ pub(crate) fn sum_meeting(
     for row in rows {
         sum = sum.plus(part_meeting(how, cells, row))?;
     }
+    // Read for the proof alone: a count lies in its range.
     let _fits = sum.get();
     Ok(sum)
 }

@@ -11,7 +11,7 @@ ghost use Rattle.au_kfull.specs.Outputs.{CanAggregate, IsOutputReady, made_fits,
 
 use crate::aggregates::aggregate;
 use crate::counts::counts;
-use crate::grouping::{Grouping, gather};
+use crate::grouping::{Grouping, output_grouping};
 use crate::keys::Keys;
 use crate::tuple::Tuple;
 use au_algebra::Agg;
@@ -56,7 +56,7 @@ pub(crate) fn output(
     requires { IsOutputReady keys aggs.now rows.now head.now }
     ensures { GivesOrOverflows result (λ r. entry r.0.items r.1 ≡ made_output keys aggs.now rows.now head.now) (made_fits keys aggs.now rows.now head.now) }
 {
-    let (hull, group) = gather(alloc, keys, head, rows)?;
+    let (hull, group) = output_grouping(alloc, keys, head, rows)?;
     let triple = counts(keys, &group.belonging)?;
     match push_aggregates(alloc, hull, &group, aggs) {
         Ok(cells) => Ok((cells, triple)),

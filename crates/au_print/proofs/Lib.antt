@@ -4,7 +4,7 @@ pub mod CountedRuns
 pub mod FixedPoint
 pub mod KindCells
 pub mod PlacedRows
-pub mod ShownDigits
+pub mod PrintableDigits
 pub mod GuessWorlds
 pub mod TableWidths
 pub mod TripleSums

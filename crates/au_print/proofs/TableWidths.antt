@@ -3,7 +3,7 @@ use Rattle.std.specs.Prelude.{◌≡◌, ℕ, zero, suc, ◌<◌, ◌≤◌, Boo
 use Rattle.std.proofs.Common.{arith, refl, sym, ◌∙◌, ap, inl, inr, get_or, set, ltb-true, lt-ltb}
 use Rattle.std.proofs.lemmas.Bool.{cases_Bool, eqb-true}
 use Rattle.std.proofs.lemmas.List.Sums.{sum_by-cons}
-use Rattle.au_print.specs.Tables.{shown_byte, shown, begins_character, characters, widened, widened_at}
+use Rattle.au_print.specs.Tables.{printable_byte, printable, begins_character, characters, widened, widened_at}
 
 pub none_widened : (ws : List ℕ) → widened ws [] ≡ ws
 none_widened [] = refl
@@ -48,8 +48,8 @@ abbrev one_if : Bool → ℕ
 one_if b = cond b 1 0
 
 -- a text has as many characters as it is shown with
-pub shown_characters : (text : List ℕ) → characters (shown text) ≡ characters text
-shown_characters [] = refl
-shown_characters (b ∷ text) =
+pub printable_characters : (text : List ℕ) → characters (printable text) ≡ characters text
+printable_characters [] = refl
+printable_characters (b ∷ text) =
     let same = ap one_if (shown_begins (nat_lt b 0x20 || b == 0x7F) b refl) in
-    omega (arith, sum_by-cons (λ x. one_if (begins_character x)) (shown_byte b) (shown text), sum_by-cons (λ x. one_if (begins_character x)) b text, same, shown_characters text)
+    omega (arith, sum_by-cons (λ x. one_if (begins_character x)) (printable_byte b) (printable text), sum_by-cons (λ x. one_if (begins_character x)) b text, same, printable_characters text)

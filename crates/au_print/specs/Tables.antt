@@ -9,11 +9,11 @@ use Rattle.au_algebra.specs.Bounded.{Bounded}
 use Rattle.au_print.specs.Texts.{value_text}
 
 -- control characters, those below U+0020 and U+007F, are shown as question marks
-abbrev pub shown_byte : ℕ → ℕ
-shown_byte b = if nat_lt b 0x20 || b == 0x7F then 63 else b
+abbrev pub printable_byte : ℕ → ℕ
+printable_byte b = if nat_lt b 0x20 || b == 0x7F then 63 else b
 
-abbrev pub shown : List ℕ → List ℕ
-shown text = map shown_byte text
+abbrev pub printable : List ℕ → List ℕ
+printable text = map printable_byte text
 
 -- whether a byte begins a character, and how many characters there are
 abbrev pub begins_character : ℕ → Bool
@@ -23,14 +23,14 @@ abbrev pub characters : List ℕ → ℕ
 characters text = count_by begins_character text
 
 -- the value of a certain range, and else the three values
-abbrev pub shown_value : Kind → Value → List ℕ
-shown_value k v = shown (value_text k v)
+abbrev pub printable_value : Kind → Value → List ℕ
+printable_value k v = printable (value_text k v)
 
 abbrev pub cell_text : Kind → Span → List ℕ
 cell_text k r =
     if is_certain r
-    then shown_value k r.sg
-    else codes "[" ++ shown_value k r.lo ++ codes "/" ++ shown_value k r.sg ++ codes "/" ++ shown_value k r.hi ++ codes "]"
+    then printable_value k r.sg
+    else codes "[" ++ printable_value k r.lo ++ codes "/" ++ printable_value k r.sg ++ codes "/" ++ printable_value k r.hi ++ codes "]"
 
 -- the cells of a row, in columns of these kinds
 abbrev pub cell_texts : List Kind → List Span → List (List ℕ)
@@ -55,7 +55,7 @@ widened_at (w ∷ widths) (suc i) n = w ∷ widened_at widths i n
 -- the widths of the names' columns, and of the multiplicities' column
 abbrev pub column_widths : List (List ℕ) → List Kind → Bounded → List ℕ
 column_widths names kinds rows =
-    fold (λ widths r. widened widths (cell_texts kinds r.cells)) (map (λ n. characters (shown n)) names) rows
+    fold (λ widths r. widened widths (cell_texts kinds r.cells)) (map (λ n. characters (printable n)) names) rows
 
 abbrev pub triple_width : Bounded → ℕ
 triple_width rows = fold (λ w r. max w (characters (triple_text r.annot))) (characters (codes "row")) rows
@@ -81,6 +81,6 @@ abbrev pub table_text : List (List ℕ) → List Kind → Bounded → List ℕ
 table_text names kinds rows =
     let widths = column_widths names kinds rows in
     let last = triple_width rows in
-    line widths last (map shown names) (codes "row")
+    line widths last (map printable names) (codes "row")
     ++ rule widths last
     ++ flat_map (λ r. line widths last (cell_texts kinds r.cells) (triple_text r.annot)) rows

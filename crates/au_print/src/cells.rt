@@ -1,7 +1,7 @@
 //! The texts of a table's cells.
 ghost use Rattle.std.specs.Prelude.{◌≡◌, ◌++◌, OnOk, decimal, codes, map};
 ghost use Rattle.au_print.specs.Texts.{number_text};
-ghost use Rattle.au_print.specs.Tables.{shown_byte as shown_byte_of, shown, begins_character as begins_character_of, characters as characters_of, shown_value, cell_text, triple_text};
+ghost use Rattle.au_print.specs.Tables.{printable_byte as printable_byte_of, printable, begins_character as begins_character_of, characters as characters_of, printable_value, cell_text, triple_text};
 
 use crate::fixed::push_fixed;
 use au_annot::{Count, Triple};
@@ -9,8 +9,8 @@ use au_value::{Kind, NoMemory, Range, Value};
 use itoa::Buffer;
 
 // A control character is shown as a question mark.
-fn shown_byte(byte: u8) -> u8
-    ensures { result ≡ shown_byte_of byte }
+fn printable_byte(byte: u8) -> u8
+    ensures { result ≡ printable_byte_of byte }
 {
     if byte < 0x20 || byte == 0x7F {
         b'?'
@@ -40,35 +40,35 @@ pub fn characters(text: &[u8]) -> usize
 }
 
 /// Puts a text as it is shown behind another.
-pub fn push_shown(text: &mut Vec<u8>, bytes: &[u8]) -> Result<(), NoMemory>
-    ensures { OnOk result (text.new.items ≡ text.old.items ++ shown bytes.now) }
+pub fn push_printable(text: &mut Vec<u8>, bytes: &[u8]) -> Result<(), NoMemory>
+    ensures { OnOk result (text.new.items ≡ text.old.items ++ printable bytes.now) }
 {
     for byte in bytes {
-        text.push(shown_byte(*byte))?;
+        text.push(printable_byte(*byte))?;
     }
     Ok(())
 }
 
 fn push_value(text: &mut Vec<u8>, kind: Kind, value: &Value) -> Result<(), NoMemory>
-    ensures { OnOk result (text.new.items ≡ text.old.items ++ shown_value kind value.now) }
+    ensures { OnOk result (text.new.items ≡ text.old.items ++ printable_value kind value.now) }
 {
     match value {
         Value::Int(n) => push_number(text, kind, *n),
-        Value::Text(word) => push_shown(text, word.as_str().as_bytes()),
-        Value::Flag(true) => push_shown(text, b"true"),
-        Value::Flag(false) => push_shown(text, b"false"),
+        Value::Text(word) => push_printable(text, word.as_str().as_bytes()),
+        Value::Flag(true) => push_printable(text, b"true"),
+        Value::Flag(false) => push_printable(text, b"false"),
     }
 }
 
 // No character of a number is a control character.
 fn push_number(text: &mut Vec<u8>, kind: Kind, n: i128) -> Result<(), NoMemory>
-    ensures { OnOk result (text.new.items ≡ text.old.items ++ shown (number_text kind n)) }
+    ensures { OnOk result (text.new.items ≡ text.old.items ++ printable (number_text kind n)) }
 {
     match kind {
         Kind::Dec(scale) => push_fixed(text, n, scale),
         Kind::Int | Kind::Text | Kind::Flag => {
             let mut buffer = Buffer::new();
-            push_shown(text, buffer.format(n).as_bytes())
+            push_printable(text, buffer.format(n).as_bytes())
         }
     }
 }

@@ -91,6 +91,7 @@ fn merged(
         return Ok(done);
     };
     let mut current = *first;
+    // Read for the proof alone: a count lies in its range.
     let _fits = current.1.get();
     for next in rest {
         current = step(rows, &mut done, current, *next)?;
@@ -117,12 +118,14 @@ fn step(
     if compare_places(rows, current.0, next.0).is_eq() {
         match current.1.plus(next.1) {
             Ok(both) => {
+                // Read for the proof alone: a count lies in its range.
                 let _fits = both.get();
                 Ok((current.0, both))
             }
             Err(Overflow) => Err(EvalFault::Overflow),
         }
     } else {
+        // Read for the proof alone: a count lies in its range.
         let _fits = next.1.get();
         match done.push(current) {
             Ok(()) => Ok(next),

@@ -2,10 +2,10 @@
 ghost use Rattle.std.specs.Prelude.{◌≡◌, ◌++◌, ◌-◌, ◌≤◌, IfOk, OnOk, length, drop, flat_map, map, replicate, codes};
 ghost use Rattle.std.specs.List.{AllByRecursion};
 ghost use Rattle.au_algebra.specs.Entries.{entry};
-ghost use Rattle.au_print.specs.Tables.{shown, characters as characters_of, cell_texts, triple_text, filled, barred, line, rule, table_text as text_of};
+ghost use Rattle.au_print.specs.Tables.{printable, characters as characters_of, cell_texts, triple_text, filled, barred, line, rule, table_text as text_of};
 
 use crate::answer::Answer;
-use crate::cells::{characters, push_cell, push_shown, push_triple};
+use crate::cells::{characters, push_cell, push_printable, push_triple};
 use crate::repeated::push_repeated;
 use crate::widths::{Widths, measure};
 use au_annot::Triple;
@@ -61,7 +61,7 @@ fn end_line(text: &mut Vec<u8>, start: usize, last: usize) -> Result<(), NoMemor
 }
 
 fn push_names(text: &mut Vec<u8>, widths: &[usize], names: &[Word]) -> Result<(), NoMemory>
-    ensures { OnOk result (text.new.items ≡ text.old.items ++ barred widths.now (map shown names.now)) }
+    ensures { OnOk result (text.new.items ≡ text.old.items ++ barred widths.now (map printable names.now)) }
 {
     let mut widths = widths;
     let mut names = names;
@@ -70,7 +70,7 @@ fn push_names(text: &mut Vec<u8>, widths: &[usize], names: &[Word]) -> Result<()
             return Ok(());
         };
         let start = text.len();
-        push_shown(text, name.as_str().as_bytes())?;
+        push_printable(text, name.as_str().as_bytes())?;
         end_cell(text, start, *width)?;
         widths = other_widths;
         names = other_names;
@@ -107,7 +107,7 @@ fn push_cells(
 }
 
 fn push_header(text: &mut Vec<u8>, widths: &Widths, names: &[Word]) -> Result<(), NoMemory>
-    ensures { OnOk result (text.new.items ≡ text.old.items ++ line widths.now.columns.items widths.now.row (map shown names.now) (codes "row")) }
+    ensures { OnOk result (text.new.items ≡ text.old.items ++ line widths.now.columns.items widths.now.row (map printable names.now) (codes "row")) }
 {
     push_names(text, widths.columns.as_slice(), names)?;
     let start = text.len();

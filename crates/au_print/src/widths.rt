@@ -1,7 +1,7 @@
 //! The widths of a table's columns.
 ghost use Rattle.std.specs.Prelude.{◌≡◌, OnOk, IfOk, map, max, length, fold, codes};
 ghost use Rattle.au_algebra.specs.Entries.{entry};
-ghost use Rattle.au_print.specs.Tables.{shown, characters as characters_of, widened, cell_texts, triple_text, column_widths, triple_width, widened_at};
+ghost use Rattle.au_print.specs.Tables.{printable, characters as characters_of, widened, cell_texts, triple_text, column_widths, triple_width, widened_at};
 
 use crate::cells::{characters, push_cell, push_triple};
 use au_annot::Triple;
@@ -39,7 +39,7 @@ pub fn measure(
 
 // The widths of the header's texts.
 fn name_widths(alloc: Global, names: &[Word]) -> Result<Vec<usize>, NoMemory>
-    ensures { IfOk result (λ w. w.items ≡ map (λ n. characters_of (shown n)) names.now) }
+    ensures { IfOk result (λ w. w.items ≡ map (λ n. characters_of (printable n)) names.now) }
 {
     let mut widths = Vec::new(alloc);
     for name in names {

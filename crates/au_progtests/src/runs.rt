@@ -19,7 +19,7 @@ fn words_of(alloc: Global, line: &str) -> Result<Vec<Word>, AllocError> {
 }
 
 // The status, the outcome, and what was put.
-fn told(alloc: Global, outcome: Outcome, out: &MemSink, err: &MemSink) -> Result<String, Fail> {
+fn ending(alloc: Global, outcome: Outcome, out: &MemSink, err: &MemSink) -> Result<String, Fail> {
     let code = outcome.code();
     let put = str::from_utf8(out.bytes())?;
     let line = str::from_utf8(err.bytes())?;
@@ -48,7 +48,7 @@ fn ran<R: Threads + Sync>(
         &mut err,
         NoGate,
     );
-    told(alloc, outcome, &out, &err)
+    ending(alloc, outcome, &out, &err)
 }
 
 /// Whether each run ends and puts as its line says.
@@ -127,7 +127,7 @@ pub(crate) fn watched<R: Threads + Sync, G: Gate + Sync>(
     let mut err = MemSink::new(alloc, Vec::new(alloc));
     let words = words.as_slice();
     let outcome = run(rt, alloc, words, &mut shelf, &mut out, &mut err, gate);
-    told(alloc, outcome, &out, &err)
+    ending(alloc, outcome, &out, &err)
 }
 
 /// How a run ends and what it puts.

@@ -13,7 +13,7 @@ use Rattle.au_plain.specs.Plans.{PlanTree}
 use Rattle.au_plain.specs.PlanNumbers.{scans, plan_numbers}
 use Rattle.au_rwexpr.specs.Flatten.{flatten, flatten_items}
 use Rattle.au_rwcore.specs.Core.{select_plan, project_plan, product_plan, union_plan}
-use Rattle.au_encode.specs.Gives.{Gives}
+use Rattle.au_encode.specs.Gives.{GivesRelation}
 use Rattle.au_rwcore.specs.Gives.{Selects, Projects, Multiplies, Unites}
 use Rattle.au_rwexpr.proofs.Counting.{scans-extend_all}
 use Rattle.au_rwcore.proofs.CoreKinds.{select_kinds, project_kinds, product_kinds, union_kinds}
@@ -29,7 +29,7 @@ module _ (c : ℕ) (e : Term) (of p : PlanTree) (is : p ≡ select_plan c e of) 
   select_as_is : Selects c e of (select_plan c e of)
   select_as_is kinds tables ks rows ns long typed g =
       let own = flat_map (λ r. expr_numbers e r.cells) rows ++ triple_numbers (bounded.select e rows) in
-      subst (λ n. Gives kinds tables (select_plan n e of) ks (bounded.select e rows) (ns ++ own)) long
+      subst (λ n. GivesRelation kinds tables (select_plan n e of) ks (bounded.select e rows) (ns ++ own)) long
       (record {
         typed = select_kinds kinds ks e typed of g.typed;
         relation = select_relation ks e typed rows g.relation;
@@ -47,7 +47,7 @@ module _ (c : ℕ) (items : List Term) (of p : PlanTree) (is : p ≡ project_pla
   project_as_is : Projects c items of (project_plan c items of)
   project_as_is kinds tables ks js rows ns long typed g =
       let own = flat_map (λ r. flat_map (λ e. expr_numbers e r.cells) items) rows in
-      subst (λ n. Gives kinds tables (project_plan n items of) js (bounded.project items rows) (ns ++ own)) long
+      subst (λ n. GivesRelation kinds tables (project_plan n items of) js (bounded.project items rows) (ns ++ own)) long
       (record {
         typed = project_kinds kinds ks items js typed of g.typed;
         relation = project_relation ks items js typed rows g.relation;
@@ -65,8 +65,8 @@ module _ (c d : ℕ) (left right p : PlanTree) (is : p ≡ product_plan c d left
   product_as_is : Multiplies c d left right (product_plan c d left right)
   product_as_is kinds tables ks js xs ys ms ns long wide g h =
       let own = triple_numbers (bounded.product xs ys) in
-      subst (λ n. Gives kinds tables (product_plan n d left right) (ks ++ js) (bounded.product xs ys) (ms ++ (ns ++ own))) long
-      (subst (λ n. Gives kinds tables (product_plan (length ks) n left right) (ks ++ js) (bounded.product xs ys) (ms ++ (ns ++ own))) wide
+      subst (λ n. GivesRelation kinds tables (product_plan n d left right) (ks ++ js) (bounded.product xs ys) (ms ++ (ns ++ own))) long
+      (subst (λ n. GivesRelation kinds tables (product_plan (length ks) n left right) (ks ++ js) (bounded.product xs ys) (ms ++ (ns ++ own))) wide
       (record {
         typed = product_kinds kinds ks js left right g.typed h.typed;
         relation = product_relation ks js xs ys g.relation h.relation;

@@ -25,7 +25,7 @@ use Rattle.au_rwcore.specs.Core.{product_plan}
 use Rattle.au_rwexpr.proofs.Careful.{careful, all_careful, careful_grow, column_fits, multiply_fits}
 use Rattle.au_rwexpr.proofs.Coded.{cl, cg, cm}
 use Rattle.au_rwexpr.proofs.Columns.{adds}
-use Rattle.au_rwexpr.proofs.Gives.{Gives}
+use Rattle.au_rwexpr.proofs.Gives.{GivesEncoded}
 use Rattle.au_rwexpr.proofs.OnValues.{column_has}
 use Rattle.au_rwexpr.proofs.Places.{ends}
 use Rattle.au_rwexpr.proofs.PlanNumbersOf.{all_fit, fit_all, numbers-extend_all}
@@ -91,7 +91,7 @@ module _ (ks js : List Kind) where
       all_append FitRow (map (λ b. encode_row x ++ b) (encode ys)) (pairs ks js xs ys) (row_fits x ys v.0 w p.0) (pairs_fit xs ys v.1 w p.1)
 
   -- Product's plan adds no number that does not fit.
-  pub product_fits : (ts : List Rows) (p q : PlanTree) (xs ys : Bounded) → IsRelation ks xs → IsRelation js ys → Gives ts p xs → Gives ts q ys → Fit (triple_numbers (bounded.product xs ys)) → Fit (plan_numbers p ts) → Fit (plan_numbers q ts) → Fit (plan_numbers (product_plan left right p q) ts)
+  pub product_fits : (ts : List Rows) (p q : PlanTree) (xs ys : Bounded) → IsRelation ks xs → IsRelation js ys → GivesEncoded ts p xs → GivesEncoded ts q ys → Fit (triple_numbers (bounded.product xs ys)) → Fit (plan_numbers p ts) → Fit (plan_numbers q ts) → Fit (plan_numbers (product_plan left right p q) ts)
   product_fits ts p q xs ys v w g h f np nq =
       let always = Literal (value.Flag true) in
       let join = Join always p q in

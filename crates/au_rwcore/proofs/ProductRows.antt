@@ -27,7 +27,7 @@ use Rattle.au_rwexpr.proofs.Places.{ends}
 use Rattle.au_rwexpr.proofs.Columns.{adds}
 use Rattle.au_rwexpr.proofs.OnValues.{reading, column_has}
 use Rattle.au_rwexpr.proofs.Picks.{kept_are, pair_picks, left_triple, right_triple}
-use Rattle.au_rwexpr.proofs.Gives.{Gives, grow_is, rows-extend_all, map-map}
+use Rattle.au_rwexpr.proofs.Gives.{GivesEncoded, grow_is, rows-extend_all, map-map}
 use Rattle.au_rwexpr.proofs.Coded.{rl, rs, rh, cl, cg, cm}
 use Rattle.au_rwexpr.proofs.Present.{present_map}
 use Rattle.au_rwexpr.proofs.Places.{Ends}
@@ -114,12 +114,12 @@ module _ (ks js : List Kind) where
   abbrev pub pairs : Bounded → Bounded → Rows
   pairs xs ys = flat_map (λ a. map (λ b. a ++ b) (encode ys)) (encode xs)
 
-  pub joined_rows : (ts : List Rows) (p q : PlanTree) (xs ys : Bounded) → Gives ts p xs → Gives ts q ys → plain_rows (Join (Literal (value.Flag true)) p q) ts ≡ pairs xs ys
+  pub joined_rows : (ts : List Rows) (p q : PlanTree) (xs ys : Bounded) → GivesEncoded ts p xs → GivesEncoded ts q ys → plain_rows (Join (Literal (value.Flag true)) p q) ts ≡ pairs xs ys
   joined_rows ts p q xs ys g h =
       filter_all (flat_map (λ a. map (λ b. a ++ b) (plain_rows q ts)) (plain_rows p ts)) ∙ (λ i. flat_map (λ a. map (λ b. a ++ b) (h i)) (g i))
 
   -- Product's plan gives the rows of the bounded product.
-  pub product_gives : (ts : List Rows) (p q : PlanTree) (xs ys : Bounded) → IsRelation ks xs → IsRelation js ys → Gives ts p xs → Gives ts q ys → Gives ts (product_plan left right p q) (bounded.product xs ys)
+  pub product_gives : (ts : List Rows) (p q : PlanTree) (xs ys : Bounded) → IsRelation ks xs → IsRelation js ys → GivesEncoded ts p xs → GivesEncoded ts q ys → GivesEncoded ts (product_plan left right p q) (bounded.product xs ys)
   product_gives ts p q xs ys v w g h =
       let join = Join (Literal (value.Flag true)) p q in
       ap (map (kept pair_places)) (rows-extend_all new join ts ∙ ap (map (grow new)) (joined_rows ts p q xs ys g h))

@@ -22,7 +22,7 @@ use Rattle.au_rwexpr.specs.Flatten.{flatten_items}
 use Rattle.au_rwcore.specs.Core.{project_plan}
 use Rattle.au_rwexpr.proofs.Careful.{careful, careful_grow}
 use Rattle.au_rwexpr.proofs.Coded.{rl, rs, rh, cl, cg, cm}
-use Rattle.au_rwexpr.proofs.Gives.{Gives}
+use Rattle.au_rwexpr.proofs.Gives.{GivesEncoded}
 use Rattle.au_rwexpr.proofs.OnNumbers.{Fine, below_fine, careful_steps}
 use Rattle.au_rwexpr.proofs.Picks.{coded_long, coded_cells}
 use Rattle.au_rwexpr.proofs.PlanNumbersOf.{all_fit, all_made, numbers-extend_all}
@@ -56,7 +56,7 @@ module _ (ks : List Kind) (items : List Term) (js : List Kind) (typed : items_ki
       (coded_long rl rs rh cl cg cm c r.cells r.annot long) (coded_cells rl rs rh cl cg cm c r.cells r.annot long))).1
 
   -- Project's plan adds no number that does not fit.
-  pub project_fits : (ts : List Rows) (p : PlanTree) (rows : Bounded) → IsRelation ks rows → Gives ts p rows → Fit (flat_map (λ r. flat_map (λ e. expr_numbers e r.cells) items) rows) → Fit (plan_numbers p ts) → Fit (plan_numbers (project_plan c items p) ts)
+  pub project_fits : (ts : List Rows) (p : PlanTree) (rows : Bounded) → IsRelation ks rows → GivesEncoded ts p rows → Fit (flat_map (λ r. flat_map (λ e. expr_numbers e r.cells) items) rows) → Fit (plan_numbers p ts) → Fit (plan_numbers (project_plan c items p) ts)
   project_fits ts p rows ok g f np =
       let sound : AllByRecursion Sound rows = all_both (IsRangeRow ks) (λ r. Fit (numbers_on r)) rows ok (all_fit numbers_on rows f) in
       numbers-extend_all ts (flatten_items n items) p np

@@ -24,7 +24,7 @@ use Rattle.au_rwexpr.proofs.Places.{ends_more, ends, all_ends}
 use Rattle.au_rwexpr.proofs.Structure.{items_law, items_picked, items_added, Any, any_of, below_any}
 use Rattle.au_rwexpr.proofs.OnValues.{reading, value_steps}
 use Rattle.au_rwexpr.proofs.Picks.{kept_are, coded_long, coded_cells, coded_triple, picks_more, pick_three}
-use Rattle.au_rwexpr.proofs.Gives.{Gives, grow_is, rows-extend_all, map-map, map_valid}
+use Rattle.au_rwexpr.proofs.Gives.{GivesEncoded, grow_is, rows-extend_all, map-map, map_valid}
 use Rattle.au_rwexpr.proofs.Coded.{rl, rs, rh, cl, cg, cm}
 use Rattle.au_rwexpr.proofs.Present.{present_map}
 
@@ -63,7 +63,7 @@ module _ (ks : List Kind) (items : List Term) (js : List Kind) (typed : items_ki
       ap (kept places) grown ∙ kept_are row places (encode_row (projected r)) picks
 
   -- Project's plan gives the rows of the bounded project.
-  pub project_gives : (ts : List Rows) (p : PlanTree) (rows : Bounded) → IsRelation ks rows → Gives ts p rows → Gives ts (project_plan c items p) (bounded.project items rows)
+  pub project_gives : (ts : List Rows) (p : PlanTree) (rows : Bounded) → IsRelation ks rows → GivesEncoded ts p rows → GivesEncoded ts (project_plan c items p) (bounded.project items rows)
   project_gives ts p rows ok g =
       ap (map (kept places)) (rows-extend_all (flatten_items n items) p ts ∙ ap (map (grow (flatten_items n items))) g)
       ∙ map-map (grow (flatten_items n items)) (kept places) (encode rows)

@@ -31,7 +31,7 @@ use Rattle.au_rwexpr.proofs.Careful.{careful, Fits, all_careful, careful_grow, c
 use Rattle.au_rwexpr.proofs.Coded.{cl, cg}
 use Rattle.au_rwexpr.proofs.Columns.{adds}
 use Rattle.au_rwexpr.proofs.FlattenLaws.{numbers_stay}
-use Rattle.au_rwexpr.proofs.Gives.{Gives}
+use Rattle.au_rwexpr.proofs.Gives.{GivesEncoded}
 use Rattle.au_rwexpr.proofs.OnNumbers.{components_fit, lo_fits, sg_fits, hi_fits}
 use Rattle.au_rwexpr.proofs.OnValues.{lo_has, sg_has, column_has}
 use Rattle.au_rwexpr.proofs.PlanNumbersOf.{all_fit, all_made, made_all, all_passing, passed_all, numbers-extend_all, numbers-filter}
@@ -100,7 +100,7 @@ module _ (ks : List Kind) (e : Term) (typed : kind_in ks e ≡ Some Flag) where
   Passing row = passes (hi i) row ≡ true → Fit (grow_numbers (new ks e typed) row)
 
   -- Select's plan adds no number that does not fit.
-  pub select_fits : (ts : List Rows) (p : PlanTree) (rows : Bounded) → IsRelation ks rows → Gives ts p rows → Fit (flat_map (λ r. expr_numbers e r.cells) rows ++ triple_numbers (bounded.select e rows)) → Fit (plan_numbers p ts) → Fit (plan_numbers (select_plan c e p) ts)
+  pub select_fits : (ts : List Rows) (p : PlanTree) (rows : Bounded) → IsRelation ks rows → GivesEncoded ts p rows → Fit (flat_map (λ r. expr_numbers e r.cells) rows ++ triple_numbers (bounded.select e rows)) → Fit (plan_numbers p ts) → Fit (plan_numbers (select_plan c e p) ts)
   select_fits ts p rows ok g f np =
       let parts = fit_parts (flat_map (λ r. expr_numbers e r.cells) rows) (triple_numbers (bounded.select e rows)) f in
       let sound : AllByRecursion Sound rows =

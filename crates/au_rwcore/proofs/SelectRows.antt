@@ -33,7 +33,7 @@ use Rattle.au_rwexpr.proofs.Structure.{flattened, found, added, added_long, Any,
 use Rattle.au_rwexpr.proofs.Coded.{rl, rs, rh, cl, cg, cm, some_not_none}
 use Rattle.au_rwexpr.proofs.OnValues.{reading, value_steps, EndsAt, lo_has, sg_has, hi_has, column_has}
 use Rattle.au_rwexpr.proofs.Picks.{kept_are, coded_long, coded_cells, coded_triple, select_picks}
-use Rattle.au_rwexpr.proofs.Gives.{Gives, grow_is, rows-extend_all, map-map, map_valid, passing}
+use Rattle.au_rwexpr.proofs.Gives.{GivesEncoded, grow_is, rows-extend_all, map-map, map_valid, passing}
 
 -- a count that stays where a condition holds
 count_if : (b : Bool) (n : ℕ) → (if b then value.Int (pos n) else value.Int (pos 0)) ≡ value.Int (pos (n * (if b then 1 else 0)))
@@ -140,7 +140,7 @@ module _ (ks : List Kind) where
         ++ (count_if (is_true a.lo) r.annot.least k ∷ count_if (is_true a.sg) r.annot.guess k ∷ value.Int (pos (most_if (is_true a.hi) r.annot.most possible k)) ∷ []))
 
     -- the rows with the columns of the condition
-    pub inner_rows : (ts : List Rows) (p : PlanTree) (rows : Bounded) → IsRelation ks rows → Gives ts p rows → plain_rows (extend_all (flatten n e) p) ts ≡ map one rows
+    pub inner_rows : (ts : List Rows) (p : PlanTree) (rows : Bounded) → IsRelation ks rows → GivesEncoded ts p rows → plain_rows (extend_all (flatten n e) p) ts ≡ map one rows
     inner_rows ts p rows ok g =
         rows-extend_all (flatten n e) p ts
         ∙ ap (map (grow (flatten n e))) g
@@ -148,7 +148,7 @@ module _ (ks : List Kind) where
         ∙ map_valid (IsRangeRow ks) (λ r. grow (flatten n e) (encode_row r)) one rows ok grown
 
     -- Select's plan gives the rows of the bounded select.
-    pub select_gives : (ts : List Rows) (p : PlanTree) (rows : Bounded) → IsRelation ks rows → Gives ts p rows → Gives ts (select_plan c e p) (bounded.select e rows)
+    pub select_gives : (ts : List Rows) (p : PlanTree) (rows : Bounded) → IsRelation ks rows → GivesEncoded ts p rows → GivesEncoded ts (select_plan c e p) (bounded.select e rows)
     select_gives ts p rows ok g =
         let inner = extend_all (flatten n e) p in
         ap (map (kept places)) (rows-extend_all new (Filter (hi i) inner) ts)

@@ -12,11 +12,11 @@ use Rattle.std.proofs.lemmas.List.Elements.{filter-append}
 use Rattle.au_plain.specs.Plans.{PlanTree}
 use Rattle.au_encode.specs.Encode.{encode, encode_row}
 use Rattle.au_rwcore.specs.Core.{union_plan}
-use Rattle.au_rwexpr.proofs.Gives.{Gives}
+use Rattle.au_rwexpr.proofs.Gives.{GivesEncoded}
 use Rattle.au_rwexpr.proofs.Present.{present_all}
 
 -- Union's plan gives the rows of the bounded union.
-pub union_gives : (ks : List Kind) (ts : List Rows) (p q : PlanTree) (xs ys : Bounded) → IsRelation ks xs → IsRelation ks ys → Gives ts p xs → Gives ts q ys → Gives ts (union_plan p q) (bounded.union xs ys)
+pub union_gives : (ks : List Kind) (ts : List Rows) (p q : PlanTree) (xs ys : Bounded) → IsRelation ks xs → IsRelation ks ys → GivesEncoded ts p xs → GivesEncoded ts q ys → GivesEncoded ts (union_plan p q) (bounded.union xs ys)
 union_gives ks ts p q xs ys v w g h =
     (λ i. g i ++ h i)
     ∙ sym (map-append encode_row xs ys)

@@ -10,35 +10,35 @@ use Rattle.au_algebra.specs.Bounded.{Bounded, select, project, product, union}
 use Rattle.au_algebra.specs.Fits.{triple_numbers}
 use Rattle.au_algebra.specs.Typing.{items_kinds}
 use Rattle.au_plain.specs.Plans.{PlanTree}
-use Rattle.au_encode.specs.Gives.{Gives}
+use Rattle.au_encode.specs.Gives.{GivesRelation}
 
 -- Where the input gives a relation of `c` columns, for which the condition is typed, the plan gives its selected rows.
 -- Its numbers are those of the input, of the condition and of the triples.
 abbrev pub Selects : ℕ → Term → PlanTree → PlanTree → Type 0
 Selects c e of p =
     (kinds : List (List Kind)) (tables : List Rows) (ks : List Kind) (rows : Bounded) (ns : List ℤ) →
-    length ks ≡ c → kind_in ks e ≡ Some Flag → Gives kinds tables of ks rows ns →
-    Gives kinds tables p ks (select e rows) (ns ++ (flat_map (λ r. expr_numbers e r.cells) rows ++ triple_numbers (select e rows)))
+    length ks ≡ c → kind_in ks e ≡ Some Flag → GivesRelation kinds tables of ks rows ns →
+    GivesRelation kinds tables p ks (select e rows) (ns ++ (flat_map (λ r. expr_numbers e r.cells) rows ++ triple_numbers (select e rows)))
 
 -- Where the input gives a relation of `c` columns, for which the items are typed, the plan gives the items' ranges.
 -- Its numbers are those of the input and of the items.
 abbrev pub Projects : ℕ → List Term → PlanTree → PlanTree → Type 0
 Projects c items of p =
     (kinds : List (List Kind)) (tables : List Rows) (ks js : List Kind) (rows : Bounded) (ns : List ℤ) →
-    length ks ≡ c → items_kinds ks items ≡ Some js → Gives kinds tables of ks rows ns →
-    Gives kinds tables p js (project items rows) (ns ++ flat_map (λ r. flat_map (λ e. expr_numbers e r.cells) items) rows)
+    length ks ≡ c → items_kinds ks items ≡ Some js → GivesRelation kinds tables of ks rows ns →
+    GivesRelation kinds tables p js (project items rows) (ns ++ flat_map (λ r. flat_map (λ e. expr_numbers e r.cells) items) rows)
 
 -- Where the inputs give relations of `c` and `d` columns, the plan gives their product.
 -- Its numbers are those of the inputs and of the triples.
 abbrev pub Multiplies : ℕ → ℕ → PlanTree → PlanTree → PlanTree → Type 0
 Multiplies c d left right p =
     (kinds : List (List Kind)) (tables : List Rows) (ks js : List Kind) (xs ys : Bounded) (ms ns : List ℤ) →
-    length ks ≡ c → length js ≡ d → Gives kinds tables left ks xs ms → Gives kinds tables right js ys ns →
-    Gives kinds tables p (ks ++ js) (product xs ys) (ms ++ (ns ++ triple_numbers (product xs ys)))
+    length ks ≡ c → length js ≡ d → GivesRelation kinds tables left ks xs ms → GivesRelation kinds tables right js ys ns →
+    GivesRelation kinds tables p (ks ++ js) (product xs ys) (ms ++ (ns ++ triple_numbers (product xs ys)))
 
 -- Where the inputs give relations of the same kinds, the plan gives their union. It makes no number of its own.
 abbrev pub Unites : PlanTree → PlanTree → PlanTree → Type 0
 Unites left right p =
     (kinds : List (List Kind)) (tables : List Rows) (ks : List Kind) (xs ys : Bounded) (ms ns : List ℤ) →
-    Gives kinds tables left ks xs ms → Gives kinds tables right ks ys ns →
-    Gives kinds tables p ks (union xs ys) (ms ++ ns)
+    GivesRelation kinds tables left ks xs ms → GivesRelation kinds tables right ks ys ns →
+    GivesRelation kinds tables p ks (union xs ys) (ms ++ ns)

@@ -33,7 +33,7 @@ use Rattle.au_rwexpr.proofs.Allowed.{fits_now, all_of, all_both, lower_fits}
 use Rattle.au_rwexpr.proofs.Careful.{careful, Fits, all_careful, careful_grow, case_fits, column_fits, subtract_fits, greatest_fits, compare_fits}
 use Rattle.au_rwexpr.proofs.Coded.{cl, cg, cm}
 use Rattle.au_rwexpr.proofs.Columns.{adds}
-use Rattle.au_rwexpr.proofs.Gives.{Gives, map-map}
+use Rattle.au_rwexpr.proofs.Gives.{GivesEncoded, map-map}
 use Rattle.au_rwexpr.proofs.MeetingNumbers.{meets_fits, same_fits, surely_fits}
 use Rattle.au_rwexpr.proofs.OnValues.{Has, column_has}
 use Rattle.au_rwexpr.proofs.Places.{At}
@@ -198,7 +198,7 @@ module _ (ks : List Kind) (left right : Bounded) (left_ok : IsRelation ks left) 
       let row = j.joined ks s in
       fits_now row (meets_term 0 w c) (meets_fits row 0 w c r.cells m.cells (j.long ks r x.0) (j.long ks m y.0) (j.lefts ks s v) (j.rights ks s v) x.1.cells y.1.cells)
 
-  module _ (ts : List Rows) (p q : PlanTree) (gl : Gives ts p left) (gr : Gives ts q right) (fine : AllFitRows left) (also : AllFitRows right) (summing : Fit (flat_map (difference_sums right) left)) where
+  module _ (ts : List Rows) (p q : PlanTree) (gl : GivesEncoded ts p left) (gr : GivesEncoded ts q right) (fine : AllFitRows left) (also : AllFitRows right) (summing : Fit (flat_map (difference_sums right) left)) where
     abbrev join : PlanTree
     join = Join (meets_term 0 w c) p q
 

@@ -28,7 +28,7 @@ use Rattle.au_rwexpr.specs.Meets.{meets_term}
 use Rattle.au_rwexpr.proofs.Coded.{rl, rs, rh, cl, cg, cm}
 use Rattle.au_rwexpr.proofs.Columns.{AllMean, adds}
 use Rattle.au_rwexpr.proofs.Flags.{below_zero}
-use Rattle.au_rwexpr.proofs.Gives.{Gives, grow_is, rows-extend_all, map-map, map_valid, passing}
+use Rattle.au_rwexpr.proofs.Gives.{GivesEncoded, grow_is, rows-extend_all, map-map, map_valid, passing}
 use Rattle.au_rwexpr.proofs.Meeting.{guesses_meet, equal_meet}
 use Rattle.au_rwexpr.proofs.OnValues.{reading, column_has}
 use Rattle.au_rwexpr.proofs.Picks.{kept_are, picks_more, pick_cells, pick_three, coded_cells, coded_triple, ends_past}
@@ -208,7 +208,7 @@ module _ (ks : List Kind) (left right : Bounded) (left_ok : IsRelation ks left) 
       (picks_more (whole r) (cell_places 0 c) (three_places (w + 3)) _ new (pick_cells rl rs rh (whole r) 0 c r.cells (j.long ks r v) cells)
       (pick_three cl cg cm (whole r) (w + 3) (less right r).annot (new_at r v)))
 
-  module _ (ts : List Rows) (p q : PlanTree) (g : Gives ts p left) (h : Gives ts q right) where
+  module _ (ts : List Rows) (p q : PlanTree) (g : GivesEncoded ts p left) (h : GivesEncoded ts q right) where
     pub joined_rows : plain_rows (Join (meets_term 0 w c) p q) ts ≡ map (j.joined ks) all_pairs
     joined_rows =
         (λ i. filter (passes (meets_term 0 w c)) (flat_map (λ a. map (λ b. a ++ b) (h i)) (g i)))
@@ -264,7 +264,7 @@ module _ (ks : List Kind) (left right : Bounded) (left_ok : IsRelation ks left) 
         ∙ map_valid (IsRangeRow ks) (λ r. grow (left_columns (3 * c) w) (with_gone r)) whole left left_ok left_grown
 
     -- Difference's plan gives the rows that are left.
-    pub difference_rows : Gives ts (difference_plan c p q) (present (map (less right) left))
+    pub difference_rows : GivesEncoded ts (difference_plan c p q) (present (map (less right) left))
     difference_rows =
         ap (λ rows. map (kept places) (filter (passes (positive (hi (w + 3)))) rows)) whole_rows
         ∙ passing (IsRangeRow ks) whole (passes (positive (hi (w + 3)))) (kept places) (less right) (λ r. not (is_none r.annot)) encode_row same_test same_row_kept left left_ok

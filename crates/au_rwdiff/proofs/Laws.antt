@@ -7,7 +7,7 @@ use Rattle.au_algebra.specs.Bounded.{combine}
 use Rattle.au_algebra.specs.Fits.{triple_numbers, difference_sums}
 use Rattle.au_algebra.proofs.DifferenceRelation.{difference_relation}
 use Rattle.au_plain.specs.Plans.{PlanTree}
-use Rattle.au_encode.specs.Gives.{Gives}
+use Rattle.au_encode.specs.Gives.{GivesRelation}
 use Rattle.au_encode.proofs.HeldCells.{gives_held}
 use Rattle.au_combine.proofs.RowsApart.{combine_apart}
 use Rattle.au_rwdiff.specs.Differences.{difference_plan}
@@ -22,7 +22,7 @@ module _ (c : ℕ) (left right p : PlanTree) (is : p ≡ difference_plan c left 
       let rows = combine xs in
       let own = triple_numbers rows ++ flat_map (difference_sums ys) rows in
       let apart = combine_apart ks xs ok in
-      subst (λ n. Gives kinds tables (difference_plan n left right) ks (bounded.difference xs ys) (ms ++ (ns ++ own))) long
+      subst (λ n. GivesRelation kinds tables (difference_plan n left right) ks (bounded.difference xs ys) (ms ++ (ns ++ own))) long
       (record {
         typed = difference_kinds kinds ks left right g.typed h.typed;
         relation = difference_relation ks ys h.relation xs ok;

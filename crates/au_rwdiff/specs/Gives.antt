@@ -7,7 +7,7 @@ use Rattle.au_algebra.specs.Laws.{IsRelation}
 use Rattle.au_algebra.specs.Fits.{triple_numbers, difference_sums}
 use Rattle.au_plain.specs.Plans.{PlanTree}
 use Rattle.au_plain.specs.PlanKinds.{FitTables}
-use Rattle.au_encode.specs.Gives.{Gives}
+use Rattle.au_encode.specs.Gives.{GivesRelation}
 
 -- Where the left input gives the combined rows of a relation of `c` columns, and the right input a relation of the same
 -- kinds, the plan gives their difference. Its numbers are those of the inputs and of the combined triples, and the sums
@@ -16,6 +16,6 @@ abbrev pub Subtracts : ℕ → PlanTree → PlanTree → PlanTree → Type 0
 Subtracts c left right p =
     (kinds : List (List Kind)) (tables : List Rows) (ks : List Kind) (xs ys : Bounded) (ms ns : List ℤ) →
     FitTables tables → length ks ≡ c → IsRelation ks xs →
-    Gives kinds tables left ks (combine xs) ms → Gives kinds tables right ks ys ns →
-    Gives kinds tables p ks (difference xs ys)
+    GivesRelation kinds tables left ks (combine xs) ms → GivesRelation kinds tables right ks ys ns →
+    GivesRelation kinds tables p ks (difference xs ys)
     (ms ++ (ns ++ (triple_numbers (combine xs) ++ flat_map (difference_sums ys) (combine xs))))

@@ -19,7 +19,7 @@ use Rattle.au_plain.specs.Plans.{PlanTree, Scan, Rows, Extend, Keep, Filter, Joi
 use Rattle.au_plain.specs.Meaning.{plain_rows, plain_group, extended, kept, passes}
 use Rattle.au_plain.specs.PlanNumbers.{plan_numbers, group_numbers, term_numbers}
 use Rattle.au_encode.specs.Encode.{encode, encoded_kinds}
-use Rattle.au_encode.specs.Gives.{Gives}
+use Rattle.au_encode.specs.Gives.{GivesRelation}
 use Rattle.au_rwexpr.specs.Added.{AddsInRange}
 use Rattle.au_rwexpr.proofs.Coded.{own}
 use Rattle.au_rwexpr.proofs.Picks.{coded_long}
@@ -155,7 +155,7 @@ wide_enough ks = let e = eq-eqb _ _ (coded_long own own own own own own (length 
 pub scan_gives :
     (tk : List (List Kind)) (tables : List RowList) (i : ℕ) (ks : List Kind) (rows : Bounded) (ns : List ℤ) →
     slice_get tk i ≡ Some (encoded_kinds ks) → slice_get tables i ≡ Some (encode rows) → IsRelation ks rows →
-    Gives tk tables (Scan i (3 * length ks + 3)) ks rows ns
+    GivesRelation tk tables (Scan i (3 * length ks + 3)) ks rows ns
 scan_gives tk tables i ks rows ns kind table relation = record {
   typed = ap (option_and_then (λ js. kinds_if (length js == 3 * length ks + 3) js)) kind ∙ wide_enough ks;
   relation = relation;

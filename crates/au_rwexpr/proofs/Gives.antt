@@ -22,8 +22,8 @@ use Rattle.au_rwexpr.proofs.OnValues.{reading}
 use Rattle.au_rwexpr.proofs.Picks.{Picks, kinds_kept}
 
 -- the plan's rows are those of the relation, in its order
-abbrev pub Gives : List Rows → PlanTree → Bounded → Type 0
-Gives ts p rows = plain_rows p ts ≡ encode rows
+abbrev pub GivesEncoded : List Rows → PlanTree → Bounded → Type 0
+GivesEncoded ts p rows = plain_rows p ts ≡ encode rows
 
 -- the plan is typed, with these columns' encoded kinds
 abbrev pub HasKinds : List (List Kind) → PlanTree → List Kind → Type 0

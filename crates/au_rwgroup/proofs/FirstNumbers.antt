@@ -32,7 +32,7 @@ use Rattle.au_rwexpr.proofs.Allowed.{triple_of, fits_now, lower_fits, all_both, 
 use Rattle.au_rwexpr.proofs.Careful.{careful, Fits, all_careful, careful_grow, column_fits, compare_fits, and_fits, case_fits, add_fits}
 use Rattle.au_rwexpr.proofs.Coded.{rl, rs, rh, cl, cg, cm}
 use Rattle.au_rwexpr.proofs.Columns.{adds}
-use Rattle.au_rwexpr.proofs.Gives.{Gives}
+use Rattle.au_rwexpr.proofs.Gives.{GivesEncoded}
 use Rattle.au_encode.proofs.HeldCells.{AllFit}
 use Rattle.au_rwexpr.proofs.OnNumbers.{lo_fits, hi_fits}
 use Rattle.au_rwexpr.proofs.OnValues.{column_has}
@@ -196,7 +196,7 @@ module _ (by : KeyReading) where
       (parts_fit more (g ∷ gs) (hull_long (λ r. by.keys r.cells) by.k g gs (all_from (IsRangeRow by.ks) (λ r. length (by.keys r.cells) ≡ by.k) (g ∷ gs) by.long all)) t)) q.1))
 
   -- The first grouping adds no number that does not fit.
-  pub first_fits : (ts : List Rows) (p : PlanTree) (more : List PAgg) (rows : Bounded) → IsRelation by.ks rows → Gives ts p rows → AllByRecursion Held rows → AllByRecursion (λ key. Fit (counts_of (members key rows))) (guessed_keys by.keys rows) → AllByRecursion (λ key. Fit (kept_numbers more (members key rows))) (guessed_keys by.keys rows) → Fit (plan_numbers p ts) → Fit (plan_numbers (first_grouping c by.k more p) ts)
+  pub first_fits : (ts : List Rows) (p : PlanTree) (more : List PAgg) (rows : Bounded) → IsRelation by.ks rows → GivesEncoded ts p rows → AllByRecursion Held rows → AllByRecursion (λ key. Fit (counts_of (members key rows))) (guessed_keys by.keys rows) → AllByRecursion (λ key. Fit (kept_numbers more (members key rows))) (guessed_keys by.keys rows) → Fit (plan_numbers p ts) → Fit (plan_numbers (first_grouping c by.k more p) ts)
   first_fits ts p more rows ok g held counts kept np =
       let columns = group_columns c by.k in
       let inner = extend_all columns p in
@@ -221,7 +221,7 @@ module _ (by : KeyReading) where
       (fit_all (term_numbers sum) (map (rows_of.box_row by more rows) all) (last_fits more rows ok counts)))
 
   -- The same where the further aggregates are ends.
-  pub first_fits_ends : (ts : List Rows) (p : PlanTree) (more : List PAgg) (rows : Bounded) → AllByRecursion IsEnd more → IsRelation by.ks rows → Gives ts p rows → AllByRecursion Held rows → AllByRecursion (λ key. Fit (counts_of (members key rows))) (guessed_keys by.keys rows) → Fit (plan_numbers p ts) → Fit (plan_numbers (first_grouping c by.k more p) ts)
+  pub first_fits_ends : (ts : List Rows) (p : PlanTree) (more : List PAgg) (rows : Bounded) → AllByRecursion IsEnd more → IsRelation by.ks rows → GivesEncoded ts p rows → AllByRecursion Held rows → AllByRecursion (λ key. Fit (counts_of (members key rows))) (guessed_keys by.keys rows) → Fit (plan_numbers p ts) → Fit (plan_numbers (first_grouping c by.k more p) ts)
   first_fits_ends ts p more rows ends ok g held counts np =
       let none : (key : List Value) → Fit (kept_numbers more (members key rows)) =
       (λ key. subst (λ ns. Fit ns) (sym (ends_numbers (map wide (members key rows)) more ends)) refl) in
@@ -238,7 +238,7 @@ module _ (by : KeyReading) where
   held_keys part rows h = all_from FitRow Held rows (λ r f. (part r.cells f.cells, f.triple)) h
 
 -- Distinct's plan adds no number that does not fit.
-pub distinct_fits : (ks : List Kind) (ts : List Rows) (p : PlanTree) (rows : Bounded) → IsRelation ks rows → Gives ts p rows → AllFitRows rows → Fit (triple_numbers (distinct_rows rows)) → Fit (plan_numbers p ts) → Fit (plan_numbers (distinct_plan (length ks) p) ts)
+pub distinct_fits : (ks : List Kind) (ts : List Rows) (p : PlanTree) (rows : Bounded) → IsRelation ks rows → GivesEncoded ts p rows → AllFitRows rows → Fit (triple_numbers (distinct_rows rows)) → Fit (plan_numbers p ts) → Fit (plan_numbers (distinct_plan (length ks) p) ts)
 distinct_fits ks ts p rows ok g held f np =
     let by = all_cells ks in
     first_fits_ends by ts p [] rows tt ok g (held_keys by (λ xs h. h) rows held) (group_triples by [] rows ok f) np

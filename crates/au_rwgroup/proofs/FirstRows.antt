@@ -30,7 +30,7 @@ use Rattle.au_rwexpr.proofs.Places.{At, at_more, at_past, all_ends_at}
 use Rattle.au_rwexpr.proofs.Picks.{Picks, kept_are, picks_more, picks_wider, pick_cells, coded_long, all_ends_long}
 use Rattle.au_combine.specs.Boxes.{boxes}
 use Rattle.au_combine.proofs.BoxPlaces.{run_picks}
-use Rattle.au_rwexpr.proofs.Gives.{Gives, rows-extend_all, map-map, map_valid}
+use Rattle.au_rwexpr.proofs.Gives.{GivesEncoded, rows-extend_all, map-map, map_valid}
 use Rattle.au_rwexpr.specs.Adding.{grow}
 use Rattle.au_combine.proofs.Grouping.{map_groups, all_occur, some_with}
 use Rattle.au_combine.proofs.BoxRows.{boxes_rows, hull_long}
@@ -144,7 +144,7 @@ module _ (by : KeyReading) where
       (hull_long (λ r. by.keys r.cells) by.k g gs (all_from (IsRangeRow by.ks) (λ r. length (by.keys r.cells) ≡ by.k) all by.long v))
 
   -- the rows with what they add to the triples
-  pub wide_rows : (ts : List Rows) (p : PlanTree) (rows : Bounded) → IsRelation by.ks rows → Gives ts p rows → plain_rows (extend_all (group_columns c by.k) p) ts ≡ map wide rows
+  pub wide_rows : (ts : List Rows) (p : PlanTree) (rows : Bounded) → IsRelation by.ks rows → GivesEncoded ts p rows → plain_rows (extend_all (group_columns c by.k) p) ts ≡ map wide rows
   wide_rows ts p rows ok g =
       rows-extend_all (group_columns c by.k) p ts
       ∙ ap (map (grow (group_columns c by.k))) g
@@ -157,12 +157,12 @@ module _ (by : KeyReading) where
       encode_cells (hull_of (map (λ r. by.keys r.cells) (grouped key rows))) ++ map (plain_aggregate (map wide (grouped key rows))) (first_aggs n more)
 
   -- the rows of the boxes
-  pub boxed_rows : (ts : List Rows) (p : PlanTree) (more : List PAgg) (rows : Bounded) → IsRelation by.ks rows → Gives ts p rows → plain_rows (boxes by.k (first_aggs n more) (extend_all (group_columns c by.k) p)) ts ≡ map (box_row more rows) (guessed_keys by.keys rows)
+  pub boxed_rows : (ts : List Rows) (p : PlanTree) (more : List PAgg) (rows : Bounded) → IsRelation by.ks rows → GivesEncoded ts p rows → plain_rows (boxes by.k (first_aggs n more) (extend_all (group_columns c by.k) p)) ts ≡ map (box_row more rows) (guessed_keys by.keys rows)
   boxed_rows ts p more rows ok g =
       boxes_rows (IsRangeRow by.ks) wide (λ r. by.keys r.cells) by.k (group.wide_there by) by.long (first_aggs n more) ts (extend_all (group_columns c by.k) p) rows ok (wide_rows ts p rows ok g)
 
   -- The rows of the first grouping.
-  pub first_rows : (ts : List Rows) (p : PlanTree) (more : List PAgg) (rows : Bounded) → IsRelation by.ks rows → Gives ts p rows → plain_rows (first_grouping c by.k more p) ts ≡ map (λ key. first_row more (grouped key rows)) (guessed_keys by.keys rows)
+  pub first_rows : (ts : List Rows) (p : PlanTree) (more : List PAgg) (rows : Bounded) → IsRelation by.ks rows → GivesEncoded ts p rows → plain_rows (first_grouping c by.k more p) ts ≡ map (λ key. first_row more (grouped key rows)) (guessed_keys by.keys rows)
   first_rows ts p more rows ok g =
       let places = cell_places 0 by.k ++ (3 * by.k ∷ (3 * by.k + 1) ∷ (3 * by.k + 4 + length more) ∷ run (3 * by.k + 4) (length more)) in
       let sum = Add (Column (3 * by.k + 2)) (Column (3 * by.k + 3)) in
@@ -194,7 +194,7 @@ module _ (by : KeyReading) where
       subst (λ ss. 1 ≤ (group_counts by.keys ss).most) (sym some.is) (most_there some.first some.others all)))
 
 -- Distinct's plan gives the rows of the bounded operator.
-pub distinct_gives : (ks : List Kind) (ts : List Rows) (p : PlanTree) (rows : Bounded) → IsRelation ks rows → Gives ts p rows → Gives ts (plans.distinct_plan (length ks) p) (bounded.distinct_rows rows)
+pub distinct_gives : (ks : List Kind) (ts : List Rows) (p : PlanTree) (rows : Bounded) → IsRelation ks rows → GivesEncoded ts p rows → GivesEncoded ts (plans.distinct_plan (length ks) p) (bounded.distinct_rows rows)
 distinct_gives ks ts p rows ok g =
     let cells = λ (r : List Span). r in
     let out = output cells [] rows in

@@ -36,7 +36,7 @@ use Rattle.au_rwexpr.specs.Counts.{zero_term, positive}
 use Rattle.au_rwexpr.specs.Flatten.{lo, sg, hi}
 use Rattle.au_rwexpr.proofs.Allowed.{all_both, lower_fits}
 use Rattle.au_rwexpr.proofs.Careful.{careful_grow}
-use Rattle.au_rwexpr.proofs.Gives.{Gives}
+use Rattle.au_rwexpr.proofs.Gives.{GivesEncoded}
 use Rattle.au_rwexpr.proofs.Places.{At}
 use Rattle.au_rwexpr.proofs.PlanNumbersOf.{all_made, fit_all, numbers-extend_all}
 use Rattle.au_rwgroup.specs.declared.folding.Folding.{Folding}
@@ -258,7 +258,7 @@ module _ (by : KeyReading) (aggs : List Agg) (on : AllByRecursion (OnColumn by.k
       (reads_safe (positive (lo t)) _ (refl, tt), (reads_safe (positive (sg t)) _ (refl, tt), terms_safe r aggs terms)) f in
       (careful_grow columns row (row ++ new) added.0).1
 
-  module _ (ts : List Rows) (p : PlanTree) (gives : Gives ts p rows) (fits : FitRows (plain_rows p ts)) (np : Fit (plan_numbers p ts)) (sums : AllByRecursion (λ key. Fit (flat_map (agg_numbers (group_at key)) aggs)) (guessed_keys by.keys rows)) where
+  module _ (ts : List Rows) (p : PlanTree) (gives : GivesEncoded ts p rows) (fits : FitRows (plain_rows p ts)) (np : Fit (plan_numbers p ts)) (sums : AllByRecursion (λ key. Fit (flat_map (agg_numbers (group_at key)) aggs)) (guessed_keys by.keys rows)) where
     abbrev Sums : List Value → Type 0
     Sums key = Fit (flat_map (agg_numbers (group_at key)) aggs)
 

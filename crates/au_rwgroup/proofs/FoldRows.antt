@@ -33,7 +33,7 @@ use Rattle.au_rwexpr.specs.Counts.{zero_term}
 use Rattle.au_rwexpr.proofs.Coded.{rl, rs, rh, cl, cg, cm}
 use Rattle.au_rwexpr.proofs.Columns.{AllMean, adds}
 use Rattle.au_rwexpr.proofs.Flags.{below_zero}
-use Rattle.au_rwexpr.proofs.Gives.{Gives, grow_is, rows-extend_all, map-map, map_valid, same_map}
+use Rattle.au_rwexpr.proofs.Gives.{GivesEncoded, grow_is, rows-extend_all, map-map, map_valid, same_map}
 use Rattle.au_rwexpr.proofs.OnValues.{reading, Has, lo_has, sg_has, hi_has, column_has}
 use Rattle.au_rwexpr.proofs.PlanNumbersOf.{all_passing}
 use Rattle.au_rwexpr.proofs.Picks.{Picks, kept_are, picks_more, pick_cells, coded_cells, coded_triple, coded_long, all_ends_long}
@@ -462,14 +462,14 @@ module _ (by : KeyReading) where
         λ i. a i ∷ b i ∷ g i ∷ h i ∷ j i ∷ rest i
 
     module _ (rows : Bounded) (ok : IsRelation by.ks rows) (ok_aggs : AllByRecursion (IsOn c) aggs) where
-      pub wide_rows : (ts : List Rows) (p : PlanTree) → Gives ts p rows → plain_rows (extend_all (fold_columns t aggs) p) ts ≡ map wide rows
+      pub wide_rows : (ts : List Rows) (p : PlanTree) → GivesEncoded ts p rows → plain_rows (extend_all (fold_columns t aggs) p) ts ≡ map wide rows
       wide_rows ts p g =
           rows-extend_all (fold_columns t aggs) p ts ∙ ap (map (grow (fold_columns t aggs))) g
           ∙ map-map encode_row (grow (fold_columns t aggs)) rows
           ∙ map_valid (IsRangeRow by.ks) (λ r. grow (fold_columns t aggs) (encode_row r)) wide rows ok (grown ok_aggs)
 
       -- The rows of the folds, by the keys that occur.
-      pub rows_by_keys : (ts : List Rows) (p : PlanTree) → Gives ts p rows → plain_rows (folds folding.EqualKeys c by.k aggs p) ts ≡ map (λ key. key ++ all_fold_values aggs (rows_of rows ok key)) (fold_keys rows ok)
+      pub rows_by_keys : (ts : List Rows) (p : PlanTree) → GivesEncoded ts p rows → plain_rows (folds folding.EqualKeys c by.k aggs p) ts ≡ map (λ key. key ++ all_fold_values aggs (rows_of rows ok key)) (fold_keys rows ok)
       rows_by_keys ts p g =
           ap (plain_group (fold_places c by.k) (fold_aggs n aggs)) (wide_rows ts p g)
           ∙ group_made (IsRangeRow by.ks) wide fold_key (fold_places c by.k) same_key (fold_aggs n aggs) rows ok
@@ -477,7 +477,7 @@ module _ (by : KeyReading) where
           (λ key some. ap (λ vs. key ++ vs) (aggs_are (rows_of rows ok key) (rows_ok rows ok key) n aggs wide_at))
 
       -- The same where each row is a fold.
-      pub rows_alone : (ts : List Rows) (p : PlanTree) → Gives ts p rows → plain_rows (folds folding.Rows c by.k aggs p) ts ≡ map (λ r. fold_key r ++ all_fold_values aggs (r ∷ [])) rows
+      pub rows_alone : (ts : List Rows) (p : PlanTree) → GivesEncoded ts p rows → plain_rows (folds folding.Rows c by.k aggs p) ts ≡ map (λ r. fold_key r ++ all_fold_values aggs (r ∷ [])) rows
       rows_alone ts p g =
           let places = fold_places c by.k ++ run n (5 * length aggs) in
           ap (map (kept places)) (wide_rows ts p g) ∙ map-map wide (kept places) rows

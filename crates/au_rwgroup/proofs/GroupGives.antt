@@ -15,7 +15,7 @@ use Rattle.au_encode.proofs.Decoded.{cells_length}
 use Rattle.au_rwgroup.specs.declared.folding.Folding.{Folding}
 use Rattle.au_rwgroup.specs.GroupPlan.{group_plan}
 use Rattle.au_rwexpr.proofs.Places.{EndsOfAll}
-use Rattle.au_rwexpr.proofs.Gives.{Gives}
+use Rattle.au_rwexpr.proofs.Gives.{GivesEncoded}
 use Rattle.au_rwgroup.proofs.GroupRows.{group_by_gives}
 use Rattle.au_rwgroup.proofs.KeyReading.{KeyReading}
 use Rattle.au_rwgroup.proofs.Sharing.{fold_rows, sharing}
@@ -49,7 +49,7 @@ first_cells kinds m fits = record {
 }
 
 -- Group's plan gives the rows of the bounded operator, if each aggregate is over a column that is there.
-pub group_gives : (how : Folding) (ks : List Kind) (m : ℕ) → m ≤ length ks → (aggs : List Agg) → AllByRecursion (IsOn (length ks)) aggs → (ts : List Rows) (p : PlanTree) (rows : Bounded) → IsRelation ks rows → Gives ts p rows → Gives ts (group_plan how (length ks) m aggs p) (bounded.group m aggs rows)
+pub group_gives : (how : Folding) (ks : List Kind) (m : ℕ) → m ≤ length ks → (aggs : List Agg) → AllByRecursion (IsOn (length ks)) aggs → (ts : List Rows) (p : PlanTree) (rows : Bounded) → IsRelation ks rows → GivesEncoded ts p rows → GivesEncoded ts (group_plan how (length ks) m aggs p) (bounded.group m aggs rows)
 group_gives how ks m fits aggs there ts p rows ok g =
     group_by_gives (first_cells ks m fits) aggs there rows ok (sharing (first_cells ks m fits) rows ok how) how ts p g
     (fold_rows (first_cells ks m fits) rows ok how aggs there ts p g)

@@ -21,7 +21,7 @@ use Rattle.au_plain.specs.Plans.{PlanTree, Join}
 use Rattle.au_plain.specs.PlanKinds.{FitTables}
 use Rattle.au_plain.specs.PlanNumbers.{scans, plan_numbers}
 use Rattle.au_encode.specs.Encode.{encoded_kinds}
-use Rattle.au_encode.specs.Gives.{Gives}
+use Rattle.au_encode.specs.Gives.{GivesRelation}
 use Rattle.au_encode.proofs.HeldCells.{AllFit, gives_held}
 use Rattle.au_rwexpr.specs.Counts.{positive}
 use Rattle.au_rwexpr.specs.Flatten.{sg}
@@ -60,7 +60,7 @@ parts m aggs ks js h =
     let q = and_then_is _ (all_kinds (map (agg_kind ks) aggs)) js p.1 in
     record { enough = leb-true m (length ks) p.0; others = q.0; typed = q.1; whole = some_is _ _ q.2 }
 
-module _ (how : Folding) (kinds : List (List Kind)) (tables : List Rows) (ks : List Kind) (m : ℕ) (aggs : List Agg) (of : PlanTree) (rows : Bounded) (ns : List ℤ) (others : List Kind) (enough : m ≤ length ks) (typed : all_kinds (map (agg_kind ks) aggs) ≡ Some others) (tables_fit : FitTables tables) (g : Gives kinds tables of ks rows ns) where
+module _ (how : Folding) (kinds : List (List Kind)) (tables : List Rows) (ks : List Kind) (m : ℕ) (aggs : List Agg) (of : PlanTree) (rows : Bounded) (ns : List ℤ) (others : List Kind) (enough : m ≤ length ks) (typed : all_kinds (map (agg_kind ks) aggs) ≡ Some others) (tables_fit : FitTables tables) (g : GivesRelation kinds tables of ks rows ns) where
   abbrev t : Typed ks aggs others
   t = typed_on ks aggs others typed
 
@@ -81,7 +81,7 @@ module _ (how : Folding) (kinds : List (List Kind)) (tables : List Rows) (ks : L
       (gives_held kinds tables of ks rows ns g tables_fit p.0) (g.fit p.0) (λ xs h. first_fit m xs h) keys_long kinds_there
       (all_fit (λ key. flat_map (agg_numbers (grouped (take m) rows key)) aggs) (guessed_keys (take m) rows) q.0) q.1
 
-  all_given : Gives kinds tables (group_plan how (length ks) m aggs of) (take m ks ++ others) (bounded.group m aggs rows) (ns ++ own_numbers)
+  all_given : GivesRelation kinds tables (group_plan how (length ks) m aggs of) (take m ks ++ others) (bounded.group m aggs rows) (ns ++ own_numbers)
   all_given = record {
     typed =
         group_typed ks (take m ks) m keys_long kinds_there aggs t.on kinds of g.typed how
@@ -115,8 +115,8 @@ module _ (how : Folding) (c m : ℕ) (aggs : List Agg) (of p : PlanTree) (is : p
   group_as_is kinds tables ks js rows ns fits long typed g =
       let own = grouping_numbers (take m) aggs rows ++ triple_numbers (bounded.group m aggs rows) in
       let q = parts m aggs ks js typed in
-      subst (λ n. Gives kinds tables (group_plan how n m aggs of) js (bounded.group m aggs rows) (ns ++ own)) long
-      (subst (λ es. Gives kinds tables (group_plan how (length ks) m aggs of) es (bounded.group m aggs rows) (ns ++ own)) q.whole
+      subst (λ n. GivesRelation kinds tables (group_plan how n m aggs of) js (bounded.group m aggs rows) (ns ++ own)) long
+      (subst (λ es. GivesRelation kinds tables (group_plan how (length ks) m aggs of) es (bounded.group m aggs rows) (ns ++ own)) q.whole
       (all_given how kinds tables ks m aggs of rows ns q.others q.enough q.typed fits g))
 
   pub group_gives_all : Groups c m aggs of p

@@ -32,7 +32,7 @@ use Rattle.au_rwexpr.specs.Meets.{meets_term}
 use Rattle.au_rwexpr.proofs.Allowed.{all_both}
 use Rattle.au_rwexpr.proofs.Coded.{own}
 use Rattle.au_rwexpr.proofs.Columns.{add_columns}
-use Rattle.au_rwexpr.proofs.Gives.{Gives, HasKinds}
+use Rattle.au_rwexpr.proofs.Gives.{GivesEncoded, HasKinds}
 use Rattle.au_rwexpr.proofs.OnValues.{reading}
 use Rattle.au_rwexpr.proofs.Places.{EndsOfAll}
 use Rattle.au_rwexpr.proofs.PlanNumbersOf.{fit_all, all_made, numbers-extend_all}
@@ -153,7 +153,7 @@ module _ (by : KeyReading) (aggs : List Agg) (on : AllByRecursion (OnColumn by.k
       (all_made (λ fold. TermsFit (j, fold)) TermsFit (λ fold. (j, fold)) (folds_at j) (numbers.key_terms by aggs are_there rows ok shared j v.0 aggs f.0) (λ fold h. h))
       (pair_terms js v.1 f.1)
 
-  module _ (tk : List (List Kind)) (ts : List Rows) (p : PlanTree) (typed : HasKinds tk p by.ks) (tables : FitTables ts) (g : Gives ts p rows) (held : AllFitRows rows) (np : Fit (plan_numbers p ts)) (part : (xs : List Span) → AllFit xs → AllFit (by.keys xs)) (kks_long : length by.kks ≡ by.k) (kind_part : (row : List Kind) (i : ℕ) → EndsOfAll own own own row i by.ks → EndsOfAll own own own row i by.kks) (sums : AllByRecursion (λ key. Fit (numbers_at key)) keys_list) (triples : Fit (triple_numbers (group_by by.keys aggs rows))) where
+  module _ (tk : List (List Kind)) (ts : List Rows) (p : PlanTree) (typed : HasKinds tk p by.ks) (tables : FitTables ts) (g : GivesEncoded ts p rows) (held : AllFitRows rows) (np : Fit (plan_numbers p ts)) (part : (xs : List Span) → AllFit xs → AllFit (by.keys xs)) (kks_long : length by.kks ≡ by.k) (kind_part : (row : List Kind) (i : ℕ) → EndsOfAll own own own row i by.ks → EndsOfAll own own own row i by.kks) (sums : AllByRecursion (λ key. Fit (numbers_at key)) keys_list) (triples : Fit (triple_numbers (group_by by.keys aggs rows))) where
     abbrev boxes : PlanTree
     boxes = first_grouping c by.k more p
 

@@ -38,7 +38,7 @@ use Rattle.au_rwexpr.proofs.Places.{Ends}
 use Rattle.au_rwexpr.proofs.Columns.{AllMean, adds}
 use Rattle.au_rwexpr.proofs.OnValues.{reading, Has, column_has}
 use Rattle.au_rwexpr.proofs.Picks.{kept_are, picks_more, pick_cells, pick_three, ends_past, all_ends_long, all_ends-append}
-use Rattle.au_rwexpr.proofs.Gives.{Gives, grow_is, rows-extend_all, map-map, map_valid}
+use Rattle.au_rwexpr.proofs.Gives.{GivesEncoded, grow_is, rows-extend_all, map-map, map_valid}
 use Rattle.au_rwexpr.specs.Adding.{grow}
 use Rattle.au_rwexpr.proofs.Present.{present_map}
 use Rattle.au_rwgroup.proofs.FirstRows.{first_rows, most_there}
@@ -595,7 +595,7 @@ module _ (by : KeyReading) (aggs : List Agg) (ok_aggs : AllByRecursion (IsOn (le
       (member.kept_at by more aggs rows ok (cells ++ three) (row_of s.1) (3 * by.k + 3) s.0 aggs (omega (arith, cells_long, length-append cells three)))
 
   -- Group's plan gives the rows of the bounded operator.
-  pub group_by_gives : (how : Folding) (ts : List Rows) (p : PlanTree) → Gives ts p rows → plain_rows (plans_of.folds how c by.k aggs p) ts ≡ map row_of shared.parts → Gives ts (plans.group_plan how c by.k aggs p) (bounded.group_by by.keys aggs rows)
+  pub group_by_gives : (how : Folding) (ts : List Rows) (p : PlanTree) → GivesEncoded ts p rows → plain_rows (plans_of.folds how c by.k aggs p) ts ≡ map row_of shared.parts → GivesEncoded ts (plans.group_plan how c by.k aggs p) (bounded.group_by by.keys aggs rows)
   group_by_gives how ts p h folded_are =
       let columns = all_member_columns places (3 * by.k + 3) aggs in
       let boxes = first_grouping c by.k more p in

@@ -13,7 +13,7 @@ use Rattle.au_algebra.proofs.GroupRelation.{distinct_relation, total_relation}
 use Rattle.au_plain.specs.declared.plan.PAgg.{PAgg}
 use Rattle.au_plain.specs.Plans.{PlanTree, extend_all}
 use Rattle.au_plain.specs.PlanNumbers.{scans}
-use Rattle.au_encode.specs.Gives.{Gives}
+use Rattle.au_encode.specs.Gives.{GivesRelation}
 use Rattle.au_encode.proofs.HeldCells.{gives_held}
 use Rattle.au_rwexpr.proofs.Counting.{scans-extend_all}
 use Rattle.au_rwgroup.specs.Gives.{Distincts, Totals}
@@ -34,7 +34,7 @@ module _ (c : ℕ) (of p : PlanTree) (is : p ≡ distinct_plan c of) where
   distinct_as_is : Distincts c of (distinct_plan c of)
   distinct_as_is kinds tables ks rows ns fits long g =
       let own = triple_numbers (bounded.distinct_rows rows) in
-      subst (λ n. Gives kinds tables (distinct_plan n of) ks (bounded.distinct_rows rows) (ns ++ own)) long
+      subst (λ n. GivesRelation kinds tables (distinct_plan n of) ks (bounded.distinct_rows rows) (ns ++ own)) long
       (record {
         typed = distinct_kinds kinds ks of g.typed;
         relation = distinct_relation ks rows g.relation;
@@ -62,7 +62,7 @@ module _ (c : ℕ) (aggs : List Agg) (of p : PlanTree) (is : p ≡ total_plan c 
   total_as_is kinds tables ks js rows ns fits long typed g =
       let own = flat_map (agg_numbers (all_rows rows)) aggs in
       let b = if_some (list_all is_sum aggs) (all_kinds (map (agg_kind ks) aggs)) js typed in
-      subst (λ n. Gives kinds tables (total_plan n aggs of) js (bounded.total aggs rows) (ns ++ own)) long
+      subst (λ n. GivesRelation kinds tables (total_plan n aggs of) js (bounded.total aggs rows) (ns ++ own)) long
       (record {
         typed = total_plan_kinds kinds ks js aggs typed of g.typed;
         relation = total_relation ks js aggs rows b.0 b.1 g.relation;

@@ -16,7 +16,7 @@ use Rattle.au_plain.specs.Plans.{PlanTree}
 use Rattle.au_plain.specs.Meaning.{plain_rows}
 use Rattle.au_encode.specs.Encode.{encode_cells}
 use Rattle.au_rwexpr.proofs.Coded.{rl, rs, rh}
-use Rattle.au_rwexpr.proofs.Gives.{Gives, map-map}
+use Rattle.au_rwexpr.proofs.Gives.{GivesEncoded, map-map}
 use Rattle.au_rwexpr.proofs.Picks.{all_ends_long}
 use Rattle.au_rwexpr.proofs.PlanNumbersOf.{all_made}
 use Rattle.au_rwgroup.specs.declared.folding.Folding.{Folding}
@@ -170,15 +170,15 @@ module _ (by : KeyReading) where
     sharing folding.EqualKeys = by_keys
     sharing folding.Rows = each_alone
 
-    rows_by_keys : (aggs : List Agg) → AllByRecursion (IsOn (length by.ks)) aggs → (ts : List Rows) (p : PlanTree) → Gives ts p rows → plain_rows (folds folding.EqualKeys (length by.ks) by.k aggs p) ts ≡ map (fold_row aggs) by_keys.parts
+    rows_by_keys : (aggs : List Agg) → AllByRecursion (IsOn (length by.ks)) aggs → (ts : List Rows) (p : PlanTree) → GivesEncoded ts p rows → plain_rows (folds folding.EqualKeys (length by.ks) by.k aggs p) ts ≡ map (fold_row aggs) by_keys.parts
     unfolding by_keys
     rows_by_keys aggs there ts p g = folds_of.rows_by_keys by aggs rows ok there ts p g ∙ sym (map-map with_key (fold_row aggs) keys)
 
-    rows_alone : (aggs : List Agg) → AllByRecursion (IsOn (length by.ks)) aggs → (ts : List Rows) (p : PlanTree) → Gives ts p rows → plain_rows (folds folding.Rows (length by.ks) by.k aggs p) ts ≡ map (fold_row aggs) each_alone.parts
+    rows_alone : (aggs : List Agg) → AllByRecursion (IsOn (length by.ks)) aggs → (ts : List Rows) (p : PlanTree) → GivesEncoded ts p rows → plain_rows (folds folding.Rows (length by.ks) by.k aggs p) ts ≡ map (fold_row aggs) each_alone.parts
     unfolding each_alone
     rows_alone aggs there ts p g = folds_of.rows_alone by aggs rows ok there ts p g ∙ sym (map-map alone (fold_row aggs) rows)
 
     -- The rows of the folds.
-    pub fold_rows : (how : Folding) (aggs : List Agg) → AllByRecursion (IsOn (length by.ks)) aggs → (ts : List Rows) (p : PlanTree) → Gives ts p rows → plain_rows (folds how (length by.ks) by.k aggs p) ts ≡ map (fold_row aggs) (sharing how).parts
+    pub fold_rows : (how : Folding) (aggs : List Agg) → AllByRecursion (IsOn (length by.ks)) aggs → (ts : List Rows) (p : PlanTree) → GivesEncoded ts p rows → plain_rows (folds how (length by.ks) by.k aggs p) ts ≡ map (fold_row aggs) (sharing how).parts
     fold_rows folding.EqualKeys aggs there ts p g = rows_by_keys aggs there ts p g
     fold_rows folding.Rows aggs there ts p g = rows_alone aggs there ts p g

@@ -41,7 +41,7 @@ use Rattle.au_rwexpr.proofs.Allowed.{all_both, all_of}
 use Rattle.au_rwexpr.proofs.Careful.{careful, Fits, all_careful, careful_grow, chosen_fits, column_fits, compare_fits, multiply_fits}
 use Rattle.au_rwexpr.proofs.Coded.{rl, rs, rh, cl, cg, cm}
 use Rattle.au_rwexpr.proofs.Columns.{adds}
-use Rattle.au_rwexpr.proofs.Gives.{Gives}
+use Rattle.au_rwexpr.proofs.Gives.{GivesEncoded}
 use Rattle.au_encode.proofs.HeldCells.{AllFit}
 use Rattle.au_rwexpr.proofs.OnNumbers.{lo_fits, sg_fits, hi_fits}
 use Rattle.au_rwexpr.proofs.OnValues.{Has, lo_has, sg_has, hi_has, column_has}
@@ -213,7 +213,7 @@ module _ (ks : List Kind) where
         ∙ append-nil (flat_map (magnitudes all) (total_sums 0 aggs))
 
     -- The plan of the sums adds no number that does not fit.
-    pub sums_fit : (ts : List Rows) (p : PlanTree) (rows : Bounded) → IsRelation ks rows → Gives ts p rows → AllFitRows rows → Fit (flat_map (agg_numbers (all_rows rows)) aggs) → Fit (plan_numbers p ts) → Fit (plan_numbers (sums c aggs p) ts)
+    pub sums_fit : (ts : List Rows) (p : PlanTree) (rows : Bounded) → IsRelation ks rows → GivesEncoded ts p rows → AllFitRows rows → Fit (flat_map (agg_numbers (all_rows rows)) aggs) → Fit (plan_numbers p ts) → Fit (plan_numbers (sums c aggs p) ts)
     sums_fit ts p rows v g held f np =
         let columns = total_columns t aggs in
         let terms_plan = Keep (run n w) (extend_all columns p) in
@@ -238,6 +238,6 @@ module _ (ks : List Kind) where
         (all_of (λ row. Fit (grow_numbers ones row)) (λ row. refl) (plain_rows grouped ts))
 
 -- Total's plan adds no number that does not fit.
-pub total_fits : (ks : List Kind) (aggs : List Agg) → AllByRecursion (IsSumOf (length ks)) aggs → (ts : List Rows) (p : PlanTree) (rows : Bounded) → IsRelation ks rows → Gives ts p rows → AllFitRows rows → Fit (flat_map (agg_numbers (all_rows rows)) aggs) → Fit (plan_numbers p ts) → Fit (plan_numbers (total_plan (length ks) aggs p) ts)
+pub total_fits : (ks : List Kind) (aggs : List Agg) → AllByRecursion (IsSumOf (length ks)) aggs → (ts : List Rows) (p : PlanTree) (rows : Bounded) → IsRelation ks rows → GivesEncoded ts p rows → AllFitRows rows → Fit (flat_map (agg_numbers (all_rows rows)) aggs) → Fit (plan_numbers p ts) → Fit (plan_numbers (total_plan (length ks) aggs p) ts)
 total_fits ks [] ok ts p rows v g held f np = refl
 total_fits ks (a ∷ aggs) ok ts p rows v g held f np = sums_fit ks (a ∷ aggs) ok ts p rows v g held f np

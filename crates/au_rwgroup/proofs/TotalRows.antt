@@ -38,7 +38,7 @@ use Rattle.au_rwexpr.proofs.OnValues.{reading, lo_has, sg_has, hi_has, column_ha
 use Rattle.au_rwexpr.proofs.Picks.{kept_are, coded_cells, coded_triple, coded_long}
 use Rattle.au_combine.proofs.BoxPlaces.{at_own, run_picks}
 use Rattle.au_combine.proofs.BoxRows.{cell}
-use Rattle.au_rwexpr.proofs.Gives.{Gives, grow_is, same_map, rows-extend_all, map-map, map_valid}
+use Rattle.au_rwexpr.proofs.Gives.{GivesEncoded, grow_is, same_map, rows-extend_all, map-map, map_valid}
 use Rattle.au_rwexpr.specs.Adding.{grow}
 use Rattle.au_rwgroup.proofs.Signed.{signed_has}
 use Rattle.au_rwexpr.proofs.Coded.{rl, rs, rh, cl, cg, cm}
@@ -153,7 +153,7 @@ module _ (ks : List Kind) where
         ∙ (λ k. (whole k).lo ∷ (whole k).sg ∷ (whole k).hi ∷ encode_cells (map (aggregate (all_rows rows)) bs))
 
     -- the rows that are summed
-    pub term_rows : (ts : List Rows) (p : PlanTree) (rows : Bounded) → IsRelation ks rows → Gives ts p rows → plain_rows (Keep (run n w) (extend_all (total_columns t aggs) p)) ts ≡ map terms rows
+    pub term_rows : (ts : List Rows) (p : PlanTree) (rows : Bounded) → IsRelation ks rows → GivesEncoded ts p rows → plain_rows (Keep (run n w) (extend_all (total_columns t aggs) p)) ts ≡ map terms rows
     term_rows ts p rows v g =
         let columns = total_columns t aggs in
         ap (map (kept (run n w))) (rows-extend_all columns p ts ∙ ap (map (grow columns)) g ∙ map-map encode_row (grow columns) rows)
@@ -165,7 +165,7 @@ module _ (ks : List Kind) where
     terms_there r = subst (λ row. EndsOfAll (low r) (mid r) (high r) row 0 aggs) (append-nil (terms r)) (all_ends_at (low r) (mid r) (high r) [] [] 0 aggs refl)
 
     -- The plan of the sums gives the row of the bounded operator.
-    pub sums_give : (ts : List Rows) (p : PlanTree) (rows : Bounded) → IsRelation ks rows → Gives ts p rows → Gives ts (sums c aggs p) (bounded.total aggs rows)
+    pub sums_give : (ts : List Rows) (p : PlanTree) (rows : Bounded) → IsRelation ks rows → GivesEncoded ts p rows → GivesEncoded ts (sums c aggs p) (bounded.total aggs rows)
     sums_give ts p rows v g =
         let columns = total_columns t aggs in
         let inner = term_rows ts p rows v g in
@@ -183,6 +183,6 @@ module _ (ks : List Kind) where
         (adds reading cells (three one_term one_term one_term) (value.Int (pos 1) ∷ value.Int (pos 1) ∷ value.Int (pos 1) ∷ []) ((λ more. refl), ((λ more. refl), ((λ more. refl), tt)))))
 
 -- Total's plan gives the row of the bounded operator.
-pub total_gives : (ks : List Kind) (aggs : List Agg) → AllByRecursion (IsSumOf (length ks)) aggs → (ts : List Rows) (p : PlanTree) (rows : Bounded) → IsRelation ks rows → Gives ts p rows → Gives ts (total_plan (length ks) aggs p) (bounded.total aggs rows)
+pub total_gives : (ks : List Kind) (aggs : List Agg) → AllByRecursion (IsSumOf (length ks)) aggs → (ts : List Rows) (p : PlanTree) (rows : Bounded) → IsRelation ks rows → GivesEncoded ts p rows → GivesEncoded ts (total_plan (length ks) aggs p) (bounded.total aggs rows)
 total_gives ks [] ok ts p rows v g = refl
 total_gives ks (a ∷ aggs) ok ts p rows v g = sums_give ks (a ∷ aggs) ok ts p rows v g

@@ -18,7 +18,7 @@ use Rattle.au_algebra.proofs.Items.{and_then_is}
 use Rattle.au_plain.specs.Plans.{PlanTree}
 use Rattle.au_rwgroup.specs.Totals.{total_plan}
 use Rattle.au_combine.proofs.BoxPlaces.{at_within}
-use Rattle.au_rwexpr.proofs.Gives.{Gives}
+use Rattle.au_rwexpr.proofs.Gives.{GivesEncoded}
 use Rattle.au_rwgroup.proofs.TotalRows.{IsSumOf, total_gives}
 
 -- what a test lets through, where it is there
@@ -38,7 +38,7 @@ sums_typed ks (agg.Min c ∷ aggs) js s h = absurd (true≢false (sym s))
 sums_typed ks (agg.Max c ∷ aggs) js s h = absurd (true≢false (sym s))
 
 -- The plan of a typed Total gives the row of the bounded operator.
-pub typed_total_gives : (ks js : List Kind) (aggs : List Agg) → total_kinds aggs ks ≡ Some js → (ts : List Rows) (p : PlanTree) (rows : Bounded) → IsRelation ks rows → Gives ts p rows → Gives ts (total_plan (length ks) aggs p) (bounded.total aggs rows)
+pub typed_total_gives : (ks js : List Kind) (aggs : List Agg) → total_kinds aggs ks ≡ Some js → (ts : List Rows) (p : PlanTree) (rows : Bounded) → IsRelation ks rows → GivesEncoded ts p rows → GivesEncoded ts (total_plan (length ks) aggs p) (bounded.total aggs rows)
 typed_total_gives ks js aggs h ts p rows ok g =
     let b = if_some (list_all is_sum aggs) (all_kinds (map (agg_kind ks) aggs)) js h in
     total_gives ks aggs (sums_typed ks aggs js b.0 b.1) ts p rows ok g

@@ -20,7 +20,7 @@ use Rattle.au_algebra.specs.Typing.{agg_kind, all_kinds, group_kinds}
 use Rattle.au_algebra.proofs.Each.{all_append}
 use Rattle.au_algebra.proofs.Items.{chosen_is}
 use Rattle.au_plain.specs.Plans.{PlanTree}
-use Rattle.au_encode.specs.Gives.{Gives}
+use Rattle.au_encode.specs.Gives.{GivesRelation}
 use Rattle.au_encode.proofs.Decoded.{cells_length}
 use Rattle.au_rwexpr.proofs.Present.{present_all}
 use Rattle.au_rwcore.specs.Gives.{Unites}
@@ -91,10 +91,10 @@ module _ (c k : ℕ) (aggs : List Agg) (of with_members first second p : PlanTre
       let are : group k moved (members k rows) ≡ points = points_are_groups.rows ks js k aggs rows typed g.relation in
       let a = of_first kinds tables (keys ++ ks) js (members k rows) ms fits wide (behind_kinds k ks js aggs within typed) h in
       let a_own = grouping_numbers (take k) moved (members k rows) ++ triple_numbers (group k moved (members k rows)) in
-      let b_rows : Gives kinds tables (other_plan c k of) ks (other_rows (take k) rows) ns = subst (λ q. Gives kinds tables q ks (other_rows (take k) rows) ns) (ap (λ n. other_plan n k of) long) (other_gives ks k within kinds tables of rows ns fits g) in
+      let b_rows : GivesRelation kinds tables (other_plan c k of) ks (other_rows (take k) rows) ns = subst (λ q. GivesRelation kinds tables q ks (other_rows (take k) rows) ns) (ap (λ n. other_plan n k of) long) (other_gives ks k within kinds tables of rows ns fits g) in
       let b = of_second kinds tables ks js (other_rows (take k) rows) ns fits long typed b_rows in
       let b_own = grouping_numbers (take k) aggs (other_rows (take k) rows) ++ triple_numbers others in
-      let a_points : Gives kinds tables first js points (ms ++ a_own) = subst (λ q. Gives kinds tables first js q (ms ++ a_own)) are a in
+      let a_points : GivesRelation kinds tables first js points (ms ++ a_own) = subst (λ q. GivesRelation kinds tables first js q (ms ++ a_own)) are a in
       let whole = of_plan kinds tables js points others (ms ++ a_own) (ns ++ b_own) a_points b in
       let own = numbers_by_points (take k) aggs rows in
       let rest = grouping_numbers (take k) aggs (other_rows (take k) rows) ++ triple_numbers (group_points k aggs rows) in
@@ -142,12 +142,12 @@ module _ (c : ℕ) (of first second p : PlanTree) where
   distinct_gives of_first of_second of_plan kinds tables ks rows ns fits long g =
       let points = point_outputs (λ cells. cells) [] rows in
       let others = distinct_rows (other_rows (λ cells. cells) rows) in
-      let a_rows : Gives kinds tables (guess_plan c of) ks (map guess_row rows) ns = subst (λ q. Gives kinds tables q ks (map guess_row rows) ns) (ap (λ n. guess_plan n of) long) (guess_gives ks kinds tables of rows ns fits g) in
+      let a_rows : GivesRelation kinds tables (guess_plan c of) ks (map guess_row rows) ns = subst (λ q. GivesRelation kinds tables q ks (map guess_row rows) ns) (ap (λ n. guess_plan n of) long) (guess_gives ks kinds tables of rows ns fits g) in
       let a = of_first kinds tables ks (map guess_row rows) ns fits long a_rows in
       let are : distinct_rows (map guess_row rows) ≡ points = points_are_distinct ks rows g.relation in
-      let a_points : Gives kinds tables first ks points (ns ++ triple_numbers points) = subst (λ q. Gives kinds tables first ks q (ns ++ triple_numbers q)) are a in
-      let b_take : Gives kinds tables (other_plan c c of) ks (other_rows (take (length ks)) rows) ns = subst (λ q. Gives kinds tables q ks (other_rows (take (length ks)) rows) ns) (λ i. other_plan (long i) (long i) of) (other_gives ks (length ks) (omega arith) kinds tables of rows ns fits g) in
-      let b_rows : Gives kinds tables (other_plan c c of) ks (other_rows (λ cells. cells) rows) ns = subst (λ q. Gives kinds tables (other_plan c c of) ks q ns) (others_are ks rows g.relation) b_take in
+      let a_points : GivesRelation kinds tables first ks points (ns ++ triple_numbers points) = subst (λ q. GivesRelation kinds tables first ks q (ns ++ triple_numbers q)) are a in
+      let b_take : GivesRelation kinds tables (other_plan c c of) ks (other_rows (take (length ks)) rows) ns = subst (λ q. GivesRelation kinds tables q ks (other_rows (take (length ks)) rows) ns) (λ i. other_plan (long i) (long i) of) (other_gives ks (length ks) (omega arith) kinds tables of rows ns fits g) in
+      let b_rows : GivesRelation kinds tables (other_plan c c of) ks (other_rows (λ cells. cells) rows) ns = subst (λ q. GivesRelation kinds tables (other_plan c c of) ks q ns) (others_are ks rows g.relation) b_take in
       let b = of_second kinds tables ks (other_rows (λ cells. cells) rows) ns fits long b_rows in
       let whole = of_plan kinds tables ks points others (ns ++ triple_numbers points) (ns ++ triple_numbers others) a_points b in
       record {

@@ -11,7 +11,7 @@ use Rattle.au_algebra.specs.Ordinary.{Rows}
 use Rattle.au_plain.specs.Plans.{PlanTree}
 use Rattle.au_plain.specs.PlanNumbers.{scans}
 use Rattle.au_plain.specs.PlanKinds.{FitTables}
-use Rattle.au_encode.specs.Gives.{Gives}
+use Rattle.au_encode.specs.Gives.{GivesRelation}
 use Rattle.au_encode.proofs.HeldCells.{gives_held}
 use Rattle.au_rwcore.specs.Gives.{Multiplies, Selects}
 use Rattle.au_rwgroup.specs.Gives.{Distincts}
@@ -27,9 +27,9 @@ use Rattle.au_rwpoints.proofs.RowPlans.{key_gives}
 module _ (c k : ℕ) (of rows_plan p : PlanTree) (is : rows_plan ≡ key_plan c k of) where
   rows_give :
       (kinds : List (List Kind)) (tables : List Rows) (ks : List Kind) (rows : Bounded) (ns : List ℤ) →
-      FitTables tables → length ks ≡ c → k ≤ c → Gives kinds tables of ks rows ns → Gives kinds tables rows_plan (take k ks) (map (key_row k) rows) ns
+      FitTables tables → length ks ≡ c → k ≤ c → GivesRelation kinds tables of ks rows ns → GivesRelation kinds tables rows_plan (take k ks) (map (key_row k) rows) ns
   rows_give kinds tables ks rows ns fits long within g =
-      subst (λ q. Gives kinds tables q (take k ks) (map (key_row k) rows) ns) (ap (λ n. key_plan n k of) long ∙ sym is)
+      subst (λ q. GivesRelation kinds tables q (take k ks) (map (key_row k) rows) ns) (ap (λ n. key_plan n k of) long ∙ sym is)
       (key_gives ks k (omega (arith, long, within)) kinds tables of rows ns fits g)
 
   pub points_give : Distincts k rows_plan p → Points c k of p
@@ -55,7 +55,7 @@ module _ (c k : ℕ) (of points pairs p : PlanTree) where
       let keys = take k ks in
       let condition = equal_columns k 0 k in
       let long_keys : length keys ≡ k = length-take-le k ks (omega (arith, long, within)) in
-      let first : Gives kinds tables points keys (point_rows k rows) ns = of_points kinds tables ks rows ns fits long within g in
+      let first : GivesRelation kinds tables points keys (point_rows k rows) ns = of_points kinds tables ks rows ns fits long within g in
       let both = of_pairs kinds tables keys ks (point_rows k rows) rows ns ns long_keys long first g in
       let paired = product (point_rows k rows) rows in
       let pair_own = ns ++ (ns ++ triple_numbers paired) in

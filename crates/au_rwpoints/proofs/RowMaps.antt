@@ -17,7 +17,7 @@ use Rattle.au_plain.specs.PlanKinds.{FitTables, plain_kind}
 use Rattle.au_plain.specs.PlanNumbers.{plan_numbers, term_numbers}
 use Rattle.au_plain.specs.Plans.{PlanTree, Extend, Keep}
 use Rattle.au_encode.specs.Encode.{encode, encode_row, encoded_kinds}
-use Rattle.au_encode.specs.Gives.{Gives}
+use Rattle.au_encode.specs.Gives.{GivesRelation}
 use Rattle.au_encode.proofs.HeldCells.{AllFitRows, FitRow, gives_held}
 use Rattle.au_rwexpr.proofs.Allowed.{fits_now}
 use Rattle.au_rwexpr.proofs.Careful.{Fits}
@@ -52,7 +52,7 @@ module _
 
     pub map_gives :
         (kinds : List (List Kind)) (tables : List Rows) (p : PlanTree) (rows : Bounded) (ns : List ℤ) →
-        FitTables tables → Gives kinds tables p ks rows ns → Gives kinds tables (Keep places (Extend e p)) js (map f rows) ns
+        FitTables tables → GivesRelation kinds tables p ks rows ns → GivesRelation kinds tables (Keep places (Extend e p)) js (map f rows) ns
     map_gives kinds tables p rows ns tables_fit g = record {
       typed =
           kinds-keep kinds places (Extend e p) (encoded_kinds ks ++ (kind.Int ∷ [])) (encoded_kinds js)

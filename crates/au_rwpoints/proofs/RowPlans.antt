@@ -17,7 +17,7 @@ use Rattle.au_plain.specs.PlanKinds.{FitTables, plain_kind}
 use Rattle.au_plain.specs.Plans.{PlanTree, Filter}
 use Rattle.au_plain.specs.PTerms as term
 use Rattle.au_encode.specs.Encode.{encode_cells, encode_row, encoded_kinds, triple_kinds}
-use Rattle.au_encode.specs.Gives.{Gives}
+use Rattle.au_encode.specs.Gives.{GivesRelation}
 use Rattle.au_encode.proofs.Decoded.{cells_length}
 use Rattle.au_encode.proofs.HeldCells.{FitRow}
 use Rattle.au_expr.proofs.Fits.{fit_parts}
@@ -133,7 +133,7 @@ module _ (ks : List Kind) where
 
     pub key_gives :
         (kinds : List (List Kind)) (tables : List Rows) (p : PlanTree) (rows : Bounded) (ns : List ℤ) →
-        FitTables tables → Gives kinds tables p ks rows ns → Gives kinds tables (key_plan c k p) (take k ks) (map (key_row k) rows) ns
+        FitTables tables → GivesRelation kinds tables p ks rows ns → GivesRelation kinds tables (key_plan c k p) (take k ks) (map (key_row k) rows) ns
     key_gives =
         map_gives ks (take k ks) (key_row k) one_term (λ r. 1) (guess_places 0 k ++ ((3 * c + 3) ∷ (3 * c + 3) ∷ (3 * c + 3) ∷ []))
         key_valid (λ r v. literal_has (encode_row r) 1) key_encoded refl key_kinds (λ r v h more. refl)
@@ -145,7 +145,7 @@ module _ (ks : List Kind) where
 
     pub other_gives :
         (kinds : List (List Kind)) (tables : List Rows) (p : PlanTree) (rows : Bounded) (ns : List ℤ) →
-        FitTables tables → Gives kinds tables p ks rows ns → Gives kinds tables (other_plan c k p) ks (other_rows (take k) rows) ns
+        FitTables tables → GivesRelation kinds tables p ks rows ns → GivesRelation kinds tables (other_plan c k p) ks (other_rows (take k) rows) ns
     other_gives kinds tables p rows ns fits g =
         map_gives ks ks possible_row zero_term (λ r. 0) (cell_places 0 c ++ ((3 * c + 3) ∷ (3 * c + 3) ∷ (3 * c + 2) ∷ []))
         other_valid (λ r v. literal_has (encode_row r) 0) (λ r v. other_picks rl rs rh cl cg cm c r.cells r.annot (long r v) (Int (pos 0)))
@@ -204,7 +204,7 @@ module _ (ks : List Kind) where
 
   pub guess_gives :
       (kinds : List (List Kind)) (tables : List Rows) (p : PlanTree) (rows : Bounded) (ns : List ℤ) →
-      FitTables tables → Gives kinds tables p ks rows ns → Gives kinds tables (guess_plan c p) ks (map guess_row rows) ns
+      FitTables tables → GivesRelation kinds tables p ks rows ns → GivesRelation kinds tables (guess_plan c p) ks (map guess_row rows) ns
   guess_gives =
       map_gives ks ks guess_row (sure_least c) (λ r. cond (all_certain r.cells) r.annot.least 0) (guess_places 0 c ++ ((3 * c + 3) ∷ (3 * c + 1) ∷ (3 * c + 2) ∷ []))
       guess_valid guess_has guess_encoded guess_number guess_kinds_picked guess_fits

@@ -20,7 +20,7 @@ use Rattle.au_plain.specs.PlanKinds.{FitTables, plain_kind}
 use Rattle.au_plain.specs.PlanNumbers.{term_numbers}
 use Rattle.au_plain.specs.Plans.{PlanTree, Filter}
 use Rattle.au_encode.specs.Encode.{encode, encode_row, encoded_kinds}
-use Rattle.au_encode.specs.Gives.{Gives}
+use Rattle.au_encode.specs.Gives.{GivesRelation}
 use Rattle.au_encode.proofs.Decoded.{cells_length}
 use Rattle.au_encode.proofs.HeldCells.{AllFit, FitRow, gives_held}
 use Rattle.au_rwexpr.proofs.Careful.{Fits, not_fits}
@@ -93,7 +93,7 @@ module _ (ks : List Kind) (k : ℕ) (within : k ≤ length ks) where
 
   pub unsure_gives :
       (kinds : List (List Kind)) (tables : List Rows) (p : PlanTree) (rows : Bounded) (ns : List ℤ) →
-      FitTables tables → Gives kinds tables p ks rows ns → Gives kinds tables (Filter unsure p) ks (unsure_rows (take k) rows) ns
+      FitTables tables → GivesRelation kinds tables p ks rows ns → GivesRelation kinds tables (Filter unsure p) ks (unsure_rows (take k) rows) ns
   unsure_gives kinds tables p rows ns tables_fit g = record {
     typed =
         kinds-filter kinds unsure p (encoded_kinds ks) g.typed

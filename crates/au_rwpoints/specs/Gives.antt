@@ -8,7 +8,7 @@ use Rattle.au_algebra.specs.Ordinary.{Rows}
 use Rattle.au_algebra.specs.Typing.{group_kinds}
 use Rattle.au_plain.specs.PlanKinds.{FitTables}
 use Rattle.au_plain.specs.Plans.{PlanTree}
-use Rattle.au_encode.specs.Gives.{Gives}
+use Rattle.au_encode.specs.Gives.{GivesRelation}
 use Rattle.au_points.specs.Points.{distinct_points, group_points, numbers_by_points}
 use Rattle.au_points.specs.Members.{members, point_rows}
 
@@ -17,16 +17,16 @@ use Rattle.au_points.specs.Members.{members, point_rows}
 abbrev pub Points : ℕ → ℕ → PlanTree → PlanTree → Type 0
 Points c k of p =
     (kinds : List (List Kind)) (tables : List Rows) (ks : List Kind) (rows : Bounded) (ns : List ℤ) →
-    FitTables tables → length ks ≡ c → k ≤ c → Gives kinds tables of ks rows ns →
-    Gives kinds tables p (take k ks) (point_rows k rows) ns
+    FitTables tables → length ks ≡ c → k ≤ c → GivesRelation kinds tables of ks rows ns →
+    GivesRelation kinds tables p (take k ks) (point_rows k rows) ns
 
 -- Where the input gives a relation of `c` columns, the plan gives the members of the points of its first `k`.
 -- It makes no number of its own that could leave the range.
 abbrev pub Members : ℕ → ℕ → PlanTree → PlanTree → Type 0
 Members c k of p =
     (kinds : List (List Kind)) (tables : List Rows) (ks : List Kind) (rows : Bounded) (ns : List ℤ) →
-    FitTables tables → length ks ≡ c → k ≤ c → Gives kinds tables of ks rows ns →
-    Gives kinds tables p (take k ks ++ ks) (members k rows) ns
+    FitTables tables → length ks ≡ c → k ≤ c → GivesRelation kinds tables of ks rows ns →
+    GivesRelation kinds tables p (take k ks ++ ks) (members k rows) ns
 
 -- Where the one input gives a relation of `c` columns, for which the keys and the aggregates are typed, and the other one
 -- the members of its points, the plan gives its groups by points.
@@ -35,13 +35,13 @@ abbrev pub GroupsByPoints : ℕ → ℕ → List Agg → PlanTree → PlanTree �
 GroupsByPoints c keys aggs of with_members p =
     (kinds : List (List Kind)) (tables : List Rows) (ks js : List Kind) (rows : Bounded) (ms ns : List ℤ) →
     FitTables tables → length ks ≡ c → group_kinds keys aggs ks ≡ Some js →
-    Gives kinds tables with_members (take keys ks ++ ks) (members keys rows) ms → Gives kinds tables of ks rows ns →
-    Gives kinds tables p js (group_points keys aggs rows) (ms ++ (ns ++ numbers_by_points (take keys) aggs rows))
+    GivesRelation kinds tables with_members (take keys ks ++ ks) (members keys rows) ms → GivesRelation kinds tables of ks rows ns →
+    GivesRelation kinds tables p js (group_points keys aggs rows) (ms ++ (ns ++ numbers_by_points (take keys) aggs rows))
 
 -- Where the input gives a relation of `c` columns, the plan gives its distinct rows by points.
 -- Its numbers are those of the input and of the triples.
 abbrev pub DistinctByPoints : ℕ → PlanTree → PlanTree → Type 0
 DistinctByPoints c of p =
     (kinds : List (List Kind)) (tables : List Rows) (ks : List Kind) (rows : Bounded) (ns : List ℤ) →
-    FitTables tables → length ks ≡ c → Gives kinds tables of ks rows ns →
-    Gives kinds tables p ks (distinct_points rows) (ns ++ triple_numbers (distinct_points rows))
+    FitTables tables → length ks ≡ c → GivesRelation kinds tables of ks rows ns →
+    GivesRelation kinds tables p ks (distinct_points rows) (ns ++ triple_numbers (distinct_points rows))

@@ -21,7 +21,7 @@ use Rattle.au_algebra.proofs.GuessCounts.{guess-cons, guess-present}
 use Rattle.au_algebra.proofs.KeptBySelect.{spread-present}
 use Rattle.au_algebra.proofs.PositiveRelation.{present_relation}
 use Rattle.au_algebra.proofs.RelationRows.{IsLooseRow, IsLoose, Triples}
-use Rattle.au_translate.specs.Translate.{shown, ranges_of, least_number, greatest_number, triple_of, block_row, bounded_table}
+use Rattle.au_translate.specs.Translate.{marked_or_first, ranges_of, least_number, greatest_number, triple_of, block_row, bounded_table}
 use Rattle.au_translate.proofs.Alternatives.{spans_hold, spans_ranges, guesses-spans, fits_long, passes_at}
 
 -- ---- the alternative that is shown
@@ -95,11 +95,11 @@ absent_optional b (Some i) h e = cc
 pub triple_order : (b : Choices) → IsBlock b → ((triple_of b).least ≤ (triple_of b).guess) × ((triple_of b).guess ≤ (triple_of b).most)
 triple_order b ok =
     let at = shown_place b b.guess ok.guess ok.nonempty in
-    let own : IsCopies (shown b).copies = all_at (λ a. IsCopies a.copies) b.alternatives (unwrap_or b.guess 0) (shown b) ok.copies at in
-    let least = least_at (λ a. a.copies.least) b.alternatives (unwrap_or b.guess 0) (shown b) at in
-    let most = greatest_at (λ a. a.copies.most) 0 b.alternatives (unwrap_or b.guess 0) (shown b) at in (
-      least_guess_if b.optional b.guess (least_number (map (λ a. a.copies.least) b.alternatives)) (shown b).copies.guess (omega (arith, least, own.least_guess)) (absent_optional b b.guess ok.guess),
-      guess_most_if b.guess (shown b).copies.guess (greatest_number (map (λ a. a.copies.most) b.alternatives)) (omega (arith, most, own.guess_most)),
+    let own : IsCopies (marked_or_first b).copies = all_at (λ a. IsCopies a.copies) b.alternatives (unwrap_or b.guess 0) (marked_or_first b) ok.copies at in
+    let least = least_at (λ a. a.copies.least) b.alternatives (unwrap_or b.guess 0) (marked_or_first b) at in
+    let most = greatest_at (λ a. a.copies.most) 0 b.alternatives (unwrap_or b.guess 0) (marked_or_first b) at in (
+      least_guess_if b.optional b.guess (least_number (map (λ a. a.copies.least) b.alternatives)) (marked_or_first b).copies.guess (omega (arith, least, own.least_guess)) (absent_optional b b.guess ok.guess),
+      guess_most_if b.guess (marked_or_first b).copies.guess (greatest_number (map (λ a. a.copies.most) b.alternatives)) (omega (arith, most, own.guess_most)),
     )
 
 block_is_row : (ks : List Kind) (b : Choices) → IsBlock b → FitsBlock ks b → IsLooseRow ks (block_row b)
@@ -107,14 +107,14 @@ unfolding FitsBlock
 block_is_row ks b ok fit =
     let order = triple_order b ok in
     record {
-      cells = spans_ranges b.alternatives (unwrap_or b.guess 0) (shown b) (shown_place b b.guess ok.guess ok.nonempty) ks ok.nonempty fit;
+      cells = spans_ranges b.alternatives (unwrap_or b.guess 0) (marked_or_first b) (shown_place b b.guess ok.guess ok.nonempty) ks ok.nonempty fit;
       triple = record { least_guess = order.0; guess_most = order.1 };
     }
 
 -- ---- what a block's row takes
 
-length-guesses : (b : Choices) → length (guesses (shown b).cells) ≡ length (shown b).cells
-length-guesses b = each (shown b).cells where
+length-guesses : (b : Choices) → length (guesses (marked_or_first b).cells) ≡ length (marked_or_first b).cells
+length-guesses b = each (marked_or_first b).cells where
   each : (cs : List Span) → length (guesses cs) ≡ length cs
   each [] = refl
   each (c ∷ cs) = ap suc (each cs)
@@ -123,9 +123,9 @@ row_held : (ks : List Kind) (b : Choices) → IsBlock b → FitsBlock ks b → (
 unfolding FitsBlock
 row_held ks b ok fit i a row at held =
     let fits = λ (x : Candidate). fits_kinds ks x.cells in
-    let own = fits_long ks (shown b).cells (passes_at fits b.alternatives fit (unwrap_or b.guess 0) (shown b) (shown_place b b.guess ok.guess ok.nonempty)) in
+    let own = fits_long ks (marked_or_first b).cells (passes_at fits b.alternatives fit (unwrap_or b.guess 0) (marked_or_first b) (shown_place b b.guess ok.guess ok.nonempty)) in
     let other = fits_long ks a.cells (passes_at fits b.alternatives fit i a at) in
-    spans_hold b.alternatives i a at (guesses (shown b).cells) row (length-guesses b ∙ own ∙ sym other) held
+    spans_hold b.alternatives i a at (guesses (marked_or_first b).cells) row (length-guesses b ∙ own ∙ sym other) held
 
 each_copy : (P : List Value → Type 0) (n : ℕ) (row : List Value) → P row → AllByRecursion P (replicate n row)
 each_copy P zero row h = tt
@@ -191,8 +191,8 @@ guess_here b (Some i) h some v =
 blocks_guess : (bs : List Choices) → AllByRecursion IsBlock bs → (v : List Value) → guess_count (map block_row bs) v ≡ copies v (rows_in bs (map guess_choice bs))
 blocks_guess [] ok v = refl
 blocks_guess (b ∷ bs) ok v =
-    let own : cond (same_row v (guesses (ranges_of b))) (triple_of b).guess 0 ≡ cond (same_row v (guesses (shown b).cells)) (triple_of b).guess 0 =
-    ap (λ g. cond (same_row v g) (triple_of b).guess 0) (guesses-spans b.alternatives 0 (guesses (shown b).cells)) in
+    let own : cond (same_row v (guesses (ranges_of b))) (triple_of b).guess 0 ≡ cond (same_row v (guesses (marked_or_first b).cells)) (triple_of b).guess 0 =
+    ap (λ g. cond (same_row v g) (triple_of b).guess 0) (guesses-spans b.alternatives 0 (guesses (marked_or_first b).cells)) in
     omega (arith, guess-cons v (block_row b) (map block_row bs), own, guess_here b b.guess ok.0.guess ok.0.nonempty v, blocks_guess bs ok.1 v, copies-append v (chosen (guess_choice b)) (rows_in bs (map guess_choice bs)))
 
 blocks_triples : (bs : List Choices) → AllByRecursion IsBlock bs → Triples (map block_row bs)

@@ -15,7 +15,7 @@ use Rattle.au_algebra.proofs.Each.{all_filter}
 use Rattle.au_plain.specs.PlanKinds.{FitRows, row_fits}
 use Rattle.au_encode.specs.Encode.{encode, encode_cells, encode_counts, encode_row}
 use Rattle.au_translate.specs.HeldNumbers.{FitBlock, FitCandidate, FitSpan, FitValue}
-use Rattle.au_translate.specs.Translate.{block_row, bounded_blocks, candidate_cell, high_at, low_at, shown, triple_of}
+use Rattle.au_translate.specs.Translate.{block_row, bounded_blocks, candidate_cell, high_at, low_at, marked_or_first, triple_of}
 use Rattle.au_translate.proofs.Alternatives.{spans_from}
 use Rattle.au_translate.proofs.BlockRelation.{triple_order}
 
@@ -101,7 +101,7 @@ counts_fit b is =
 
 block_fits : (b : Choices) → IsBlock b → FitBlock b → row_fits (encode_row (block_row b)) ≡ true
 block_fits b is h =
-    spans_fit b.alternatives (shown b).cells 0 (encode_counts (triple_of b)) h (shown_fits b.alternatives (unwrap_or b.guess 0) h) (counts_fit b is)
+    spans_fit b.alternatives (marked_or_first b).cells 0 (encode_counts (triple_of b)) h (shown_fits b.alternatives (unwrap_or b.guess 0) h) (counts_fit b is)
 
 rows_fit : (bs : List Choices) → AllByRecursion IsBlock bs → AllByRecursion FitBlock bs → AllByRecursion (λ r. row_fits (encode_row r) ≡ true) (map block_row bs)
 rows_fit [] is h = tt

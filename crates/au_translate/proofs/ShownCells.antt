@@ -6,7 +6,7 @@ use Rattle.au_value.specs.declared.kinds.Kind.{Kind}
 use Rattle.au_value.specs.Ranges.{Span, IsRange, IsRangeOf, guesses}
 use Rattle.au_blocks.specs.Blocks.{Candidate, Choices}
 use Rattle.au_blocks.specs.Tables.{fits_kinds}
-use Rattle.au_translate.specs.Translate.{shown, span_in}
+use Rattle.au_translate.specs.Translate.{marked_or_first, span_in}
 use Rattle.au_translate.proofs.Alternatives.{all_wide, fits_long, passes_at, spans_from, spans_ranges}
 
 -- there is an alternative, where one of them is shown
@@ -15,10 +15,10 @@ some_shown [] i x h = cc
 some_shown (y ∷ xs) i x h = omega arith
 
 -- each alternative has a cell where the shown one has
-pub wide : (ks : List Kind) (b : Choices) → list_all (λ a. fits_kinds ks a.cells) b.alternatives ≡ true → slice_get b.alternatives (unwrap_or b.guess 0) ≡ Some (shown b) → (at : ℕ) → at < length (shown b).cells
+pub wide : (ks : List Kind) (b : Choices) → list_all (λ a. fits_kinds ks a.cells) b.alternatives ≡ true → slice_get b.alternatives (unwrap_or b.guess 0) ≡ Some (marked_or_first b) → (at : ℕ) → at < length (marked_or_first b).cells
     → AllByRecursion (λ a. at < length a.cells) b.alternatives
 wide ks b fit place at low =
-    let long = fits_long ks (shown b).cells (passes_at (λ a. fits_kinds ks a.cells) b.alternatives fit (unwrap_or b.guess 0) (shown b) place) in
+    let long = fits_long ks (marked_or_first b).cells (passes_at (λ a. fits_kinds ks a.cells) b.alternatives fit (unwrap_or b.guess 0) (marked_or_first b) place) in
     all_wide ks b.alternatives fit at (omega (arith, long, low))
 
 -- one of some ranges that were made from a column on
@@ -33,8 +33,8 @@ range_from alternatives (k ∷ ks) (c ∷ cs) j zero n u place are at =
 range_from alternatives (k ∷ ks) (c ∷ cs) j (suc i) n u place are at = range_from alternatives ks cs (j + 1) i n u (omega (arith, place)) are.1 at
 
 -- the ends in a column with the guess of the cell that is shown there
-pub shown_range : (ks : List Kind) (b : Choices) → list_all (λ a. fits_kinds ks a.cells) b.alternatives ≡ true → slice_get b.alternatives (unwrap_or b.guess 0) ≡ Some (shown b) → (at : ℕ) (u : Span)
-    → slice_get (shown b).cells at ≡ Some u → IsRange (span_in b.alternatives at u.sg)
+pub shown_range : (ks : List Kind) (b : Choices) → list_all (λ a. fits_kinds ks a.cells) b.alternatives ≡ true → slice_get b.alternatives (unwrap_or b.guess 0) ≡ Some (marked_or_first b) → (at : ℕ) (u : Span)
+    → slice_get (marked_or_first b).cells at ≡ Some u → IsRange (span_in b.alternatives at u.sg)
 shown_range ks b fit place at u found =
-    range_from b.alternatives ks (shown b).cells 0 at at u (omega arith)
-    (spans_ranges b.alternatives (unwrap_or b.guess 0) (shown b) place ks (some_shown b.alternatives (unwrap_or b.guess 0) (shown b) place) fit) found
+    range_from b.alternatives ks (marked_or_first b).cells 0 at at u (omega arith)
+    (spans_ranges b.alternatives (unwrap_or b.guess 0) (marked_or_first b) place ks (some_shown b.alternatives (unwrap_or b.guess 0) (marked_or_first b) place) fit) found

@@ -15,8 +15,8 @@ use Rattle.au_algebra.specs.Lists.{least, greatest}
 use Rattle.au_algebra.specs.Bounded.{RangeRow, Bounded, present}
 
 -- the marked alternative, and the first where absence is marked
-abbrev pub shown : Choices → Candidate
-shown b = unwrap_or (slice_get b.alternatives (unwrap_or b.guess 0)) (candidate [] once)
+abbrev pub marked_or_first : Choices → Candidate
+marked_or_first b = unwrap_or (slice_get b.alternatives (unwrap_or b.guess 0)) (candidate [] once)
 
 -- the range in a column of an alternative, and its ends
 abbrev pub candidate_cell : ℕ → Candidate → Span
@@ -34,7 +34,7 @@ span_in alternatives j v = range (least (map (low_at j) alternatives)) v (greate
 
 -- per column the least and the greatest over the alternatives, with the guess that is shown
 abbrev pub ranges_of : Choices → List Span
-ranges_of b = map (λ p. span_in b.alternatives p.0 p.1) (enumerate_from 0 (guesses (shown b).cells))
+ranges_of b = map (λ p. span_in b.alternatives p.0 p.1) (enumerate_from 0 (guesses (marked_or_first b).cells))
 
 -- the least and the greatest of some numbers, and 0 of none
 abbrev pub least_number : List ℕ → ℕ
@@ -46,7 +46,7 @@ greatest_number ns = fold max 0 ns
 
 -- the copies that are guessed: those of the marked alternative, and none where absence is marked
 abbrev pub guessed_copies : Choices → ℕ
-guessed_copies b = unwrap_or (option_map (λ i. (shown b).copies.guess) b.guess) 0
+guessed_copies b = unwrap_or (option_map (λ i. (marked_or_first b).copies.guess) b.guess) 0
 
 -- the fewest copies over the choices that the block offers, those guessed, and the most
 abbrev pub triple_of : Choices → Counts

@@ -4,16 +4,16 @@ ghost use Rattle.std.specs.List.{AllByRecursion};
 ghost use Rattle.au_value.specs.Ranges.{lesser as lesser_of, greater as greater_of};
 ghost use Rattle.au_annot.specs.Triples.{IsTriple, counts};
 ghost use Rattle.au_algebra.specs.Lists.{least as least_of, greatest as greatest_of};
-ghost use Rattle.au_translate.specs.Translate.{candidate_cell, greatest_number, guessed_copies as guessed_copies_of, high_at, least_number, low_at, shown as shown_of, triple_of};
+ghost use Rattle.au_translate.specs.Translate.{candidate_cell, greatest_number, guessed_copies as guessed_copies_of, high_at, least_number, low_at, marked_or_first as marked_or_first_of, triple_of};
 
 use au_annot::{Annot, Count, Triple};
 use au_blocks::{Alternative, Block, Cell};
 use au_value::{Value, compare};
 
 /// The cells whose guesses a block's row shows.
-pub(crate) fn shown(block: &Block) -> &[Cell]
-    ensures of { result.now ≡ (shown_of block.now).cells }
-    ensures place { slice_get block.now.alternatives (unwrap_or block.now.guess 0) ≡ Some (shown_of block.now) }
+pub(crate) fn marked_or_first(block: &Block) -> &[Cell]
+    ensures of { result.now ≡ (marked_or_first_of block.now).cells }
+    ensures place { slice_get block.now.alternatives (unwrap_or block.now.guess 0) ≡ Some (marked_or_first_of block.now) }
 {
     let at = block.guess().unwrap_or(0);
     block.alternatives()[at].cells()
@@ -23,7 +23,7 @@ pub(crate) fn shown(block: &Block) -> &[Cell]
 /// is the only alternative, the cell's own ends are they.
 pub(crate) fn ends<'a>(block: &'a Block, at: usize, cell: &'a Cell) -> (&'a Value, &'a Value)
     requires wide { AllByRecursion (λ a. at < length a.cells) block.now.alternatives }
-    requires cell { cell.now ≡ candidate_cell at (shown_of block.now) }
+    requires cell { cell.now ≡ candidate_cell at (marked_or_first_of block.now) }
     ensures least { result.0.now ≡ least_of (map (low_at at) block.now.alternatives) }
     ensures greatest { result.1.now ≡ greatest_of (map (high_at at) block.now.alternatives) }
 {
@@ -33,7 +33,7 @@ pub(crate) fn ends<'a>(block: &'a Block, at: usize, cell: &'a Cell) -> (&'a Valu
 /// The first of them.
 pub(crate) fn least_end<'a>(block: &'a Block, at: usize, cell: &'a Cell) -> &'a Value
     requires wide { AllByRecursion (λ a. at < length a.cells) block.now.alternatives }
-    requires cell { cell.now ≡ candidate_cell at (shown_of block.now) }
+    requires cell { cell.now ≡ candidate_cell at (marked_or_first_of block.now) }
     ensures { result.now ≡ least_of (map (low_at at) block.now.alternatives) }
 {
     let alternatives = block.alternatives();
@@ -47,7 +47,7 @@ pub(crate) fn least_end<'a>(block: &'a Block, at: usize, cell: &'a Cell) -> &'a 
 /// The second of them.
 pub(crate) fn greatest_end<'a>(block: &'a Block, at: usize, cell: &'a Cell) -> &'a Value
     requires wide { AllByRecursion (λ a. at < length a.cells) block.now.alternatives }
-    requires cell { cell.now ≡ candidate_cell at (shown_of block.now) }
+    requires cell { cell.now ≡ candidate_cell at (marked_or_first_of block.now) }
     ensures { result.now ≡ greatest_of (map (high_at at) block.now.alternatives) }
 {
     let alternatives = block.alternatives();

@@ -8,7 +8,7 @@ ghost use Rattle.au_plain.specs.PlanKinds.{FitRows, HaveKinds, row_fits};
 ghost use Rattle.au_encode.specs.Encode.{AreEncoded, encode, encode_row, encoded_kinds};
 ghost use Rattle.au_translate.specs.Translate.{bounded_blocks, bounded_table, ranges_of};
 
-use crate::bounds::{ends, shown, triple};
+use crate::bounds::{ends, marked_or_first, triple};
 use au_annot::Triple;
 use au_blocks::{Block, Column, Table};
 use au_encode::{empty_row, push_counts, push_range};
@@ -69,7 +69,7 @@ fn encoded_row(alloc: Global, block: &Block, triple: Triple) -> Result<PRow, NoM
     ensures row { IfOk result (λ row. row.items ≡ encode_row (entry (ranges_of block.now) triple)) }
     ensures fits { IfOk result (λ row. row_fits row.items ≡ true) }
 {
-    let cells = shown(block);
+    let cells = marked_or_first(block);
     let mut row = empty_row(alloc, cells.len())?;
     for (at, cell) in cells.iter().enumerate() {
         let (least, greatest) = ends(block, at, cell);

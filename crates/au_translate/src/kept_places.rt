@@ -10,9 +10,9 @@ ghost use Rattle.au_algebra.specs.Lists.{value_at};
 ghost use Rattle.au_plain.specs.Meaning.{kept};
 ghost use Rattle.au_plain.specs.PlanKinds.{FitRows, row_fits};
 ghost use Rattle.au_encode.specs.Encode.{encode, encode_cells, encode_counts, encode_row};
-ghost use Rattle.au_translate.specs.Translate.{bounded_blocks, candidate_cell, ranges_of, shown as shown_of, span_in};
+ghost use Rattle.au_translate.specs.Translate.{bounded_blocks, candidate_cell, ranges_of, marked_or_first as marked_or_first_of, span_in};
 
-use crate::bounds::{greatest_end, least_end, shown, triple};
+use crate::bounds::{greatest_end, least_end, marked_or_first, triple};
 use au_annot::{Annot, Count, Triple};
 use au_blocks::{Block, Cell, Column};
 use au_plain::PRow;
@@ -69,7 +69,7 @@ fn kept_row(
     ensures row { IfOk result (λ row. row.items ≡ kept places.now (encode_row (entry (ranges_of block.now) triple))) }
     ensures fits { IfOk result (λ row. row_fits row.items ≡ true) }
 {
-    let cells = shown(block);
+    let cells = marked_or_first(block);
     let mut row = Vec::with_capacity(alloc, places.len())?;
     for place in places {
         row.push_reserved(value_in(block, cells, triple, *place)?);
@@ -80,8 +80,8 @@ fn kept_row(
 // The value in a place of that row, of which these cells are shown: three for each cell, then the counts, and 0 past them.
 fn value_in(block: &Block, cells: &[Cell], triple: Triple, place: usize) -> Result<Value, NoMemory>
     requires kinds { (ks : List Kind) × IsTrue (list_all (λ a. fits_kinds ks a.cells) block.now.alternatives) }
-    requires cells { cells.now ≡ (shown_of block.now).cells }
-    requires place { slice_get block.now.alternatives (unwrap_or block.now.guess 0) ≡ Some (shown_of block.now) }
+    requires cells { cells.now ≡ (marked_or_first_of block.now).cells }
+    requires place { slice_get block.now.alternatives (unwrap_or block.now.guess 0) ≡ Some (marked_or_first_of block.now) }
     ensures value { IfOk result (λ v. v ≡ value_at (encode_row (entry (ranges_of block.now) triple)) place) }
     ensures fits { IfOk result (λ v. fit (number_if_any v) ≡ true) }
 {
@@ -95,7 +95,7 @@ fn value_in(block: &Block, cells: &[Cell], triple: Triple, place: usize) -> Resu
 // The least value, the guess or the greatest value in a column of a block, of which the row that is shown has this cell.
 fn part<'a>(block: &'a Block, at: usize, cell: &'a Cell, number: usize) -> &'a Value
     requires wide { AllByRecursion (λ a. at < length a.cells) block.now.alternatives }
-    requires cell { cell.now ≡ candidate_cell at (shown_of block.now) }
+    requires cell { cell.now ≡ candidate_cell at (marked_or_first_of block.now) }
     requires number { number < 3 }
     ensures { result.now ≡ value_at (encode_cells (span_in block.now.alternatives at cell.now.sg ∷ [])) number }
 {

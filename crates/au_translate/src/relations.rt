@@ -9,7 +9,7 @@ ghost use Rattle.au_algebra.specs.Distribution.{Bounds};
 ghost use Rattle.au_algebra.specs.Laws.{Guesses, IsRelation};
 ghost use Rattle.au_translate.specs.Translate.{bounded_blocks, bounded_table, guess_choices, ranges_of};
 
-use crate::bounds::{ends, shown, triple};
+use crate::bounds::{ends, marked_or_first, triple};
 use au_algebra::Rel;
 use au_annot::Triple;
 use au_blocks::{Block, Column, Table};
@@ -67,7 +67,7 @@ fn ranges(alloc: Global, block: &Block) -> Result<Vec<Range>, NoMemory>
     requires { (ks : List Kind) × IsTrue (list_all (λ a. fits_kinds ks a.cells) block.now.alternatives) }
     ensures { IfOk result (λ v. v.items ≡ ranges_of block.now) }
 {
-    let cells = shown(block);
+    let cells = marked_or_first(block);
     let mut ranges = Vec::with_capacity(alloc, cells.len())?;
     for (at, cell) in cells.iter().enumerate() {
         let (least, greatest) = ends(block, at, cell);

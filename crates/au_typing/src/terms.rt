@@ -57,7 +57,7 @@ fn field_kind(scope: &Scope, name: &Name) -> Option<Kind>
     }
 }
 
-fn named(scope: &Scope, setting: &Setting, name: &Name) -> Answer
+fn named_column(scope: &Scope, setting: &Setting, name: &Name) -> Answer
     ensures { (around : ℕ) (old : GatheredOf) → Answers (scope_view scope.now) (setting_view setting.now) around (TermTree.column name.now) old old result }
 {
     match column(scope, name) {
@@ -471,7 +471,7 @@ pub(crate) fn typed_term(
     ensures { Answers (scope_view scope.now) (setting_view setting.now) around (term_tree what.now) gathered.old gathered.new result }
 {
     match shape_of(what) {
-        Shape::Column(name) => named(scope, setting, name),
+        Shape::Column(name) => named_column(scope, setting, name),
         Shape::Number(_, n) => Ok((Expr::Literal(Value::Int(n)), Kind::Int)),
         Shape::Decimal(_, n, digits) => Ok((Expr::Literal(Value::Int(n)), Kind::Dec(digits))),
         Shape::Text(_, word) => text(word),

@@ -16,6 +16,6 @@ ua_rows-rows-requires-clause-positive g c κs within =
 pub returns-in-Ok-beside-clause-widths : goal.returns-in-Ok-beside-clause-widths
 returns-in-Ok-beside-clause-widths g c =
     let parts = c.in-Ok-beside.parts in
-    let same : parts.1.0.items ≡ c.in-Ok.typed.names.items = ap (λ r. r.0.items) c.in-Ok-beside.ensures.values.1 ∙ ap (λ v. v.items) c.named.ensures.0 in
+    let same : parts.1.0.items ≡ c.in-Ok.typed.names.items = ap (λ r. r.0.items) c.in-Ok-beside.ensures.values.1 ∙ ap (λ v. v.items) c.names_and_kinds.ensures.0 in
     pairs_named parts.1.0.items c.in-Ok.typed.kinds.items (typing (relations_of c.args.tables.now) (statement_tree c.args.statement.now)).columns parts.0
     (same ∙ c.in-Ok.ensures.names) c.in-Ok.ensures.kinds (IfOk-at_ok _ c.in-Ok-beside.ensures.values.0 c.ua_rows-rows.ensures.widths)

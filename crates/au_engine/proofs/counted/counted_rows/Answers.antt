@@ -13,7 +13,7 @@ all-requires-clause-plan g c κs within =
     let kinds = value_kinds c.args.tables.now in
     let q = tree c.args.query.now in
     let p = c.in-Ok.counted in
-    counted_start c.args.counts kinds q (plan_tree p.plan) p.columns c.in-Ok.ensures c.requires.counts c.args.inputs.items (map rows_of c.in-Ok-ready.both.1.items) (physical_tree c.in-Ok-ready.both.0) c.in-Ok-ready.ensures
+    counted_start c.args.counts kinds q (plan_tree p.plan) p.columns c.in-Ok.ensures c.requires.counts c.args.inputs.items (map rows_of c.in-Ok-plan_with_rows.both.1.items) (physical_tree c.in-Ok-plan_with_rows.both.0) c.in-Ok-plan_with_rows.ensures
     c.requires.typed c.requires.inputs
 
 pub returns-in-Ok-all : goal.returns-in-Ok-all
@@ -21,5 +21,5 @@ returns-in-Ok-all g c =
     let kinds = value_kinds c.args.tables.now in
     let q = tree c.args.query.now in
     let p = c.in-Ok.counted in
-    counted_finds c.args.counts kinds q (plan_tree p.plan) p.columns c.in-Ok.ensures c.requires.counts c.args.inputs.items (map rows_of c.in-Ok-ready.both.1.items) (physical_tree c.in-Ok-ready.both.0) c.in-Ok-ready.ensures
+    counted_finds c.args.counts kinds q (plan_tree p.plan) p.columns c.in-Ok.ensures c.requires.counts c.args.inputs.items (map rows_of c.in-Ok-plan_with_rows.both.1.items) (physical_tree c.in-Ok-plan_with_rows.both.0) c.in-Ok-plan_with_rows.ensures
     (rows_of c.in-Ok-all.rows) c.in-Ok-all.ensures.rows

@@ -15,15 +15,15 @@ returns-in-Err-clause-overflow g c e =
 
 pub run_decoded-requires-clause-runs : goal.run_decoded-requires-clause-runs
 run_decoded-requires-clause-runs g c κs within =
-    shown_runs c.args.options.compress c.args.options.combine c.args.tables.now (tree c.args.query.now) c.requires.typed c.staged.new.inputs.items (plan_tree c.in-Ok.planned.plan) (plan_tree c.in-Ok-shown.planned.plan)
-    c.in-Ok.planned.layout.columns c.in-Ok-shown.planned.layout.columns c.in-Ok-shown.ensures.columns c.in-Ok-shown.ensures.plan
+    shown_runs c.args.options.compress c.args.options.combine c.args.tables.now (tree c.args.query.now) c.requires.typed c.staged.new.inputs.items (plan_tree c.in-Ok.planned.plan) (plan_tree c.in-Ok-combined_plan.planned.plan)
+    c.in-Ok.planned.layout.columns c.in-Ok-combined_plan.planned.layout.columns c.in-Ok-combined_plan.ensures.columns c.in-Ok-combined_plan.ensures.plan
     (subst (λ xs. AddsTree c.args.options.compress (blocks_of c.args.tables.now) (tree c.args.query.now) xs c.staged.new.inputs.items (plan_tree c.in-Ok.planned.plan) c.in-Ok.planned.layout.columns)
     c.new-inputs.ensures.items c.in-Ok.ensures.plan)
 
 pub returns-in-Ok-run_decoded-clause-rows : goal.returns-in-Ok-run_decoded-clause-rows
 returns-in-Ok-run_decoded-clause-rows g c =
-    shown_decodes c.args.options.compress c.args.options.combine c.args.tables.now (tree c.args.query.now) c.requires.typed c.staged.new.inputs.items (plan_tree c.in-Ok.planned.plan) (plan_tree c.in-Ok-shown.planned.plan)
-    c.in-Ok.planned.layout.columns c.in-Ok-shown.planned.layout.columns c.in-Ok-shown.ensures.columns c.in-Ok-shown.ensures.plan
+    shown_decodes c.args.options.compress c.args.options.combine c.args.tables.now (tree c.args.query.now) c.requires.typed c.staged.new.inputs.items (plan_tree c.in-Ok.planned.plan) (plan_tree c.in-Ok-combined_plan.planned.plan)
+    c.in-Ok.planned.layout.columns c.in-Ok-combined_plan.planned.layout.columns c.in-Ok-combined_plan.ensures.columns c.in-Ok-combined_plan.ensures.plan
     (subst (λ xs. AddsTree c.args.options.compress (blocks_of c.args.tables.now) (tree c.args.query.now) xs c.staged.new.inputs.items (plan_tree c.in-Ok.planned.plan) c.in-Ok.planned.layout.columns)
     c.new-inputs.ensures.items c.in-Ok.ensures.plan)
     c.in-Ok-run_decoded.relation c.in-Ok-run_decoded.ensures.rows
@@ -31,8 +31,8 @@ returns-in-Ok-run_decoded-clause-rows g c =
 pub returns-in-Err-run_decoded-clause-overflow : goal.returns-in-Err-run_decoded-clause-overflow
 returns-in-Err-run_decoded-clause-overflow g c e =
     let is : c.in-Err-run_decoded.fault ≡ Overflow = cc in
-    shown_leaves c.args.options.compress c.args.options.combine c.args.tables.now (tree c.args.query.now) c.requires.typed c.staged.new.inputs.items (plan_tree c.in-Ok.planned.plan) (plan_tree c.in-Ok-shown.planned.plan)
-    c.in-Ok.planned.layout.columns c.in-Ok-shown.planned.layout.columns c.in-Ok-shown.ensures.columns c.in-Ok-shown.ensures.plan
+    shown_leaves c.args.options.compress c.args.options.combine c.args.tables.now (tree c.args.query.now) c.requires.typed c.staged.new.inputs.items (plan_tree c.in-Ok.planned.plan) (plan_tree c.in-Ok-combined_plan.planned.plan)
+    c.in-Ok.planned.layout.columns c.in-Ok-combined_plan.planned.layout.columns c.in-Ok-combined_plan.ensures.columns c.in-Ok-combined_plan.ensures.plan
     (subst (λ xs. AddsTree c.args.options.compress (blocks_of c.args.tables.now) (tree c.args.query.now) xs c.staged.new.inputs.items (plan_tree c.in-Ok.planned.plan) c.in-Ok.planned.layout.columns)
     c.new-inputs.ensures.items c.in-Ok.ensures.plan)
     (c.in-Err-run_decoded.ensures.overflow (λ i. Err (is i)))

@@ -5,7 +5,7 @@ use Rattle.std.proofs.lemmas.List.{map-append, length-map, with_items_is}
 use Rattle.au_expr.specs.Figures.{Fit}
 use Rattle.au_exec.specs.Merging.{join_at_numbers, join_numbers, joined_folds}
 use Rattle.au_exec.specs.Tables.{folded_of, folded_with}
-use Rattle.au_exec.proofs.Handed.{handed_on}
+use Rattle.au_exec.proofs.PartFaults.{fault_of_part}
 use Rattle.au_exec.proofs.MergePuts.{known_join, known_join_numbers, length_joined, new_join, new_join_numbers}
 use Rattle.au_exec.proofs.Puts.{Held}
 use Rattle.au_exec.proofs.merge.put_group.Goals as goal
@@ -17,7 +17,7 @@ returns-in_err-join_all c =
     let below : c.args.place < length held = omega (arith, c.args.held.now.ok.0, c.len.ensures, c.if-place-len.true) in
     let numbers : join_at_numbers (folded_of held) c.args.place g ≡ join_numbers c.deref_mut.result.now c.deref.result.now =
     known_join_numbers held c.args.place c.index_mut.result.now g below c.index_mut.ensures.value ∙ (λ i. join_numbers (sym c.deref_mut.ensures.value i) (sym c.deref.ensures.value i)) in
-    handed_on _ _ c.in_err-join_all.field-0.0 (join_numbers c.deref_mut.result.now c.deref.result.now) (join_at_numbers (folded_of held) c.args.place g) c.from_residual.ensures.1 c.in_err-join_all.ensures (subst Fit numbers)
+    fault_of_part _ _ c.in_err-join_all.field-0.0 (join_numbers c.deref_mut.result.now c.deref.result.now) (join_at_numbers (folded_of held) c.args.place g) c.from_residual.ensures.1 c.in_err-join_all.ensures (subst Fit numbers)
 
 pub returns-in_ok-join_all : goal.returns-in_ok-join_all
 returns-in_ok-join_all c =

@@ -10,5 +10,5 @@ decreases-open g l = 2 * plan_size (physical_tree l.plan.now)
 abbrev pub decreases-chained : goal.decreases-chained
 decreases-chained g l = 2 * plan_size (physical_tree l.plan.now) + 1
 
-abbrev pub decreases-ready : goal.decreases-ready
-decreases-ready g l = 2 * plan_size (physical_tree l.plan.now) + 1
+abbrev pub decreases-open_worked : goal.decreases-open_worked
+decreases-open_worked g l = 2 * plan_size (physical_tree l.plan.now) + 1

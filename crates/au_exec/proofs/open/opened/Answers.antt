@@ -5,4 +5,4 @@ use Rattle.au_exec.proofs.Openings.{makes_same}
 use Rattle.au_exec.proofs.open.opened.Goals as goal
 
 pub returns : goal.returns
-returns g c = makes_same _ _ _ _ c.ready.result c.in_ok-read_tables.ensures.rows (ap fit c.in_ok-read_tables.ensures.numbers) c.ready.ensures
+returns g c = makes_same _ _ _ _ c.open_worked.result c.in_ok-read_tables.ensures.rows (ap fit c.in_ok-read_tables.ensures.numbers) c.open_worked.ensures

@@ -10,8 +10,8 @@ use Rattle.au_typing.proofs.terms.+terms.Goals as goal
 
 pub typed_term-returns-in-Column : goal.typed_term-returns-in-Column
 typed_term-returns-in-Column t c =
-    subst (λ tree. Answers (scope_view c.args.scope.now) (setting_view c.args.setting.now) c.args.around tree c.args.gathered.now c.args.gathered.now c.named.result) (sym c.in-Column.ensures)
-    (c.named.ensures c.args.around c.args.gathered.now)
+    subst (λ tree. Answers (scope_view c.args.scope.now) (setting_view c.args.setting.now) c.args.around tree c.args.gathered.now c.args.gathered.now c.named_column.result) (sym c.in-Column.ensures)
+    (c.named_column.ensures c.args.around c.args.gathered.now)
 
 pub typed_term-returns-in-Binary : goal.typed_term-returns-in-Binary
 typed_term-returns-in-Binary t c =

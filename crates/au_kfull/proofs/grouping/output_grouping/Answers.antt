@@ -10,7 +10,7 @@ use Rattle.au_kfull.specs.declared.meeting.Meeting.TheVariants.{Guess, Overlap}
 use Rattle.au_kfull.specs.Meeting.{all_meet}
 use Rattle.au_kfull.specs.Keys.{kinds, keys_of, HasKinds, HasKeyKinds}
 use Rattle.au_kfull.proofs.GroupRows.{key_kinds, kinds-hull_of, overlapping}
-use Rattle.au_kfull.proofs.grouping.gather.Goals as goal
+use Rattle.au_kfull.proofs.grouping.output_grouping.Goals as goal
 
 pub rows_meeting-requires : goal.rows_meeting-requires
 rows_meeting-requires c =

@@ -9,11 +9,11 @@ use std::marker::Model;
 
 /// A row that a worker made. Contracts see its values alone.
 #[derive(Drop)]
-pub(crate) struct Pair {
+pub(crate) struct MadeRow {
     row: PRow,
 }
 
-impl Model for Pair {
+impl Model for MadeRow {
     ghost use Rattle.std.specs.Prelude.{List};
     ghost use Rattle.au_value.specs.declared.value.Value.{Value as Cell};
 
@@ -23,32 +23,32 @@ impl Model for Pair {
 }
 
 /// The rows that a worker made, moved.
-pub(crate) fn pairs_of(alloc: Global, rows: Vec<PRow>) -> Result<Vec<Pair>, NoMemory>
+pub(crate) fn made_rows(alloc: Global, rows: Vec<PRow>) -> Result<Vec<MadeRow>, NoMemory>
     ensures { IfOk result (λ v. v.items ≡ rows_of rows) }
 {
-    let mut pairs = Vec::with_capacity(alloc, rows.len())?;
+    let mut made = Vec::with_capacity(alloc, rows.len())?;
     for row in rows {
-        pairs.push(Pair { row })?;
+        made.push(MadeRow { row })?;
     }
-    Ok(pairs)
+    Ok(made)
 }
 
 /// The rows, moved.
-pub(crate) fn rows_within(alloc: Global, pairs: Vec<Pair>) -> Result<Vec<PRow>, NoMemory>
-    ensures { IfOk result (λ v. rows_of v ≡ pairs.items) }
+pub(crate) fn rows_within(alloc: Global, made: Vec<MadeRow>) -> Result<Vec<PRow>, NoMemory>
+    ensures { IfOk result (λ v. rows_of v ≡ made.items) }
 {
-    let mut rows = Vec::with_capacity(alloc, pairs.len())?;
-    for pair in pairs {
-        rows.push(pair.into_row())?;
+    let mut rows = Vec::with_capacity(alloc, made.len())?;
+    for one in made {
+        rows.push(one.into_row())?;
     }
     Ok(rows)
 }
 
-impl Pair {
+impl MadeRow {
     fn into_row(self) -> PRow
         ensures { result.items ≡ self }
     {
-        let Pair { row } = self;
+        let MadeRow { row } = self;
         row
     }
 }

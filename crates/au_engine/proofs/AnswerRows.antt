@@ -8,8 +8,8 @@ use Rattle.au_engine.specs.Answers.{AnswerCause, RowsCause}
 use Rattle.au_engine.specs.declared.faults.EngineFault.{EngineFault}
 use Rattle.au_engine.specs.declared.faults.EngineFault.TheVariants as engine
 
-pub told_rows : (P : Bounded → Type 0) (made : Result Bounded EvalFault) (rows : Bounded) → made ≡ Ok rows → IfOk made P → P rows
-told_rows P made rows e h = subst (λ r. IfOk r P) e h
+pub made_rows_hold : (P : Bounded → Type 0) (made : Result Bounded EvalFault) (rows : Bounded) → made ≡ Ok rows → IfOk made P → P rows
+made_rows_hold P made rows e h = subst (λ r. IfOk r P) e h
 
 pub rows_cause : (found : List TypingFault) (fit : Bool) (f : EngineFault) → found ≡ [] → RowsCause fit f → AnswerCause found fit f
 rows_cause found fit engine.NoMemory e h = tt

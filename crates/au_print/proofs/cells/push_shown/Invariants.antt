@@ -1,7 +1,0 @@
--- So far the bytes before this one are shown.
-use Rattle.std.proofs.Common.{◌≡◌, ◌++◌, take}
-use Rattle.au_print.specs.Tables.{shown}
-use Rattle.au_print.proofs.cells.push_shown.Given as goal
-
-abbrev pub invariant-loop-byte : goal.invariant-loop-byte
-invariant-loop-byte l = l.text.items ≡ l.initial.text.items ++ shown (take l.byte-index l.bytes)
