@@ -13,7 +13,7 @@ use Rattle.au_parse.specs.declared.pieces.Bracket.TheVariants as bracket
 use Rattle.au_parse.specs.Tree.{Operator}
 use Rattle.au_parse.specs.Words.{depth_after, ends_operand, is_close, or_operator, and_operator, product_operator, comparison_operator, CasePart, case_word}
 use Rattle.au_parse.specs.Expressions.{sum_mark}
-use Rattle.au_parse.specs.declared.terms.Level.TheVariants as level
+use Rattle.au_parse.specs.declared.operators.Level.TheVariants as level
 use Rattle.au_parse.specs.Cuts.{Part, Parts, cut_from, cut_step, mark_at, inside, anywhere}
 use Rattle.au_parse.specs.Levels.{front_length, rest_parts, close_length, closes, is_mark, mark_of, BeginsAtMark}
 

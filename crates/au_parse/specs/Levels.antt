@@ -9,10 +9,10 @@ use Rattle.au_parse.specs.declared.pieces.Mark.{Mark}
 use Rattle.au_parse.specs.declared.pieces.Mark.TheVariants as at
 use Rattle.au_parse.specs.declared.pieces.Bracket.{Bracket}
 use Rattle.au_parse.specs.declared.pieces.Bracket.TheVariants as bracket
-use Rattle.au_parse.specs.declared.terms.Level.{Level}
-use Rattle.au_parse.specs.declared.terms.Level.TheVariants as level
-use Rattle.au_parse.specs.declared.terms.Operation.{Operation}
-use Rattle.au_parse.specs.declared.terms.Operation.TheVariants as op
+use Rattle.au_parse.specs.declared.operators.Level.{Level}
+use Rattle.au_parse.specs.declared.operators.Level.TheVariants as level
+use Rattle.au_parse.specs.declared.operators.Operation.{Operation}
+use Rattle.au_parse.specs.declared.operators.Operation.TheVariants as op
 use Rattle.au_parse.specs.Tree.{TermTree, Operator}
 use Rattle.au_parse.specs.Words.{or_operator, and_operator, comparison_operator, product_operator, set_word, clause_word, CasePart, case_word, comma, depth_after, ends_operand, is_close, is_group_close, is_end}
 use Rattle.au_parse.specs.Cuts.{Part, Parts, cut_from, cut, anywhere}

@@ -14,6 +14,8 @@
 
 mod limits;
 mod lists;
+mod operands;
+mod operators;
 mod options;
 mod pieces;
 mod places;
@@ -23,8 +25,8 @@ mod terms;
 mod words;
 
 use au_value::{Comparison, Word};
+pub use operators::Operation;
 pub use reading::parse;
-pub use terms::Operation;
 use thiserror::Error;
 
 /// The aggregates.

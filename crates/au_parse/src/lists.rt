@@ -7,8 +7,9 @@ ghost use Rattle.au_parse.specs.Tree.{ItemTree};
 ghost use Rattle.au_parse.specs.Views.{item_view};
 ghost use Rattle.au_parse.specs.Words.{is_dot, is_star, name_word};
 
+use crate::operands::column_of;
 use crate::pieces::{Mark, front_length};
-use crate::terms::{column_of, expression};
+use crate::terms::expression;
 use crate::words::{ends_operand, is_as, is_by, is_dot, is_name, is_star, name_word};
 use crate::{Item, Name};
 use au_lex::Token;

@@ -20,7 +20,7 @@ use Rattle.au_typing.specs.Results.{ClauseAnswers, ClausesAnswer, FilterAnswers,
 use Rattle.au_typing.specs.declared.fault.TypingFault.{TypingFault}
 use Rattle.au_typing.specs.declared.outputs.Outputs.{Outputs}
 use Rattle.au_typing.specs.declared.select.ClauseTerms.{ClauseTerms}
-use Rattle.au_typing.specs.declared.select.FromPart.{FromPart}
+use Rattle.au_typing.specs.declared.from_items.FromPart.{FromPart}
 use Rattle.au_typing.specs.declared.setting.Gathered.{Gathered}
 use Rattle.au_typing.specs.declared.setting.Setting.{Setting as HeldSetting}
 use Rattle.au_typing.specs.declared.setting.Setting.TheVariants as held

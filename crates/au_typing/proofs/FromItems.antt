@@ -11,7 +11,7 @@ use Rattle.au_typing.specs.Selects.{FromItem, alias_faults, from_faults, is_join
 use Rattle.au_typing.specs.Scopes.{fault_if, then_faults}
 use Rattle.au_typing.specs.declared.fault.TypingFault.{TypingFault}
 use Rattle.au_typing.specs.declared.fault.TypingFault.TheVariants as fault
-use Rattle.au_typing.specs.declared.select.FromPart.{FromPart}
+use Rattle.au_typing.specs.declared.from_items.FromPart.{FromPart}
 use Rattle.au_typing.proofs.Names.{then_contains}
 use Rattle.au_typing.specs.Queries.{Refuses}
 

@@ -16,8 +16,8 @@ use Rattle.au_typing.specs.Results.{clauses_of, from_view, part_typing}
 use Rattle.au_typing.specs.Selects.{Clauses, FromItem, Typing, alias_faults, clauses_faults, from_faults, is_join, scope_of, resolved_select, setting_of}
 use Rattle.au_typing.specs.Scopes.{then_faults}
 use Rattle.au_typing.specs.declared.fault.TypingFault.{TypingFault}
-use Rattle.au_typing.specs.declared.select.FromPart.{FromPart}
-use Rattle.au_typing.specs.declared.select.Part.{Part}
+use Rattle.au_typing.specs.declared.from_items.FromPart.{FromPart}
+use Rattle.au_typing.specs.declared.from_items.Part.{Part}
 use Rattle.au_typing.proofs.Sizes.{query_size, sources_size}
 use Rattle.au_typing.proofs.Steps.{refuses_left}
 use Rattle.au_typing.proofs.Within.{Contains-flat_map}

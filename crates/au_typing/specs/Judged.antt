@@ -13,9 +13,9 @@ use Rattle.au_typing.specs.Scopes.{then_faults}
 use Rattle.au_typing.specs.Selects.{FromItem, Typing}
 use Rattle.au_typing.specs.declared.fault.TypingFault.{TypingFault}
 use Rattle.au_typing.specs.declared.fault.TypingFault.TheVariants as fault
-use Rattle.au_typing.specs.declared.select.FromPart.{FromPart}
-use Rattle.au_typing.specs.declared.select.Part.{Part}
-use Rattle.au_typing.specs.declared.typed.Fitted.{Fitted}
+use Rattle.au_typing.specs.declared.from_items.FromPart.{FromPart}
+use Rattle.au_typing.specs.declared.from_items.Part.{Part}
+use Rattle.au_typing.specs.declared.sets.Fitted.{Fitted}
 
 -- A query is found to be this, or one of its faults is named.
 abbrev pub Judges : Typing → Result Part TypingFault → Type 0

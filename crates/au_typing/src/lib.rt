@@ -11,16 +11,22 @@
 //! ```
 #![tactic(auto)]
 
+mod aggregates;
 mod fault;
+mod from_items;
+mod kinds;
+mod operators;
 mod outputs;
 mod scales;
 mod schema;
 mod scope;
 mod select;
+mod sets;
 mod setting;
 mod shape;
 mod terms;
 mod theorems;
+mod trees;
 mod typed;
 
 pub use fault::TypingFault;
