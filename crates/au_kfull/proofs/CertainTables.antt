@@ -60,7 +60,7 @@ typed_embedded q ts o = (o.0, o.1, all_relations o.0 ts o.2)
 
 -- ---- what the relation of a table guesses
 
-certain_guesses : (vs : List Value) → guesses (map certain vs) ≡ vs
+pub certain_guesses : (vs : List Value) → guesses (map certain vs) ≡ vs
 certain_guesses [] = refl
 certain_guesses (v ∷ vs) = ap (λ ws. v ∷ ws) (certain_guesses vs)
 

@@ -42,33 +42,35 @@ all_with_keys : (ks : List Kind) (rows : Bounded) (keys : Rows) → HasKinds ks 
 all_with_keys ks rows [] h = tt
 all_with_keys ks rows (k ∷ keys) h = (all_filter (λ r. kinds r.cells ≡ ks) (λ r. same_row k (guess r)) rows h, all_with_keys ks rows keys h)
 
-all_held : (ks : List Kind) (groups : List Held) → AllByRecursion (HasKinds ks) (groups_held groups) → AllByRecursion (λ (g : Held). HasKinds ks g.items) groups
-all_held ks [] h = tt
-all_held ks (g ∷ groups) h = (h.0, all_held ks groups h.1)
+-- what holds of the rows of each group
+pub all_held : (P : Bounded → Type 0) (groups : List Held) → AllByRecursion P (groups_held groups) → AllByRecursion (λ (g : Held). P g.items) groups
+all_held P [] h = tt
+all_held P (g ∷ groups) h = (h.0, all_held P groups h.1)
 
 -- the rows of each group have the kinds of all
 pub groups_kinds : (ks : List Kind) (rows : Bounded) (groups : List Held) → groups_held groups ≡ groups_by guess rows → HasKinds ks rows → AllByRecursion (λ (g : Held). HasKinds ks g.items) groups
-groups_kinds ks rows groups h k = all_held ks groups (subst (AllByRecursion (HasKinds ks)) (sym h) (all_with_keys ks rows (distinct same_row (map guess rows)) k))
+groups_kinds ks rows groups h k = all_held (HasKinds ks) groups (subst (AllByRecursion (HasKinds ks)) (sym h) (all_with_keys ks rows (distinct same_row (map guess rows)) k))
 
--- a place among the keys lies among the groups, or behind them
-pub place_within : (rows : Bounded) (k : List Value) (keys : Rows) (groups : List Bounded) → keys ≡ distinct same_row (map guess rows) → groups ≡ groups_by guess rows → position_or_len (same_row k) keys ≤ length groups
-place_within rows k keys groups as_keys as_groups =
-    let far = within (same_row k) keys in
-    let long : length groups ≡ length keys = ap length as_groups ∙ length-map (distinct same_row (map guess rows)) (with_key guess rows) ∙ ap length (sym as_keys) in
-    omega (arith, far, long)
+module _ (key : RangeRow → List Value) where
+  -- a place among the keys lies among the groups, or behind them
+  pub place_within : (rows : Bounded) (k : List Value) (keys : Rows) (groups : List Bounded) → keys ≡ distinct same_row (map key rows) → groups ≡ groups_by key rows → position_or_len (same_row k) keys ≤ length groups
+  place_within rows k keys groups as_keys as_groups =
+      let far = within (same_row k) keys in
+      let long : length groups ≡ length keys = ap length as_groups ∙ length-map (distinct same_row (map key rows)) (with_key key rows) ∙ ap length (sym as_keys) in
+      omega (arith, far, long)
 
-module _ (rows : Bounded) (i : ℕ) (row : RangeRow) (below : i < length rows) (is : row ≡ get_or rows i row) where
-  next : take (i + 1) rows ≡ take i rows ++ row ∷ []
-  next = take_more rows i row below ∙ (λ j. take i rows ++ sym is j ∷ [])
+  module _ (rows : Bounded) (i : ℕ) (row : RangeRow) (below : i < length rows) (is : row ≡ get_or rows i row) where
+    next : take (i + 1) rows ≡ take i rows ++ row ∷ []
+    next = take_more rows i row below ∙ (λ j. take i rows ++ sym is j ∷ [])
 
-  -- the keys, one row more
-  pub keys_next : (keys : Rows) → keys ≡ distinct same_row (map guess (take i rows)) → insert_key same_row keys (guess row) ≡ distinct same_row (map guess (take (i + 1) rows))
-  keys_next keys h =
-      ap (λ ks. insert_key same_row ks (guess row)) h ∙ sym (keys-push guess (take i rows) row) ∙ ap (λ rs. distinct same_row (map guess rs)) (sym next)
+    -- the keys, one row more
+    pub keys_next : (keys : Rows) → keys ≡ distinct same_row (map key (take i rows)) → insert_key same_row keys (key row) ≡ distinct same_row (map key (take (i + 1) rows))
+    keys_next keys h =
+        ap (λ ks. insert_key same_row ks (key row)) h ∙ sym (keys-push key (take i rows) row) ∙ ap (λ rs. distinct same_row (map key rs)) (sym next)
 
-  -- and the groups
-  pub groups_next : (keys : Rows) (groups : List Bounded) → keys ≡ distinct same_row (map guess (take i rows)) → groups ≡ groups_by guess (take i rows) → with_item_at groups (position_or_len (same_row (guess row)) keys) row ≡ groups_by guess (take (i + 1) rows)
-  groups_next keys groups h g =
-      (λ j. with_item_at (g j) (position_or_len (same_row (guess row)) (h j)) row)
-      ∙ groups-push guess (take i rows) row
-      ∙ ap (groups_by guess) (sym next)
+    -- and the groups
+    pub groups_next : (keys : Rows) (groups : List Bounded) → keys ≡ distinct same_row (map key (take i rows)) → groups ≡ groups_by key (take i rows) → with_item_at groups (position_or_len (same_row (key row)) keys) row ≡ groups_by key (take (i + 1) rows)
+    groups_next keys groups h g =
+        (λ j. with_item_at (g j) (position_or_len (same_row (key row)) (h j)) row)
+        ∙ groups-push key (take i rows) row
+        ∙ ap (groups_by key) (sym next)

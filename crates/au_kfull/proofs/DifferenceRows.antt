@@ -12,11 +12,12 @@ use Rattle.au_annot.specs.Triples.{is_none}
 use Rattle.au_algebra.specs.Bounded.{RangeRow, Bounded, combine, difference, less, present}
 use Rattle.au_algebra.specs.Fits.{triples_fit, triple_numbers, difference_sums}
 use Rattle.au_algebra.specs.Laws.{IsRangeRow, IsRelation}
+use Rattle.au_algebra.proofs.Cells.{cells_hold}
 use Rattle.au_algebra.proofs.DifferenceRelation.{each_less}
 use Rattle.au_algebra.proofs.Each.{all_from}
-use Rattle.au_algebra.proofs.RelationRows.{IsLoose}
+use Rattle.au_algebra.proofs.RelationRows.{IsLoose, relation_holds}
 use Rattle.au_kfull.specs.Keys.{kinds, HasKinds}
-use Rattle.au_kfull.specs.Numbers.{sums_fit, difference_fits, IsReady}
+use Rattle.au_kfull.specs.Numbers.{sums_fit, difference_fits, IsLike, IsReady}
 use Rattle.au_kfull.proofs.Fitting.{count_in_range}
 
 -- ranges of some kinds have these kinds
@@ -34,9 +35,12 @@ module _ (ks : List Kind) (right : Bounded) (ok : IsRelation ks right) where
   ready_row : (t : RangeRow) → IsRangeRow ks t → HasKinds (kinds t.cells) right
   ready_row t p = all_from (IsRangeRow ks) (λ r. kinds r.cells ≡ kinds t.cells) right (λ r k. kinds_are ks r.cells k.cells ∙ sym (kinds_are ks t.cells p.cells)) ok
 
+  like_row : (t : RangeRow) → IsRangeRow ks t → IsLike right t.cells
+  like_row t p = record { one_kinds = ready_row t p; held = cells_hold ks t.cells p.cells; all_held = relation_holds ks right ok }
+
   ready_by : (rows : Bounded) → IsRelation ks rows → IsLoose ks (map (less right) rows) → AllByRecursion (IsReady right) rows
   ready_by [] p l = tt
-  ready_by (t ∷ rows) p l = (record { one_kinds = ready_row t p.0; ordered = l.0.triple }, ready_by rows p.1 l.1)
+  ready_by (t ∷ rows) p l = (record { like = like_row t p.0; ordered = l.0.triple }, ready_by rows p.1 l.1)
 
   -- each row of a relation of the same kinds is ready
   pub all_ready : (rows : Bounded) → IsRelation ks rows → AllByRecursion (IsReady right) rows

@@ -2,22 +2,20 @@
 use Rattle.std.specs.Prelude.{◌≡◌, ℕ, List, [], ◌∷◌}
 use Rattle.std.specs.List.{AllByRecursion}
 use Rattle.std.proofs.Common.{refl, sym, ◌∙◌, ap, subst}
-use Rattle.au_value.specs.declared.value.Value.{Value}
 use Rattle.au_value.specs.Ranges.{Span, IsRange, all_certain}
 use Rattle.au_algebra.specs.declared.query.Agg.{Agg}
 use Rattle.au_algebra.specs.declared.query.Agg.TheVariants.{Sum, Min, Max}
-use Rattle.au_algebra.specs.Bounded.{Bounded, Grouped, aggregate, grouped}
+use Rattle.au_algebra.specs.Bounded.{Bounded, Grouped, aggregate}
 use Rattle.au_algebra.specs.Fits.{agg_numbers}
 use Rattle.au_kfull.specs.declared.grouping.Grouping.{Grouping}
 use Rattle.au_kfull.specs.declared.keys.Keys.{Keys}
 use Rattle.au_kfull.specs.Extremes.{HasExtremes, IsPossible}
-use Rattle.au_kfull.specs.Groups.{gathered, seen, IsGrouping}
-use Rattle.au_kfull.specs.Keys.{keys_of}
+use Rattle.au_kfull.specs.Groups.{gathered, grouped_with, seen, IsGrouping}
 use Rattle.au_kfull.specs.Outputs.{CanAggregate}
 
-module _ (k : Keys) (rows : Bounded) (guess : List Value) (box : List Span) (group : Grouping) (h : IsGrouping k rows guess box group) where
+module _ (k : Keys) (rows belonging : Bounded) (box : List Span) (group : Grouping) (h : IsGrouping k rows belonging box group) where
   abbrev out : Grouped
-  out = grouped (keys_of k) rows guess
+  out = grouped_with k rows belonging
 
   abbrev again : Grouped
   again = gathered k (all_certain out.box) out.is_guessed out.belonging out.members

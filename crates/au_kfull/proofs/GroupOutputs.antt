@@ -14,6 +14,7 @@ use Rattle.au_annot.specs.Counts.{count_fits}
 use Rattle.au_annot.specs.Triples.{is_none}
 use Rattle.au_algebra.specs.declared.query.Agg.{Agg}
 use Rattle.au_algebra.specs.declared.query.Agg.TheVariants.{Sum, Min, Max}
+use Rattle.au_algebra.specs.Keys.{with_key}
 use Rattle.au_algebra.specs.Lists.{same_row, copies}
 use Rattle.au_algebra.specs.Bounded.{RangeRow, Bounded, Grouped, grouped, aggregate, group_counts, group_by, guessed_keys, output, present, some_of}
 use Rattle.au_algebra.specs.Fits.{triples_fit, triple_numbers, agg_numbers, grouping_numbers}
@@ -93,9 +94,13 @@ ranges_in (k ∷ ks) [] [] z = tt
 ranges_in (k ∷ ks) [] (y ∷ ys) z = (z.0.range, ranges_in ks [] ys z.1)
 ranges_in (k ∷ ks) (x ∷ xs) ys z = ranges_in ks xs ys z.1
 
+-- the rows with these guessed keys
+abbrev pub own_rows : Keys → Bounded → List Value → Bounded
+own_rows k rows guess = with_key (λ r. guesses (keys_of k r.cells)) rows guess
+
 module _ (ks js : List Kind) (aggs : List Agg) (rows : Bounded) (typed : all_kinds (map (agg_kind ks) aggs) ≡ Some js) (ok : IsRelation ks rows) where
-  -- the guessed keys of a row have an output
-  pub is_output : (k : Keys) (guess : List Value) → 0 < copies guess (map (λ r. guesses (keys_of k r.cells)) rows) → IsOutput k aggs rows guess
+  -- the rows with the guessed keys of a row have an output
+  pub is_output : (k : Keys) (guess : List Value) → 0 < copies guess (map (λ r. guesses (keys_of k r.cells)) rows) → IsOutput k aggs rows (own_rows k rows guess)
   is_output (Leading n) guess some =
       let natural : (cells : List Span) → guesses (take n cells) ≡ take n (guesses cells) = λ cells. sym (take-map (λ r. r.sg) n cells) in
       let wide = keys_wide n ks rows ok in
@@ -125,12 +130,12 @@ module _ (ks js : List Kind) (aggs : List Agg) (rows : Bounded) (typed : all_kin
             (output_cells (λ cells. cells) (λ v. v) (λ cells v h. h) (λ cells. refl) ks ks js aggs typed (length ks) rows ok wide valid ranges guess some));
       }
 
-  outputs_by : (k : Keys) (gs : List (List Value)) → Occurs (map (λ r. guesses (keys_of k r.cells)) rows) gs → AllByRecursion (IsOutput k aggs rows) gs
+  outputs_by : (k : Keys) (gs : List (List Value)) → Occurs (map (λ r. guesses (keys_of k r.cells)) rows) gs → AllByRecursion (λ guess. IsOutput k aggs rows (own_rows k rows guess)) gs
   outputs_by k [] o = tt
   outputs_by k (g ∷ gs) o = (is_output k g o.0, outputs_by k gs o.1)
 
   -- and so have all distinct keys
-  pub all_outputs : (k : Keys) → AllByRecursion (IsOutput k aggs rows) (guessed_keys (keys_of k) rows)
+  pub all_outputs : (k : Keys) → AllByRecursion (λ guess. IsOutput k aggs rows (own_rows k rows guess)) (guessed_keys (keys_of k) rows)
   all_outputs k = outputs_by k (guessed_keys (keys_of k) rows) (occurs_distinct (map (λ r. guesses (keys_of k r.cells)) rows))
 
 -- ---- where the numbers lie in the range
@@ -171,6 +176,10 @@ module _ (k : Keys) (aggs : List Agg) (rows : Bounded) where
       (one_or_none _ belonging) (one_or_none _ belonging) (zero_fits r.annot.most)
       ∙ ap (λ b. most_fits g && b) (triples_by gs)
 
+  -- the numbers of an output
+  abbrev pub each : List Value → Bool
+  each guess = output_fits k aggs rows (own_rows k rows guess)
+
   both_by : (a b c d : Bool) → ((b && d) && (a && c)) ≡ ((a && b) && (c && d))
   both_by true true true true = refl
   both_by true true true false = refl
@@ -181,9 +190,9 @@ module _ (k : Keys) (aggs : List Agg) (rows : Bounded) where
   both_by false true c false = refl
   both_by false false c d = refl
 
-  each_fits : (gs : List (List Value)) → (list_all aggs_fit gs && list_all most_fits gs) ≡ list_all (output_fits k aggs rows) gs
+  each_fits : (gs : List (List Value)) → (list_all aggs_fit gs && list_all most_fits gs) ≡ list_all each gs
   each_fits [] = refl
-  each_fits (g ∷ gs) = both_by (most_fits g) (aggs_fit g) (list_all most_fits gs) (list_all aggs_fit gs) ∙ ap (λ b. output_fits k aggs rows g && b) (swap (list_all most_fits gs) (list_all aggs_fit gs) ∙ each_fits gs)
+  each_fits (g ∷ gs) = both_by (most_fits g) (aggs_fit g) (list_all most_fits gs) (list_all aggs_fit gs) ∙ ap (λ b. each g && b) (swap (list_all most_fits gs) (list_all aggs_fit gs) ∙ each_fits gs)
     where
       swap : (a b : Bool) → (a && b) ≡ (b && a)
       swap true true = refl
@@ -192,7 +201,7 @@ module _ (k : Keys) (aggs : List Agg) (rows : Bounded) where
       swap false false = refl
 
   -- the numbers of a group lie in the range where those of each output do
-  pub group_fits-each : group_fits k aggs rows ≡ list_all (output_fits k aggs rows) (guessed_keys (keys_of k) rows)
+  pub group_fits-each : group_fits k aggs rows ≡ list_all each (guessed_keys (keys_of k) rows)
   group_fits-each =
       let gs = guessed_keys (keys_of k) rows in
       list_all-append is_i128 (grouping_numbers (keys_of k) aggs rows) (triple_numbers (group_by (keys_of k) aggs rows))

@@ -1,6 +1,6 @@
 -- The rows of an output: their kinds, and which overlap its keys.
 use Rattle.std.specs.Prelude.{◌≡◌, ◌<◌, Bool, true, false, ◌&&◌, List, [], ◌∷◌, length, map, filter}
-use Rattle.std.proofs.Common.{arith, refl, sym, ◌∙◌}
+use Rattle.std.proofs.Common.{arith, refl, sym, ◌∙◌, subst}
 use Rattle.au_value.specs.declared.kinds.Kind.{Kind}
 use Rattle.au_value.specs.Order.{at_most}
 use Rattle.au_value.specs.Ranges.{Span, all_overlap}
@@ -22,6 +22,14 @@ kinds-hull_of k ks (r ∷ []) some h = h.0
 kinds-hull_of k ks (r ∷ s ∷ rows) some h =
     let others = kinds-hull_of k ks (s ∷ rows) (omega arith) h.1 in
     kinds-hulls (keys_of k r.cells) (hull_of (map (λ q. keys_of k q.cells) (s ∷ rows))) (h.0 ∙ sym others) ∙ h.0
+
+-- rows have keys of the kinds of the hull of some of them
+pub hull_kinds : (k : Keys) (ks : List Kind) (rows own : Bounded) → 0 < length own → HasKinds ks rows → HasKinds ks own → HasKeyKinds k (kinds (hull_of (map (λ r. keys_of k r.cells) own))) rows
+hull_kinds k ks rows [] some p q = let never : ⊥ = omega (arith, some) in absurd never
+hull_kinds k ks rows (r ∷ own) some p q =
+    let like : (rs : Bounded) → HasKinds ks rs → HasKinds (kinds r.cells) rs = λ rs h. all_from (λ s. kinds s.cells ≡ ks) (λ s. kinds s.cells ≡ kinds r.cells) rs (λ s e. e ∙ sym q.0) h in
+    let of_box = kinds-hull_of k (kinds (keys_of k r.cells)) (r ∷ own) some (key_kinds k r.cells (r ∷ own) (like (r ∷ own) q)) in
+    subst (λ js. HasKeyKinds k js rows) (sym of_box) (key_kinds k r.cells rows (like rows p))
 
 and_comm : (a b : Bool) → (a && b) ≡ (b && a)
 and_comm true true = refl

@@ -1,10 +1,10 @@
 pub mod KeyKinds
-pub mod Firsts
 pub mod HullFolds
 pub mod RowByRow
 pub mod Fitting
 pub mod PutRows
 pub mod CombineRows
+pub mod FoundRows
 pub mod DifferenceRows
 pub mod GivesMore
 pub mod ExtremeRows
@@ -13,12 +13,14 @@ pub mod SumNumbers
 pub mod GroupRows
 pub mod Gathered
 pub mod GroupOutputs
-pub mod GroupHeads
+pub mod GroupParts
 pub mod TotalRows
 pub mod TypedTrees
 pub mod TreeNumbers
 pub mod PositiveRows
 pub mod TreeRows
 pub mod CertainTables
+pub mod CertainRows
+pub mod OverlapSums
 pub mod NonPositiveRanges
 pub mod NonPositiveValues

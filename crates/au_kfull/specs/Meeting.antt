@@ -8,6 +8,8 @@ use Rattle.au_algebra.specs.Lists.{same_row}
 use Rattle.au_algebra.specs.Bounded.{Bounded}
 use Rattle.au_kfull.specs.declared.meeting.Meeting.{Meeting}
 use Rattle.au_kfull.specs.declared.meeting.Meeting.TheVariants.{Guess, Overlap, Certain}
+use Rattle.au_kfull.specs.declared.meeting.Part.{Part}
+use Rattle.au_kfull.specs.declared.meeting.Part.TheVariants as part
 
 -- whether two ranges meet
 abbrev pub meets : Meeting → Span → Span → Bool
@@ -21,12 +23,12 @@ all_meet Guess xs ys = same_row (guesses xs) (guesses ys)
 all_meet Overlap xs ys = all_overlap xs ys
 all_meet Certain xs ys = all_certainly_equal xs ys
 
--- what of a triple counts there
-abbrev pub part_of : Meeting → Counts → ℕ
-part_of Guess t = t.guess
-part_of Overlap t = t.most
-part_of Certain t = t.least
+-- a count of a triple
+abbrev pub count_of : Part → Counts → ℕ
+count_of part.Least t = t.least
+count_of part.Guess t = t.guess
+count_of part.Most t = t.most
 
 -- its sum over the rows that meet the given one
-abbrev pub sum_meeting : Meeting → List Span → Bounded → ℕ
-sum_meeting how cells rows = sum_by (λ r. part_of how r.annot) (filter (λ r. all_meet how cells r.cells) rows)
+abbrev pub sum_meeting : Meeting → Part → List Span → Bounded → ℕ
+sum_meeting how part cells rows = sum_by (λ r. count_of part r.annot) (filter (λ r. all_meet how cells r.cells) rows)

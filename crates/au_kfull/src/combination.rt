@@ -71,7 +71,7 @@ pub(crate) fn combined(
     requires { (ks : List Kind) × HasKinds ks rows.now }
     ensures { GivesOrOverflows result (λ r. r ≡ combine_of rows.now) (triples_fit (combine_of rows.now)) }
 {
-    let groups = grouped_by_guesses(alloc, rows)?;
+    let groups = grouped_by_guesses(alloc, Keys::All, rows)?;
     all_merged(alloc, &groups)
 }
 

@@ -1,16 +1,18 @@
 //! The triple of an output of a group.
-ghost use Rattle.std.specs.Prelude.{◌≡◌, ◌&&◌, ◌<◌, ◌^◌, Bool, not, nat_le, OkIff, filter, if◌then◌else◌};
+ghost use Rattle.std.specs.Prelude.{◌≡◌, ◌&&◌, ◌<◌, ◌^◌, Bool, not, nat_le, IfOk, OkIff, filter, if◌then◌else◌};
 ghost use Rattle.std.specs.List.{list_any, list_all};
 ghost use Rattle.au_annot.specs.Triples.{IsTriple};
 ghost use Rattle.au_value.specs.Ranges.{is_certain, all_certain as all_certain_of};
 ghost use Rattle.au_algebra.specs.Bounded.{group_counts, most_of};
 ghost use Rattle.au_kfull.specs.Keys.{keys_of as the_keys};
+ghost use Rattle.au_kfull.specs.Groups.{unsure};
 
 use crate::keys::{Keys, keys_of};
 use crate::tuple::Tuple;
 use au_annot::{Annot, Count, Triple};
 use au_keval::zero_or_one;
-use au_value::{Overflow, Range};
+use au_value::{NoMemory, Overflow, Range};
+use std::alloc::Global;
 
 /// Whether each range is certain.
 pub(crate) fn all_certain(cells: &[Range]) -> bool
@@ -38,6 +40,23 @@ pub(crate) fn has_certain_keys(keys: Keys, row: &Tuple<'_, Range, Triple>) -> bo
     ensures { result ≡ all_certain_of (the_keys keys row.now.cells) }
 {
     all_certain(keys_of(keys, row.cells()))
+}
+
+/// The rows whose keys are not all certain.
+pub(crate) fn unsure_rows<'a>(
+    alloc: Global,
+    keys: Keys,
+    rows: &[Tuple<'a, Range, Triple>],
+) -> Result<Vec<Tuple<'a, Range, Triple>>, NoMemory>
+    ensures { IfOk result (λ v. v.items ≡ unsure keys rows.now) }
+{
+    let mut found = Vec::new(alloc);
+    for row in rows {
+        if !has_certain_keys(keys, row) {
+            found.push(row.again())?;
+        }
+    }
+    Ok(found)
 }
 
 // Whether the keys of a row are certain, and it has a copy in every world.

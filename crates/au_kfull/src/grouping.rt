@@ -1,15 +1,14 @@
 //! The rows of an output of a group.
-ghost use Rattle.std.specs.Prelude.{◌<◌, IfOk, length};
-ghost use Rattle.au_value.specs.Ranges.{guesses};
-ghost use Rattle.au_algebra.specs.Bounded.{grouped};
-ghost use Rattle.au_kfull.specs.Groups.{IsGrouping};
-ghost use Rattle.au_kfull.specs.Keys.{keys_of as the_keys, kinds, HasKinds};
+ghost use Rattle.std.specs.Prelude.{◌≡◌, [], IfOk, filter};
+ghost use Rattle.au_value.specs.Ranges.{all_overlap};
+ghost use Rattle.au_kfull.specs.Groups.{IsGroupOf, IsGrouping, unsure as unsure_of};
+ghost use Rattle.au_kfull.specs.Keys.{keys_of as the_keys, kinds, HasKeyKinds};
 
 use crate::counts::{all_certain, has_guess};
 use crate::hull::hull_of;
-use crate::keys::{Keys, keys_of};
+use crate::keys::Keys;
 use crate::meeting::{Meeting, rows_meeting};
-use crate::tuple::Tuple;
+use crate::tuple::{Tuple, all_again};
 use au_annot::Triple;
 use au_value::{NoMemory, Range};
 use std::alloc::Global;
@@ -25,23 +24,43 @@ pub(crate) struct Grouping<'a> {
     pub(crate) members: Vec<Tuple<'a, Range, Triple>>,
 }
 
-/// The key ranges and the rows of the output with the guessed keys of a row.
+// The rows whose keys overlap those of an output: where all keys are certain, those that belong to it.
+fn members<'a>(
+    alloc: Global,
+    keys: Keys,
+    hull: &[Range],
+    belonging: &[Tuple<'a, Range, Triple>],
+    rows: &[Tuple<'a, Range, Triple>],
+    unsure: &[Tuple<'a, Range, Triple>],
+) -> Result<Vec<Tuple<'a, Range, Triple>>, NoMemory>
+    requires kinds { HasKeyKinds keys (kinds hull.now) rows.now }
+    requires certain { unsure.now ≡ [] → filter (λ r. all_overlap (the_keys keys r.cells) hull.now) rows.now ≡ belonging.now }
+    ensures { IfOk result (λ v. v.items ≡ filter (λ r. all_overlap (the_keys keys r.cells) hull.now) rows.now) }
+{
+    if unsure.is_empty() {
+        all_again(alloc, belonging)
+    } else {
+        rows_meeting(alloc, Meeting::Overlap, keys, hull, rows)
+    }
+}
+
+/// The key ranges and the rows of the output to which some rows belong.
 pub(crate) fn output_grouping<'a>(
     alloc: Global,
     keys: Keys,
-    head: &[Range],
+    belonging: &[Tuple<'a, Range, Triple>],
     rows: &[Tuple<'a, Range, Triple>],
+    unsure: &[Tuple<'a, Range, Triple>],
 ) -> Result<(Vec<Range>, Grouping<'a>), NoMemory>
-    requires kinds { HasKinds (kinds head.now) rows.now }
-    requires some { 0 < length (grouped (the_keys keys) rows.now (guesses (the_keys keys head.now))).belonging }
-    ensures { IfOk result (λ p. IsGrouping keys rows.now (guesses (the_keys keys head.now)) p.0.items p.1) }
+    requires group { IsGroupOf keys rows.now belonging.now }
+    requires unsure { unsure.now ≡ unsure_of keys rows.now }
+    ensures { IfOk result (λ p. IsGrouping keys rows.now belonging.now p.0.items p.1) }
 {
-    let own = keys_of(keys, head);
-    let belonging = rows_meeting(alloc, Meeting::Guess, keys, own, rows)?;
-    let hull = hull_of(alloc, keys, &belonging)?;
-    let members = rows_meeting(alloc, Meeting::Overlap, keys, &hull, rows)?;
+    let hull = hull_of(alloc, keys, belonging)?;
+    let members = members(alloc, keys, &hull, belonging, rows, unsure)?;
     let is_certain = all_certain(&hull);
-    let is_guessed = has_guess(&belonging);
+    let is_guessed = has_guess(belonging);
+    let belonging = all_again(alloc, belonging)?;
     let grouping = Grouping {
         keys,
         is_certain,

@@ -7,13 +7,16 @@ ghost use Rattle.au_algebra.specs.Bounded.{distinct_rows, group as group_of, gro
 ghost use Rattle.au_algebra.specs.Entries.{entry};
 ghost use Rattle.au_algebra.specs.Laws.{IsRelation};
 ghost use Rattle.au_kfull.specs.Gives.{GivesOrOverflows};
+ghost use Rattle.au_kfull.specs.Groups.{unsure as unsure_of};
 ghost use Rattle.au_kfull.specs.Keys.{keys_of as the_keys};
 ghost use Rattle.au_kfull.specs.Outputs.{IsOutputReady, group_fits, made_fits, made_output};
 ghost use Rattle.au_kfull.specs.Typed.{IsGroupable};
 ghost use Rattle.au_kfull.specs.declared.keys.Keys.TheVariants as columns;
 
-use crate::keys::{Keys, firsts};
+use crate::counts::unsure_rows;
+use crate::keys::Keys;
 use crate::output::output;
+use crate::same_guesses::grouped_by_guesses;
 use crate::tuple::{Tuple, push_present, tuples};
 use au_algebra::{Agg, Rel};
 use au_annot::Triple;
@@ -22,20 +25,22 @@ use au_keval::operators::Row;
 use au_value::Range;
 use std::alloc::Global;
 
-// The outputs with the guessed keys of some rows.
+// The outputs to which these groups of rows belong.
 fn outputs(
     alloc: Global,
     keys: Keys,
     aggs: &[Agg],
-    heads: &[Tuple<'_, Range, Triple>],
+    groups: &[Vec<Tuple<'_, Range, Triple>>],
     rows: &[Tuple<'_, Range, Triple>],
+    unsure: &[Tuple<'_, Range, Triple>],
 ) -> Result<Rel<Range, Triple>, EvalFault>
-    requires { AllByRecursion (λ h. IsOutputReady keys aggs.now rows.now h.cells) heads.now }
-    ensures { GivesOrOverflows result (λ r. r ≡ present (map (λ h. made_output keys aggs.now rows.now h.cells) heads.now)) (list_all (λ h. made_fits keys aggs.now rows.now h.cells) heads.now) }
+    requires ready { AllByRecursion (λ g. IsOutputReady keys aggs.now rows.now g.items) groups.now }
+    requires unsure { unsure.now ≡ unsure_of keys rows.now }
+    ensures { GivesOrOverflows result (λ r. r ≡ present (map (λ g. made_output keys aggs.now rows.now g.items) groups.now)) (list_all (λ g. made_fits keys aggs.now rows.now g.items) groups.now) }
 {
     let mut rel = Rel::new(alloc);
-    for head in heads {
-        let (cells, triple) = output(alloc, keys, aggs, head.cells(), rows)?;
+    for group in groups {
+        let (cells, triple) = output(alloc, keys, aggs, group, rows, unsure)?;
         push_present(&mut rel, cells, triple)?;
     }
     Ok(rel)
@@ -52,8 +57,9 @@ pub(crate) fn grouped(
     ensures { let rows = map (λ r. entry r.0.items r.1) of.now in GivesOrOverflows result (λ r. r ≡ group_by (the_keys keys) aggs.now rows) (group_fits keys aggs.now rows) }
 {
     let rows = tuples(alloc, of)?;
-    let heads = firsts(alloc, keys, &rows)?;
-    outputs(alloc, keys, aggs, &heads, &rows)
+    let unsure = unsure_rows(alloc, keys, &rows)?;
+    let groups = grouped_by_guesses(alloc, keys, &rows)?;
+    outputs(alloc, keys, aggs, &groups, &rows, &unsure)
 }
 
 /// One row for each distinct list of guesses in so many leading columns: the hulls of the rows' keys, and then the

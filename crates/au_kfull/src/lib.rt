@@ -4,9 +4,13 @@
 //! 2021; the formulas of grouping are in docs/SEMANTICS.md). [`ordinary`] gives the answer over values with counts: the
 //! guesses of the bounded relation, each value taken as a range of its own. [`difference`], [`group`], [`distinct`],
 //! [`total`] and [`combine`] are single operators. [`Full`] has the three that are not positive over any domain and
-//! annotation: ranges with triples, and values with counts. Rows with equal guesses are gathered in one pass, by hashing.
-//! Nothing else is indexed: the rows that an output or a difference needs are found among all rows, and a row that is only
-//! read is lent.
+//! annotation: ranges with triples, and values with counts. A row that is only read is lent.
+//!
+//! Rows are found by their guesses by hashing: those that are combined, those that belong to an output, and the right
+//! rows of a difference with the guesses of a left one, among which all are that are certainly equal to it. Overlap is
+//! tested row by row: an output is compared with all rows where the keys of some row are unsure, a left row that is
+//! certain with the right rows that are unsure, and any other left row with all right rows. So over values, and over
+//! rows that are certain in these columns, each of these operators is one pass. A product forms all pairs.
 //!
 //! ```text
 //! let kept = difference(alloc, &orders, &returned)?;

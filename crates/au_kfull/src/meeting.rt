@@ -2,7 +2,7 @@
 ghost use Rattle.std.specs.Prelude.{◌≡◌, ◌<◌, ◌^◌, IfOk, OkIff, filter, if◌then◌else◌};
 ghost use Rattle.au_value.specs.Order.{kind_of};
 ghost use Rattle.au_kfull.specs.Keys.{keys_of as the_keys, kinds, HasKinds, HasKeyKinds};
-ghost use Rattle.au_kfull.specs.Meeting.{meets as meets_of, all_meet as all_meet_of, part_of, sum_meeting as sum_meeting_of};
+ghost use Rattle.au_kfull.specs.Meeting.{meets as meets_of, all_meet as all_meet_of, count_of, sum_meeting as sum_meeting_of};
 
 use crate::keys::{Keys, keys_of};
 use crate::tuple::Tuple;
@@ -32,6 +32,14 @@ fn meets(how: Meeting, a: &Range, b: &Range) -> bool
     }
 }
 
+/// A count of a row's triple.
+#[derive(Clone, Copy)]
+pub(crate) enum Part {
+    Least,
+    Guess,
+    Most,
+}
+
 /// Whether two rows meet in each column.
 pub(crate) fn all_meet(how: Meeting, a: &[Range], b: &[Range]) -> bool
     requires { kinds a.now ≡ kinds b.now }
@@ -52,43 +60,42 @@ pub(crate) fn all_meet(how: Meeting, a: &[Range], b: &[Range]) -> bool
     right.is_empty()
 }
 
-// What of a row's triple counts where rows meet so: its guess where they are equal in the guess world, its most where
-// they may be equal, and its least where they are equal in every world.
-fn part(how: Meeting, triple: Triple) -> Count
-    ensures value { result ≡ part_of how triple }
-    ensures fits { part_of how triple < 2 ^ 127 }
+fn count(part: Part, triple: Triple) -> Count
+    ensures value { result ≡ count_of part triple }
+    ensures fits { count_of part triple < 2 ^ 127 }
 {
-    match how {
-        Meeting::Guess => triple.guess(),
-        Meeting::Overlap => triple.most(),
-        Meeting::Certain => triple.least(),
+    match part {
+        Part::Least => triple.least(),
+        Part::Guess => triple.guess(),
+        Part::Most => triple.most(),
     }
 }
 
-// The part of a row, or 0 where it does not meet the given one.
-fn part_meeting(how: Meeting, cells: &[Range], row: &Tuple<'_, Range, Triple>) -> Count
+// The count of a row, or 0 where it does not meet the given one.
+fn count_meeting(how: Meeting, part: Part, cells: &[Range], row: &Tuple<'_, Range, Triple>) -> Count
     requires { kinds row.now.cells ≡ kinds cells.now }
-    ensures { result ≡ (if all_meet_of how cells.now row.now.cells then part_of how row.now.annot else 0) }
+    ensures { result ≡ (if all_meet_of how cells.now row.now.cells then count_of part row.now.annot else 0) }
 {
     if all_meet(how, cells, row.cells()) {
-        part(how, row.annot())
+        count(part, row.annot())
     } else {
         Count::zero()
     }
 }
 
-/// The sum of these parts over the rows that meet the given one.
+/// The sum of these counts over the rows that meet the given one.
 pub(crate) fn sum_meeting(
     how: Meeting,
+    part: Part,
     cells: &[Range],
     rows: &[Tuple<'_, Range, Triple>],
 ) -> Result<Count, Overflow>
     requires { HasKinds (kinds cells.now) rows.now }
-    ensures { OkIff result (sum_meeting_of how cells.now rows.now < 2 ^ 127) (sum_meeting_of how cells.now rows.now) }
+    ensures { OkIff result (sum_meeting_of how part cells.now rows.now < 2 ^ 127) (sum_meeting_of how part cells.now rows.now) }
 {
     let mut sum = Count::zero();
     for row in rows {
-        sum = sum.plus(part_meeting(how, cells, row))?;
+        sum = sum.plus(count_meeting(how, part, cells, row))?;
     }
     // Read for the proof alone: a count lies in its range.
     let _fits = sum.get();

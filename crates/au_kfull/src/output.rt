@@ -6,7 +6,7 @@ ghost use Rattle.au_algebra.specs.Bounded.{aggregate as aggregate_of};
 ghost use Rattle.au_algebra.specs.Entries.{entry};
 ghost use Rattle.au_algebra.specs.Fits.{agg_numbers};
 ghost use Rattle.au_kfull.specs.Gives.{GivesOrOverflows};
-ghost use Rattle.au_kfull.specs.Groups.{seen};
+ghost use Rattle.au_kfull.specs.Groups.{seen, unsure as unsure_of};
 ghost use Rattle.au_kfull.specs.Outputs.{CanAggregate, IsOutputReady, made_fits, made_output};
 
 use crate::aggregates::aggregate;
@@ -45,18 +45,20 @@ pub(crate) fn push_aggregates(
     Ok(cells)
 }
 
-/// The output with the guessed keys of a row.
+/// The output to which some rows belong.
 pub(crate) fn output(
     alloc: Global,
     keys: Keys,
     aggs: &[Agg],
-    head: &[Range],
+    belonging: &[Tuple<'_, Range, Triple>],
     rows: &[Tuple<'_, Range, Triple>],
+    unsure: &[Tuple<'_, Range, Triple>],
 ) -> Result<(Vec<Range>, Triple), EvalFault>
-    requires { IsOutputReady keys aggs.now rows.now head.now }
-    ensures { GivesOrOverflows result (λ r. entry r.0.items r.1 ≡ made_output keys aggs.now rows.now head.now) (made_fits keys aggs.now rows.now head.now) }
+    requires ready { IsOutputReady keys aggs.now rows.now belonging.now }
+    requires unsure { unsure.now ≡ unsure_of keys rows.now }
+    ensures { GivesOrOverflows result (λ r. entry r.0.items r.1 ≡ made_output keys aggs.now rows.now belonging.now) (made_fits keys aggs.now rows.now belonging.now) }
 {
-    let (hull, group) = output_grouping(alloc, keys, head, rows)?;
+    let (hull, group) = output_grouping(alloc, keys, belonging, rows, unsure)?;
     let triple = counts(keys, &group.belonging)?;
     match push_aggregates(alloc, hull, &group, aggs) {
         Ok(cells) => Ok((cells, triple)),

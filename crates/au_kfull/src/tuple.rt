@@ -68,6 +68,20 @@ pub(crate) fn tuples<C, K: Copy>(
     Ok(lent)
 }
 
+/// The same rows.
+pub(crate) fn all_again<'a, C, K: Copy>(
+    alloc: Global,
+    rows: &[Tuple<'a, C, K>],
+) -> Result<Vec<Tuple<'a, C, K>>, NoMemory>
+    ensures { IfOk result (λ v. v.items ≡ rows.now) }
+{
+    let mut same = Vec::with_capacity(alloc, rows.len())?;
+    for row in rows {
+        same.push(row.again())?;
+    }
+    Ok(same)
+}
+
 /// Puts a row behind the others where a copy of it is possible.
 pub(crate) fn push_present(
     rel: &mut Rel<Range, Triple>,

@@ -1,5 +1,5 @@
 -- Each group has the kinds of all.
-use Rattle.std.proofs.Common.{◌≡◌, ◌++◌, ◌∙◌, ap, map, subst, sym}
+use Rattle.std.proofs.Common.{◌++◌, ap, map, subst, sym}
 use Rattle.std.specs.List.{AllByRecursion}
 use Rattle.au_kfull.specs.Keys.{HasKinds}
 use Rattle.au_kfull.proofs.CombineRows.{merged_group}

@@ -1,7 +1,6 @@
 -- The groups are those of the rows by their guesses.
 use Rattle.std.proofs.Common.{◌≡◌, ◌∙◌, ap, map, subst, sym}
 use Rattle.std.specs.List.{AllByRecursion}
-use Rattle.au_algebra.specs.Bounded.{combine}
 use Rattle.au_algebra.specs.Fits.{triples_fit}
 use Rattle.au_kfull.specs.Gives.{GivesOrOverflows}
 use Rattle.au_kfull.specs.Keys.{HasKinds}

@@ -6,6 +6,6 @@ use Rattle.au_kfull.proofs.meeting.sum_meeting.Given as goal
 
 abbrev pub invariant-loop-row : goal.invariant-loop-row
 invariant-loop-row l = record {
-  sum : l.sum + sum_meeting l.how l.cells (drop l.row-index l.rows) ≡ sum_meeting l.how l.cells l.rows;
+  sum : l.sum + sum_meeting l.how l.part l.cells (drop l.row-index l.rows) ≡ sum_meeting l.how l.part l.cells l.rows;
   one_kinds : HasKinds (kinds l.cells) (drop l.row-index l.rows);
 }
