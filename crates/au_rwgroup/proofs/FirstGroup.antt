@@ -1,7 +1,8 @@
 -- The rows of the first grouping: each box with the triple of its group, and the further aggregates.
 use Rattle.std.specs.Prelude.{◌≡◌, ℕ, zero, suc, ◌+◌, ◌*◌, Bool, true, false, ◌&&◌, List, [], ◌∷◌, ◌++◌, length, pos, nat_le, Option, if◌then◌else◌}
 use Rattle.std.specs.Prelude.{Some as present}
-use Rattle.std.proofs.Common.{arith, refl, ◌∙◌, ap}
+use Rattle.std.proofs.Common.{arith, refl, sym, ◌∙◌, ap}
+use Rattle.std.proofs.Math.Bool.{and-true}
 use Rattle.au_value.specs.declared.value.Value.{Value}
 use Rattle.au_value.specs.declared.value.Value.TheVariants as value
 use Rattle.au_value.specs.Order.{equal, below}
@@ -28,8 +29,11 @@ pub sure_has : (row : List Value) (i k : ℕ) (xs : List Span) → length xs ≡
 sure_has row i zero [] e z = λ more. refl
 sure_has row i (suc k) [] e z = let never : ⊥ = omega (arith, e) in absurd never
 sure_has row i zero (x ∷ xs) e z = let never : ⊥ = omega (arith, e) in absurd never
-sure_has row i (suc k) (x ∷ xs) e z =
-    let rest = sure_has row (i + 3) k xs (omega (arith, e)) z.1 in
+sure_has row i (suc zero) (x ∷ []) e z =
+    λ more. (λ j. value.Flag (equal (lo_has row i x z.0 more j) (hi_has row i x z.0 more j))) ∙ ap value.Flag (sym (and-true (equal x.lo x.hi)))
+sure_has row i (suc zero) (x ∷ y ∷ xs) e z = let never : ⊥ = omega (arith, e) in absurd never
+sure_has row i (suc (suc k)) (x ∷ xs) e z =
+    let rest = sure_has row (i + 3) (suc k) xs (omega (arith, e)) z.1 in
     λ more. λ j. value.Flag (equal (lo_has row i x z.0 more j) (hi_has row i x z.0 more j) && is_true (rest more j))
 
 module _ (by : KeyReading) where

@@ -7,7 +7,7 @@ use Rattle.au_value.specs.declared.kinds.Kind.TheVariants.{Int, Flag}
 use Rattle.au_expr.specs.Kinds.{is_kind}
 use Rattle.au_algebra.specs.Typing.{all_kinds}
 use Rattle.au_plain.specs.declared.expr.Comparison2.TheVariants.{Equal, Less}
-use Rattle.au_plain.specs.PTerms.{PTerm, Column, Add, Compare, And}
+use Rattle.au_plain.specs.PTerms.{PTerm, Column, Add, And}
 use Rattle.au_plain.specs.declared.plan.PAgg.{PAgg}
 use Rattle.au_plain.specs.Plans.{PlanTree, Extend, Keep, extend_all}
 use Rattle.au_plain.specs.PlanKinds.{plan_kinds, plain_kind, plain_agg_kind}
@@ -16,7 +16,7 @@ use Rattle.au_rwexpr.specs.Flatten.{lo, sg, hi}
 use Rattle.au_rwexpr.specs.Counts.{zero_term, one_term, positive}
 use Rattle.au_rwexpr.specs.Cells.{cell_places, run}
 use Rattle.au_combine.specs.Boxes.{boxes}
-use Rattle.au_rwgroup.specs.Groups.{all_sure, group_columns, first_aggs, first_grouping, distinct_plan}
+use Rattle.au_rwgroup.specs.Groups.{sure, all_sure, group_columns, first_aggs, first_grouping, distinct_plan}
 use Rattle.au_rwexpr.proofs.Places.{At, at_more, at_past, EndsOfAll, all_ends_at, all_ends_more}
 use Rattle.au_rwexpr.proofs.Columns.{adds, means_now}
 use Rattle.au_rwexpr.proofs.OnKinds.{HasKind, column_kind, test_kind, and_kind, case_kind, add_kind}
@@ -30,9 +30,10 @@ use Rattle.au_rwexpr.proofs.Gives.{HasKinds, same_map, kinds-keep, kinds-extend,
 pub sure_kind : (row : List Kind) (i k : ℕ) (ks : List Kind) → length ks ≡ k → EndsOfAll own own own row i ks → HasKind row (all_sure i k) Flag
 sure_kind row i zero ks e z = λ more. refl
 sure_kind row i (suc k) [] e z = let never : ⊥ = omega (arith, e) in absurd never
-sure_kind row i (suc k) (x ∷ xs) e z =
-    and_kind row (Compare Equal (lo i) (hi i)) (all_sure (i + 3) k) (test_kind row (lo i) (hi i) Equal x (column_kind row i x z.0.lo) (column_kind row (i + 2) x z.0.hi))
-    (sure_kind row (i + 3) k xs (omega (arith, e)) z.1)
+sure_kind row i (suc zero) (x ∷ xs) e z = test_kind row (lo i) (hi i) Equal x (column_kind row i x z.0.lo) (column_kind row (i + 2) x z.0.hi)
+sure_kind row i (suc (suc k)) (x ∷ xs) e z =
+    and_kind row (sure i) (all_sure (i + 3) (suc k)) (test_kind row (lo i) (hi i) Equal x (column_kind row i x z.0.lo) (column_kind row (i + 2) x z.0.hi))
+    (sure_kind row (i + 3) (suc k) xs (omega (arith, e)) z.1)
 
 -- the test of a count is a flag
 pub positive_kind : (row : List Kind) (e : PTerm) → HasKind row e Int → HasKind row (positive e) Flag

@@ -18,7 +18,7 @@ use Rattle.au_algebra.proofs.Each.{all_filter, all_from}
 use Rattle.au_plain.specs.declared.expr.Comparison2.TheVariants.{Equal, Less}
 use Rattle.au_plain.specs.declared.plan.PAgg.{PAgg}
 use Rattle.au_plain.specs.declared.plan.PAgg.TheVariants.{Sum, Min, Max}
-use Rattle.au_plain.specs.PTerms.{PTerm, Add, And, Column, Compare}
+use Rattle.au_plain.specs.PTerms.{PTerm, Add, And, Column}
 use Rattle.au_plain.specs.Plans.{PlanTree, extend_all}
 use Rattle.au_plain.specs.Meaning.{plain_rows, plain_aggregate}
 use Rattle.au_plain.specs.PlanNumbers.{plan_numbers, term_numbers, group_numbers, magnitudes}
@@ -44,7 +44,7 @@ use Rattle.au_combine.proofs.BoxRows.{keys_are, hull_long}
 use Rattle.au_combine.proofs.CombineNumbers.{box_magnitudes, sum_magnitudes}
 use Rattle.au_combine.proofs.Grouping.{all_occur, some_with, numbers_made}
 use Rattle.au_rwexpr.proofs.Flags.{counted, sum_failing}
-use Rattle.au_rwgroup.specs.Groups.{all_sure, group_columns, first_aggs, first_grouping, distinct_plan}
+use Rattle.au_rwgroup.specs.Groups.{sure, all_sure, group_columns, first_aggs, first_grouping, distinct_plan}
 use Rattle.au_rwgroup.proofs.FirstGroup as group
 use Rattle.au_rwgroup.proofs.FirstRows as rows_of
 use Rattle.au_rwgroup.proofs.KeyReading.{KeyReading, all_cells}
@@ -53,10 +53,11 @@ use Rattle.au_rwgroup.proofs.KeyReading.{KeyReading, all_cells}
 pub sure_fits : (row : List Value) (i k : ℕ) (xs : List Span) → length xs ≡ k → EndsOfAll rl rs rh row i xs → AllFit xs → Fits row (all_sure i k)
 sure_fits row i zero xs e z f = λ more. refl
 sure_fits row i (suc k) [] e z f = let never : ⊥ = omega (arith, e) in absurd never
-sure_fits row i (suc k) (x ∷ xs) e z f =
-    and_fits row (Compare Equal (lo i) (hi i)) (all_sure (i + 3) k)
+sure_fits row i (suc zero) (x ∷ xs) e z f = compare_fits row (lo i) (hi i) (lo_fits row i x z.0 f.0) (hi_fits row i x z.0 f.0) Equal
+sure_fits row i (suc (suc k)) (x ∷ xs) e z f =
+    and_fits row (sure i) (all_sure (i + 3) (suc k))
     (compare_fits row (lo i) (hi i) (lo_fits row i x z.0 f.0) (hi_fits row i x z.0 f.0) Equal)
-    (sure_fits row (i + 3) k xs (omega (arith, e)) z.1 f.1)
+    (sure_fits row (i + 3) (suc k) xs (omega (arith, e)) z.1 f.1)
 
 -- the test of a count fits
 pub positive_fits : (row : List Value) (e : PTerm) → Fits row e → Fits row (positive e)

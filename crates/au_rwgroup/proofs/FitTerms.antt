@@ -121,4 +121,5 @@ same_reads i j (suc k) = ((tt, tt), same_reads (i + 3) (j + 3) k)
 
 pub sure_reads : (i k : ℕ) → Reads (all_sure i k)
 sure_reads i zero = refl
-sure_reads i (suc k) = ((tt, tt), sure_reads (i + 3) k)
+sure_reads i (suc zero) = (tt, tt)
+sure_reads i (suc (suc k)) = ((tt, tt), sure_reads (i + 3) (suc k))

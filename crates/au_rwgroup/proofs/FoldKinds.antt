@@ -25,8 +25,7 @@ use Rattle.au_rwexpr.proofs.Picks.{Picks, kinds_kept, picks_more, pick_cells, co
 use Rattle.au_rwexpr.proofs.Places.{At, at_more, at_past, Ends, ends_at, EndsOfAll, all_ends_more}
 use Rattle.au_rwgroup.specs.declared.folding.Folding.{Folding}
 use Rattle.au_rwgroup.specs.declared.folding.Folding.TheVariants as folding
-use Rattle.au_rwgroup.specs.Folds.{all_fold_terms, fold_columns, fold_aggs, fold_places, folds}
-use Rattle.au_rwgroup.specs.Totals.{signed}
+use Rattle.au_rwgroup.specs.Folds.{all_fold_terms, fold_columns, fold_aggs, fold_places, folds, times_above, times_below}
 use Rattle.au_rwgroup.proofs.AggregatesOn.{kind_on, OnColumn}
 use Rattle.au_rwgroup.proofs.FoldRows.{last_picks}
 
@@ -67,10 +66,14 @@ five_more row more y (x ∷ es) h = (
 )
 
 module _ (row : List Kind) where
-  -- a count times a number
-  pub signed_kind : (a b x : PTerm) → HasKind row a Int → HasKind row b Int → HasKind row x Int → HasKind row (signed a b x) Int
-  signed_kind a b x p q r =
-      case_kind row (Multiply a x) (Multiply b x) Int (Compare Less x zero_term) (test_kind row x zero_term Less Int r (λ more. refl)) (multiply_kind row a x p r) (multiply_kind row b x q r)
+  -- a count times a number, or 0
+  below_kind : (a x : PTerm) → HasKind row a Int → HasKind row x Int → HasKind row (times_below a x) Int
+  below_kind a x p r =
+      case_kind row (Multiply a x) zero_term Int (Compare Less x zero_term) (test_kind row x zero_term Less Int r (λ more. refl)) (multiply_kind row a x p r) (λ more. refl)
+
+  above_kind : (a x : PTerm) → HasKind row a Int → HasKind row x Int → HasKind row (times_above a x) Int
+  above_kind a x p r =
+      case_kind row zero_term (Multiply a x) Int (Compare Less x zero_term) (test_kind row x zero_term Less Int r (λ more. refl)) (λ more. refl) (multiply_kind row a x p r)
 
 -- the kinds of a fold of keys of these kinds, for aggregates of these
 abbrev pub fold_kinds : List Kind → List Kind → List Kind
@@ -110,14 +113,14 @@ module _ (ks js : List Kind) (k : ℕ) (long : length js ≡ k) (part : (row : L
       let least = column_kind row t Int triple.lo in
       let guess = column_kind row (t + 1) Int triple.sg in
       let most = column_kind row (t + 2) Int triple.hi in (
-        signed_kind row (hi t) zero_term (lo (3 * d)) most zero_kind low,
+        below_kind row (hi t) (lo (3 * d)) most low,
         (
           multiply_kind row (sg t) (sg (3 * d)) guess (column_kind row (3 * d + 1) Int x.sg),
           (
-            signed_kind row zero_term (hi t) (hi (3 * d)) zero_kind most high,
+            above_kind row (hi t) (hi (3 * d)) most high,
             (
-              signed_kind row zero_term (lo t) (lo (3 * d)) zero_kind least low,
-              (signed_kind row (lo t) zero_term (hi (3 * d)) least zero_kind high, terms_kinds bs h.1),
+              above_kind row (lo t) (lo (3 * d)) least low,
+              (below_kind row (lo t) (hi (3 * d)) least high, terms_kinds bs h.1),
             ),
           ),
         ),

@@ -41,9 +41,8 @@ use Rattle.au_rwexpr.proofs.Places.{At}
 use Rattle.au_rwexpr.proofs.PlanNumbersOf.{all_made, fit_all, numbers-extend_all}
 use Rattle.au_rwgroup.specs.declared.folding.Folding.{Folding}
 use Rattle.au_rwgroup.specs.declared.folding.Folding.TheVariants as folding
-use Rattle.au_rwgroup.specs.Folds.{fold_aggs, fold_columns, fold_places, all_fold_terms, folds}
+use Rattle.au_rwgroup.specs.Folds.{fold_aggs, fold_columns, fold_places, all_fold_terms, folds, times_above, times_below}
 use Rattle.au_rwgroup.specs.GroupPlan.{kept_for}
-use Rattle.au_rwgroup.specs.Totals.{signed}
 use Rattle.au_rwgroup.proofs.AggregatesOn.{OnColumn, are_on}
 use Rattle.au_rwgroup.proofs.ColumnsThere.{IsOn}
 use Rattle.au_rwgroup.proofs.FitTerms.{Safe, reads_safe, weighs_safe, safe_columns}
@@ -230,14 +229,14 @@ module _ (by : KeyReading) (aggs : List Agg) (on : AllByRecursion (OnColumn by.k
   terms_safe : (r : RangeRow) (bs : List Agg) → TermsFit bs r → AllZip Safe (all_fold_terms t bs) (all_term_values bs r)
   terms_safe r [] f = tt
   terms_safe r (agg.Sum d ∷ bs) f = (
-    weighs_safe (signed (hi t) zero_term (lo (3 * d))) _ ((tt, refl), ((tt, tt), (refl, tt))) f.0.0,
+    weighs_safe (times_below (hi t) (lo (3 * d))) _ ((tt, refl), ((tt, tt), refl)) f.0.0,
     (
       weighs_safe (Multiply (sg t) (sg (3 * d))) _ (tt, tt) f.0.1.0,
       (
-        weighs_safe (signed zero_term (hi t) (hi (3 * d))) _ ((tt, refl), ((refl, tt), (tt, tt))) f.0.1.1.0,
+        weighs_safe (times_above (hi t) (hi (3 * d))) _ ((tt, refl), (refl, (tt, tt))) f.0.1.1.0,
         (
-          weighs_safe (signed zero_term (lo t) (lo (3 * d))) _ ((tt, refl), ((refl, tt), (tt, tt))) f.0.1.1.1.0,
-          (weighs_safe (signed (lo t) zero_term (hi (3 * d))) _ ((tt, refl), ((tt, tt), (refl, tt))) f.0.1.1.1.1, terms_safe r bs f.1),
+          weighs_safe (times_above (lo t) (lo (3 * d))) _ ((tt, refl), (refl, (tt, tt))) f.0.1.1.1.0,
+          (weighs_safe (times_below (lo t) (hi (3 * d))) _ ((tt, refl), ((tt, tt), refl)) f.0.1.1.1.1, terms_safe r bs f.1),
         ),
       ),
     ),

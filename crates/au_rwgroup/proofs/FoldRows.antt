@@ -29,12 +29,11 @@ use Rattle.au_encode.proofs.Decoded.{cells_length}
 use Rattle.au_rwexpr.specs.Adding.{grow}
 use Rattle.au_rwexpr.specs.Cells.{cell_places, run}
 use Rattle.au_rwexpr.specs.Flatten.{lo, hi}
-use Rattle.au_rwexpr.specs.Counts.{zero_term}
 use Rattle.au_rwexpr.proofs.Coded.{rl, rs, rh, cl, cg, cm}
 use Rattle.au_rwexpr.proofs.Columns.{AllMean, adds}
 use Rattle.au_rwexpr.proofs.Flags.{below_zero}
 use Rattle.au_rwexpr.proofs.Gives.{GivesEncoded, grow_is, rows-extend_all, map-map, map_valid, same_map}
-use Rattle.au_rwexpr.proofs.OnValues.{reading, Has, lo_has, sg_has, hi_has, column_has}
+use Rattle.au_rwexpr.proofs.OnValues.{reading, lo_has, sg_has, hi_has, column_has}
 use Rattle.au_rwexpr.proofs.PlanNumbersOf.{all_passing}
 use Rattle.au_rwexpr.proofs.Picks.{Picks, kept_are, picks_more, pick_cells, coded_cells, coded_triple, coded_long, all_ends_long}
 use Rattle.au_rwexpr.proofs.Places.{At, at_more, at_past, Ends, ends_at, EndsOfAll, all_ends_more}
@@ -47,7 +46,7 @@ use Rattle.au_rwgroup.specs.Folds.{fold_aggs, fold_columns, fold_places, all_fol
 use Rattle.au_rwgroup.proofs.KeyReading.{KeyReading}
 use Rattle.au_rwgroup.proofs.ColumnsThere.{IsOn}
 use Rattle.au_rwgroup.proofs.Partition.{keys, share}
-use Rattle.au_rwgroup.proofs.Signed.{signed_number, signed_has}
+use Rattle.au_rwgroup.proofs.Signed.{signed_number, below_has, above_has}
 
 -- what a row adds to the ends of a sum as a member that is not certain, and what comes besides where it is
 abbrev pub low_term : ℕ → RangeRow → ℤ
@@ -299,9 +298,6 @@ module _ (by : KeyReading) where
     pub counts_there : (r : RangeRow) → IsRangeRow by.ks r → Ends cl cg cm (encode_row r) t r.annot
     counts_there r v = coded_triple rl rs rh cl cg cm c r.cells r.annot (cells_length IsRangeOf by.ks r.cells v.cells)
 
-    zero_has : (row : List Value) → Has row zero_term (value.Int (pos 0))
-    zero_has row more = refl
-
     -- what the columns hold
     pub terms_mean : (bs : List Agg) → AllByRecursion (IsOn c) bs → (r : RangeRow) → IsRangeRow by.ks r → AllMean reading (encode_row r) (all_fold_terms t bs) (all_term_values bs r)
     terms_mean [] ok r v = tt
@@ -313,17 +309,16 @@ module _ (by : KeyReading) where
         let l = column_has row t (cl r.annot) w.lo in
         let g = column_has row (t + 1) (cg r.annot) w.sg in
         let m = column_has row (t + 2) (cm r.annot) w.hi in
-        let z = zero_has row in
         let low = lo_has row (3 * d) x e in
         let high = hi_has row (3 * d) x e in (
-          (λ more. ap Some (signed_has row (hi t) zero_term (lo (3 * d)) r.annot.most 0 x.lo m z low more)),
+          (λ more. ap Some (below_has row (hi t) (lo (3 * d)) r.annot.most x.lo m low more)),
           (
             (λ more. λ k. Some (on_values.multiply (g more k) (sg_has row (3 * d) x e more k))),
             (
-              (λ more. ap Some (signed_has row zero_term (hi t) (hi (3 * d)) 0 r.annot.most x.hi z m high more)),
+              (λ more. ap Some (above_has row (hi t) (hi (3 * d)) r.annot.most x.hi m high more)),
               (
-                (λ more. ap Some (signed_has row zero_term (lo t) (lo (3 * d)) 0 r.annot.least x.lo z l low more)),
-                ((λ more. ap Some (signed_has row (lo t) zero_term (hi (3 * d)) r.annot.least 0 x.hi l z high more)), terms_mean bs ok.1 r v),
+                (λ more. ap Some (above_has row (lo t) (lo (3 * d)) r.annot.least x.lo l low more)),
+                ((λ more. ap Some (below_has row (lo t) (hi (3 * d)) r.annot.least x.hi l high more)), terms_mean bs ok.1 r v),
               ),
             ),
           ),

@@ -99,9 +99,16 @@ module _ (ks js : List Kind) (k : ℕ) (long : length js ≡ k) (part : (row : L
   abbrev kept : List PAgg
   kept = flat_map kept_for aggs
 
-  kept_long : (bs : List Agg) → length (twice (kinds_of bs)) ≡ length (flat_map kept_for bs)
+  -- the kinds of those for which something is kept
+  abbrev ends_of : List Agg → List Kind
+  ends_of [] = []
+  ends_of (agg.Sum d ∷ bs) = ends_of bs
+  ends_of (agg.Min d ∷ bs) = kind_on ks (agg.Min d) ∷ ends_of bs
+  ends_of (agg.Max d ∷ bs) = kind_on ks (agg.Max d) ∷ ends_of bs
+
+  kept_long : (bs : List Agg) → length (twice (ends_of bs)) ≡ length (flat_map kept_for bs)
   kept_long [] = refl
-  kept_long (agg.Sum d ∷ bs) = ap (λ n. suc (suc n)) (kept_long bs)
+  kept_long (agg.Sum d ∷ bs) = kept_long bs
   kept_long (agg.Min d ∷ bs) = ap (λ n. suc (suc n)) (kept_long bs)
   kept_long (agg.Max d ∷ bs) = ap (λ n. suc (suc n)) (kept_long bs)
 
@@ -109,12 +116,9 @@ module _ (ks js : List Kind) (k : ℕ) (long : length js ≡ k) (part : (row : L
   pair rest a b = a ∷ b ∷ rest
 
   -- the kinds of what the first grouping keeps
-  kept_kinds_are : (row : List Kind) → EndsOfAll own own own row 0 ks → (bs : List Agg) → AllByRecursion (OnColumn ks) bs → all_kinds (map (plain_agg_kind row) (flat_map kept_for bs)) ≡ Some (twice (kinds_of bs))
+  kept_kinds_are : (row : List Kind) → EndsOfAll own own own row 0 ks → (bs : List Agg) → AllByRecursion (OnColumn ks) bs → all_kinds (map (plain_agg_kind row) (flat_map kept_for bs)) ≡ Some (twice (ends_of bs))
   kept_kinds_are row at [] h = refl
-  kept_kinds_are row at (agg.Sum d ∷ bs) h =
-      let x = ends_at own own own row 0 d (3 * d) ks Int at h.0 (let e : 3 * d ≡ 0 + 3 * d = omega arith in e) in
-      let rest = kept_kinds_are row at bs h.1 in
-      λ i. option_and_then (λ a. option_and_then (λ more. Some (a ∷ more)) (option_and_then (λ b. option_and_then (λ more. Some (b ∷ more)) (rest i)) (x.lo i))) (x.lo i)
+  kept_kinds_are row at (agg.Sum d ∷ bs) h = kept_kinds_are row at bs h.1
   kept_kinds_are row at (agg.Min d ∷ bs) h =
       let x = ends_at own own own row 0 d (3 * d) ks (kind_on ks (agg.Min d)) at h.0 (let e : 3 * d ≡ 0 + 3 * d = omega arith in e) in
       let rest = kept_kinds_are row at bs h.1 in
@@ -129,7 +133,7 @@ module _ (ks js : List Kind) (k : ℕ) (long : length js ≡ k) (part : (row : L
   counts_kinds = Int ∷ Int ∷ Int ∷ []
 
   abbrev pub box_kinds : List Kind
-  box_kinds = triple_kinds js ++ (counts_kinds ++ twice es)
+  box_kinds = triple_kinds js ++ (counts_kinds ++ twice (ends_of aggs))
 
   abbrev b : ℕ
   b = 3 * k + 3 + length kept
@@ -144,7 +148,7 @@ module _ (ks js : List Kind) (k : ℕ) (long : length js ≡ k) (part : (row : L
   keys_long = all_ends_long own own own js ∙ ap (λ n. 3 * n) long
 
   box_long : length box_kinds ≡ b
-  box_long = omega (arith, length-append (triple_kinds js) (counts_kinds ++ twice es), keys_long, kept_long aggs)
+  box_long = omega (arith, length-append (triple_kinds js) (counts_kinds ++ twice (ends_of aggs)), keys_long, kept_long aggs)
 
   -- a joined row
   abbrev pub folded : List Kind
@@ -157,7 +161,7 @@ module _ (ks js : List Kind) (k : ℕ) (long : length js ≡ k) (part : (row : L
   row_long = omega (arith, length-append box_kinds folded, box_long, length-append (triple_kinds js) (Flag ∷ Flag ∷ fives es), keys_long, fives_long es, length-map aggs (kind_on ks))
 
   box_at : EndsOfAll own own own row 0 js
-  box_at = all_ends_more own own own box_kinds folded 0 js (all_ends_at own own own [] (counts_kinds ++ twice es) 0 js refl)
+  box_at = all_ends_more own own own box_kinds folded 0 js (all_ends_at own own own [] (counts_kinds ++ twice (ends_of aggs)) 0 js refl)
 
   keys_at : EndsOfAll own own own row b js
   keys_at = all_ends_at own own own box_kinds (Flag ∷ Flag ∷ fives es) b js box_long
@@ -179,11 +183,11 @@ module _ (ks js : List Kind) (k : ℕ) (long : length js ≡ k) (part : (row : L
       subst (λ r. FiveAt r (b + 3 * k + 2) es) (append_assoc front both (fives es) ∙ append_assoc box_kinds (triple_kinds js) (Flag ∷ Flag ∷ fives es))
       (five_at (front ++ both) (b + 3 * k + 2) es (omega (arith, length-append front both, length-append box_kinds (triple_kinds js), box_long, keys_long)))
 
-  kept_at : TwoAt row (3 * k + 3) es
+  kept_at : TwoAt row (3 * k + 3) (ends_of aggs)
   kept_at =
       let front = triple_kinds js ++ counts_kinds in
-      subst (λ r. TwoAt (r ++ folded) (3 * k + 3) es) (append_assoc (triple_kinds js) counts_kinds (twice es))
-      (two_at front folded (3 * k + 3) es (omega (arith, length-append (triple_kinds js) counts_kinds, keys_long)))
+      subst (λ r. TwoAt (r ++ folded) (3 * k + 3) (ends_of aggs)) (append_assoc (triple_kinds js) counts_kinds (twice (ends_of aggs)))
+      (two_at front folded (3 * k + 3) (ends_of aggs) (omega (arith, length-append (triple_kinds js) counts_kinds, keys_long)))
 
   abbrev test_kinds : List Kind
   test_kinds = Flag ∷ Flag ∷ []
@@ -254,13 +258,13 @@ module _ (ks js : List Kind) (k : ℕ) (long : length js ≡ k) (part : (row : L
     ),
   )
 
-  members_kinds : (q y : ℕ) (bs : List Agg) → TwoAt weighed q (kinds_of bs) → FiveAt weighed y (kinds_of bs) → AllMean plain_kind weighed (each_member_columns places q y bs) (fours (kinds_of bs))
+  members_kinds : (q y : ℕ) (bs : List Agg) → TwoAt weighed q (ends_of bs) → FiveAt weighed y (kinds_of bs) → AllMean plain_kind weighed (each_member_columns places q y bs) (fours (kinds_of bs))
   members_kinds q y [] two five = (case_kind weighed one_term zero_term Int (plans.surely places) surely_kind (λ more. refl) (λ more. refl), tt)
   members_kinds q y (agg.Sum d ∷ bs) two five = (
     with_sure_kind y (y + 3) five.0.0 five.0.3,
     (
       case_kind weighed (Column (y + 1)) zero_term Int (plans.belongs places) belongs_kind (column_kind weighed (y + 1) Int five.0.1) (λ more. refl),
-      (with_sure_kind (y + 2) (y + 4) five.0.2 five.0.4, ((λ more. refl), members_kinds (q + 2) (y + 5) bs two.1 five.1)),
+      (with_sure_kind (y + 2) (y + 4) five.0.2 five.0.4, ((λ more. refl), members_kinds q (y + 5) bs two five.1)),
     ),
   )
   members_kinds q y (agg.Min d ∷ bs) two five =
@@ -279,7 +283,7 @@ module _ (ks js : List Kind) (k : ℕ) (long : length js ≡ k) (part : (row : L
   columns_added : add_columns plain_kind columns row ≡ Some (row ++ added)
   columns_added =
       let each = each_member_columns places (3 * k + 3) (b + 3 * k + 2) aggs in
-      let two = two_more tested weight_kinds (3 * k + 3) es (two_more row test_kinds (3 * k + 3) es kept_at) in
+      let two = two_more tested weight_kinds (3 * k + 3) (ends_of aggs) (two_more row test_kinds (3 * k + 3) (ends_of aggs) kept_at) in
       then_adds plain_kind (plans.tests places) (plans.weights places ++ each) row tested (Some (row ++ added)) (adds plain_kind row (plans.tests places) test_kinds tests_kinds)
       (then_adds plain_kind (plans.weights places) each tested weighed (Some (row ++ added)) (adds plain_kind tested (plans.weights places) weight_kinds weights_kinds)
       (adds plain_kind weighed each (fours es) (members_kinds (3 * k + 3) (b + 3 * k + 2) aggs two weighed_values)
@@ -381,11 +385,11 @@ module _ (ks js : List Kind) (k : ℕ) (long : length js ≡ k) (part : (row : L
     grouped_long = omega (arith, length-append box_kinds (fours es), box_long, fours_long es, length-map aggs (kind_on ks))
 
     counts_at : Ends own own own grouped_kinds (3 * k) Int
-    counts_at = ends_more own own own box_kinds (fours es) (3 * k) Int (ends_past own own own (triple_kinds js) (twice es) (3 * k) Int keys_long)
+    counts_at = ends_more own own own box_kinds (fours es) (3 * k) Int (ends_past own own own (triple_kinds js) (twice (ends_of aggs)) (3 * k) Int keys_long)
 
     shown_picks : Picks whole (result_places k (there + 1) (length aggs)) (encoded_kinds (js ++ es))
     shown_picks =
-        let keys_there = all_ends_more own own own grouped_kinds (triple_kinds es) 0 js (all_ends_more own own own box_kinds (fours es) 0 js (all_ends_at own own own [] (counts_kinds ++ twice es) 0 js refl)) in
+        let keys_there = all_ends_more own own own grouped_kinds (triple_kinds es) 0 js (all_ends_more own own own box_kinds (fours es) 0 js (all_ends_at own own own [] (counts_kinds ++ twice (ends_of aggs)) 0 js refl)) in
         let first = pick_cells own own own whole 0 k js long keys_there in
         let second = pick_cells own own own whole (there + 1) (length aggs) es (length-map aggs (kind_on ks))
         (subst (λ q. EndsOfAll own own own (grouped_kinds ++ q) (there + 1) es) (append-nil (triple_kinds es)) (all_ends_at own own own grouped_kinds [] (there + 1) es grouped_long)) in
@@ -412,7 +416,7 @@ module _ (ks js : List Kind) (k : ℕ) (long : length js ≡ k) (part : (row : L
     pub boxes_typed : plan_kinds tk (first_grouping c k kept p) ≡ Some box_kinds
     boxes_typed =
         let cells = coded_cells own own own own own own c ks Int refl in
-        first_kinds tk ks js k kept (twice es) p long (kept_long aggs) (part (encoded_kinds ks) 0 cells)
+        first_kinds tk ks js k kept (twice (ends_of aggs)) p long (kept_long aggs) (part (encoded_kinds ks) 0 cells)
         (kept_kinds_are (encoded_kinds ks ++ four) (all_ends_more own own own (encoded_kinds ks) four 0 ks cells) aggs on) typed
 
     pub folds_there : (how : Folding) → plan_kinds tk (folds how c k aggs p) ≡ Some folded

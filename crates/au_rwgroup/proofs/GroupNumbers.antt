@@ -60,7 +60,7 @@ use Rattle.au_rwgroup.proofs.KeyReading.{KeyReading}
 -- what the first grouping keeps are ends
 kept_ends : (aggs : List Agg) → AllByRecursion IsEnd (flat_map kept_for aggs)
 kept_ends [] = tt
-kept_ends (agg.Sum d ∷ aggs) = (tt, (tt, kept_ends aggs))
+kept_ends (agg.Sum d ∷ aggs) = kept_ends aggs
 kept_ends (agg.Min d ∷ aggs) = (tt, (tt, kept_ends aggs))
 kept_ends (agg.Max d ∷ aggs) = (tt, (tt, kept_ends aggs))
 

@@ -1,14 +1,21 @@
 -- One aggregate more in the lists of columns and of aggregates of Group's plan.
-use Rattle.std.specs.Prelude.{◌≡◌, ◌<◌, ℕ, ◌+◌, List, [], ◌∷◌, ◌++◌, drop, flat_map, length}
-use Rattle.std.proofs.Common.{get_or, sym, ◌∙◌, append_assoc}
+use Rattle.std.specs.Prelude.{◌≡◌, ◌≤◌, ◌<◌, ℕ, ◌+◌, List, [], ◌∷◌, ◌++◌, drop, flat_map, length}
+use Rattle.std.proofs.Common.{arith, get_or, sym, ◌∙◌, append_assoc}
 use Rattle.std.proofs.lemmas.List.{drop_more}
 use Rattle.au_algebra.specs.declared.query.Agg.{Agg}
+use Rattle.au_algebra.specs.declared.query.Agg.TheVariants as agg
 use Rattle.au_plain.specs.declared.plan.PAgg.{PAgg}
 use Rattle.au_plain.specs.declared.plan.PAgg.TheVariants.{Sum}
 use Rattle.au_plain.specs.PTerms.{PTerm}
-use Rattle.au_rwgroup.specs.GroupPlan.{Places, kept_for, member_columns, each_member_columns, all_member_aggs, result_columns, all_result_columns}
+use Rattle.au_rwgroup.specs.GroupPlan.{Places, kept_for, behind_kept, member_columns, each_member_columns, all_member_aggs, result_columns, all_result_columns}
 use Rattle.au_rwgroup.specs.Folds.{fold_terms, all_fold_terms, fold_aggs}
 use Rattle.au_rwgroup.specs.MemberAggs.{member_aggs}
+
+-- what is kept for an aggregate is two columns at most
+pub kept_within : (q next : ℕ) (a : Agg) → next ≡ behind_kept q a → next ≤ q + 2
+kept_within q next (agg.Sum d) is = omega (arith, is)
+kept_within q next (agg.Min d) is = omega (arith, is)
+kept_within q next (agg.Max d) is = omega (arith, is)
 
 module _ (aggs : List Agg) (i : ℕ) (within : i < length aggs) (a : Agg) where
   abbrev here : Agg
@@ -18,10 +25,10 @@ module _ (aggs : List Agg) (i : ℕ) (within : i < length aggs) (a : Agg) where
   rest = drop (i + 1) aggs
 
   -- the columns of the member at hand, and then those of the others
-  pub members_step : (p : Places) (q y : ℕ) (old new : List PTerm) → new ≡ old ++ member_columns p q y here → new ++ each_member_columns p (q + 2) (y + 5) rest ≡ old ++ each_member_columns p q y (drop i aggs)
+  pub members_step : (p : Places) (q y : ℕ) (old new : List PTerm) → new ≡ old ++ member_columns p q y here → new ++ each_member_columns p (behind_kept q here) (y + 5) rest ≡ old ++ each_member_columns p q y (drop i aggs)
   members_step p q y old new is =
-      (λ j. is j ++ each_member_columns p (q + 2) (y + 5) rest)
-      ∙ append_assoc old (member_columns p q y here) (each_member_columns p (q + 2) (y + 5) rest)
+      (λ j. is j ++ each_member_columns p (behind_kept q here) (y + 5) rest)
+      ∙ append_assoc old (member_columns p q y here) (each_member_columns p (behind_kept q here) (y + 5) rest)
       ∙ (λ j. old ++ each_member_columns p q y (sym (drop_more aggs i a within) j))
 
   -- what a row gives to it, and then to the others

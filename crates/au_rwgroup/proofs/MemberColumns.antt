@@ -150,7 +150,7 @@ module _ (by : KeyReading) (more : List PAgg) (folded : List Agg) (rows : Bounde
   -- the kept columns by their places
   abbrev pub KeptAt : List Value → ℕ → List Value → List Agg → Type 0
   KeptAt row q key [] = Unit {0}
-  KeptAt row q key (agg.Sum d ∷ aggs) = (At row q (keep key (Min (3 * d))) × At row (q + 1) (keep key (Min (3 * d)))) × KeptAt row (q + 2) key aggs
+  KeptAt row q key (agg.Sum d ∷ aggs) = KeptAt row q key aggs
   KeptAt row q key (agg.Min d ∷ aggs) = (At row q (keep key (Max (3 * d + 2))) × At row (q + 1) (keep key (Max (3 * d + 1)))) × KeptAt row (q + 2) key aggs
   KeptAt row q key (agg.Max d ∷ aggs) = (At row q (keep key (Min (3 * d))) × At row (q + 1) (keep key (Min (3 * d + 1)))) × KeptAt row (q + 2) key aggs
 
@@ -162,13 +162,7 @@ module _ (by : KeyReading) (more : List PAgg) (folded : List Agg) (rows : Bounde
 
   pub kept_at : (pre added : List Value) (q : ℕ) (key : List Value) (aggs : List Agg) → length pre ≡ q → KeptAt ((pre ++ map (keep key) (flat_map kept_for aggs)) ++ added) q key aggs
   kept_at pre added q key [] e = tt
-  kept_at pre added q key (agg.Sum d ∷ aggs) e =
-      let x = keep key (Min (3 * d)) in
-      let y = keep key (Min (3 * d)) in
-      let rest = map (keep key) (flat_map kept_for aggs) in
-      let t = two_at pre rest q x y e in
-      let row = pre ++ (x ∷ y ∷ rest) in
-      ((at_more row added q x t.0, at_more row added (q + 1) y t.1), kept_step pre rest added q key aggs x y (kept_at (pre ++ (x ∷ y ∷ [])) added (q + 2) key aggs (omega (arith, e, length-append pre (x ∷ y ∷ [])))))
+  kept_at pre added q key (agg.Sum d ∷ aggs) e = kept_at pre added q key aggs e
   kept_at pre added q key (agg.Min d ∷ aggs) e =
       let x = keep key (Max (3 * d + 2)) in
       let y = keep key (Max (3 * d + 1)) in
@@ -215,7 +209,7 @@ module _ (by : KeyReading) (more : List PAgg) (folded : List Agg) (rows : Bounde
   -- kept columns stay while columns are added
   pub kept_more : (row more : List Value) (q : ℕ) (key : List Value) (aggs : List Agg) → KeptAt row q key aggs → KeptAt (row ++ more) q key aggs
   kept_more row more q key [] h = tt
-  kept_more row more q key (agg.Sum d ∷ aggs) h = ((at_more row more q _ h.0.0, at_more row more (q + 1) _ h.0.1), kept_more row more (q + 2) key aggs h.1)
+  kept_more row more q key (agg.Sum d ∷ aggs) h = kept_more row more q key aggs h
   kept_more row more q key (agg.Min d ∷ aggs) h = ((at_more row more q _ h.0.0, at_more row more (q + 1) _ h.0.1), kept_more row more (q + 2) key aggs h.1)
   kept_more row more q key (agg.Max d ∷ aggs) h = ((at_more row more q _ h.0.0, at_more row more (q + 1) _ h.0.1), kept_more row more (q + 2) key aggs h.1)
 
@@ -385,7 +379,7 @@ module _ (by : KeyReading) (more : List PAgg) (folded : List Agg) (rows : Bounde
                 ∙ ap Some (summed_if (belongs_to s.0) (guess_term d) (fold_belongs s) s.1.rows (all_from Alike (λ r. belongs_to s.0 r ≡ fold_belongs s) s.1.rows belongs_is all_alike))),
             (
               (λ more. ap Some (with_sure_has (y + 2) (y + 4) (high_term d) (sure_high_term d) (upper_term g d) five.0.2 five.0.4 (λ r. upper_is g d r) more)),
-              ((λ more. refl), members_mean (q + 2) (y + 5) aggs kept.1 five.1),
+              ((λ more. refl), members_mean q (y + 5) aggs kept five.1),
             ),
           ),
         )

@@ -132,7 +132,7 @@ module _ (by : KeyReading) (aggs : List Agg) (ok_aggs : AllByRecursion (IsOn (le
       reads_safe (Case (plans.belongs places) (Column (y + 1)) zero_term) _ (tt, (tt, refl)),
       (
         weighs_safe (plans.with_sure places (y + 2) (y + 4)) (fold_3 (agg.Sum d) s) (tt, ((tt, tt), tt)) f.0.1.1,
-        (reads_safe zero_term (value.Int (pos 0)) refl, members_safe s (q + 2) (y + 5) bs f.1),
+        (reads_safe zero_term (value.Int (pos 0)) refl, members_safe s q (y + 5) bs f.1),
       ),
     ),
   )

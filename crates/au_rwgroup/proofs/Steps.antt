@@ -4,18 +4,17 @@ use Rattle.std.proofs.Common.{arith, sym, get_or, ◌∙◌, ap, append_assoc}
 use Rattle.std.proofs.lemmas.List.{drop_more}
 use Rattle.au_algebra.specs.declared.query.Agg.{Agg}
 use Rattle.au_algebra.specs.declared.query.Agg.TheVariants as agg
-use Rattle.au_plain.specs.declared.expr.Comparison2.TheVariants.{Equal}
 use Rattle.au_plain.specs.declared.plan.PAgg.{PAgg}
 use Rattle.au_plain.specs.declared.plan.PAgg.TheVariants.{Sum}
-use Rattle.au_plain.specs.PTerms.{PTerm, Compare, And}
-use Rattle.au_rwexpr.specs.Flatten.{lo, hi}
-use Rattle.au_rwgroup.specs.Groups.{all_sure}
+use Rattle.au_plain.specs.PTerms.{PTerm, And}
+use Rattle.au_rwgroup.specs.Groups.{sure, all_sure}
 use Rattle.au_rwgroup.specs.Totals.{agg_place, sum_terms, total_columns, total_sums}
 
 -- the test of the first range, and then of the others
-pub sure_step : (i a n : ℕ) → a ≡ i + 3 → 0 < n → And (Compare Equal (lo i) (hi i)) (all_sure a (n - 1)) ≡ all_sure i n
+pub sure_step : (i a n : ℕ) → a ≡ i + 3 → 1 < n → And (sure i) (all_sure a (n - 1)) ≡ all_sure i n
 sure_step i a zero next h = let never : ⊥ = omega (arith, h) in absurd never
-sure_step i a (suc n) next h = let e : suc n - 1 ≡ n = omega arith in λ k. And (Compare Equal (lo i) (hi i)) (all_sure (next k) (e k))
+sure_step i a (suc zero) next h = let never : ⊥ = omega (arith, h) in absurd never
+sure_step i a (suc (suc n)) next h = let e : suc (suc n) - 1 ≡ suc n = omega arith in λ k. And (sure i) (all_sure (next k) (e k))
 
 -- one value, and then those that are left
 pub repeat_step : {A : Type 0} (xs : List A) (x : A) (n : ℕ) → 0 < n → (xs ++ x ∷ []) ++ replicate (n - 1) x ≡ xs ++ replicate n x

@@ -4,7 +4,8 @@ use Rattle.au_algebra.specs.declared.query.Agg.{Agg}
 use Rattle.au_algebra.specs.declared.query.Agg.TheVariants as agg
 use Rattle.au_plain.specs.declared.plan.PAgg.{PAgg}
 use Rattle.au_plain.specs.declared.plan.PAgg.TheVariants.{Sum}
-use Rattle.au_plain.specs.PTerms.{PTerm, Multiply}
+use Rattle.au_plain.specs.declared.expr.Comparison2.TheVariants.{Less}
+use Rattle.au_plain.specs.PTerms.{PTerm, Compare, Case, Multiply}
 use Rattle.au_plain.specs.Plans.{PlanTree, Group, Keep, extend_all}
 use Rattle.au_rwexpr.specs.Flatten.{lo, sg, hi}
 use Rattle.au_rwexpr.specs.Counts.{zero_term, positive}
@@ -12,7 +13,14 @@ use Rattle.au_rwexpr.specs.Cells.{cell_places, run}
 use Rattle.au_rwgroup.specs.declared.folding.Folding.{Folding}
 use Rattle.au_rwgroup.specs.declared.folding.Folding.TheVariants as folding
 use Rattle.au_rwgroup.specs.MemberAggs.{member_aggs}
-use Rattle.au_rwgroup.specs.Totals.{signed}
+
+-- a count times a number that is below 0, and 0 for any other
+abbrev pub times_below : PTerm → PTerm → PTerm
+times_below n x = Case (Compare Less x zero_term) (Multiply n x) zero_term
+
+-- a count times a number that is not below 0, and 0 for any other
+abbrev pub times_above : PTerm → PTerm → PTerm
+times_above n x = Case (Compare Less x zero_term) zero_term (Multiply n x)
 
 -- Five columns for an aggregate over a row whose triple stands at t. Of a sum: what the row adds to the least, the
 -- guess and the greatest as a member that is not certain, and then what it adds to the least and to the greatest besides
@@ -23,11 +31,11 @@ use Rattle.au_rwgroup.specs.Totals.{signed}
 abbrev pub fold_terms : ℕ → Agg → List PTerm
 fold_terms t (agg.Sum c) =
     let x = 3 * c in
-    signed (hi t) zero_term (lo x)
+    times_below (hi t) (lo x)
     ∷ Multiply (sg t) (sg x)
-    ∷ signed zero_term (hi t) (hi x)
-    ∷ signed zero_term (lo t) (lo x)
-    ∷ signed (lo t) zero_term (hi x)
+    ∷ times_above (hi t) (hi x)
+    ∷ times_above (lo t) (lo x)
+    ∷ times_below (lo t) (hi x)
     ∷ []
 fold_terms t (agg.Min c) = let x = 3 * c in lo x ∷ sg x ∷ hi x ∷ hi x ∷ zero_term ∷ []
 fold_terms t (agg.Max c) = let x = 3 * c in hi x ∷ sg x ∷ lo x ∷ lo x ∷ zero_term ∷ []

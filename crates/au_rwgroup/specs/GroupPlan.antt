@@ -16,11 +16,17 @@ use Rattle.au_rwgroup.specs.Groups.{all_sure, first_grouping}
 use Rattle.au_rwgroup.specs.MemberAggs.{member_aggs}
 
 -- what the first grouping keeps for each aggregate: for Min no belonging row has a greater hi or guess, for Max no
--- lesser lo or guess
+-- lesser lo or guess; a sum needs nothing
 abbrev pub kept_for : Agg → List PAgg
-kept_for (agg.Sum c) = Min (3 * c) ∷ Min (3 * c) ∷ []
+kept_for (agg.Sum c) = []
 kept_for (agg.Min c) = Max (3 * c + 2) ∷ Max (3 * c + 1) ∷ []
 kept_for (agg.Max c) = Min (3 * c) ∷ Min (3 * c + 1) ∷ []
+
+-- the place behind what is kept for an aggregate from q on
+abbrev pub behind_kept : ℕ → Agg → ℕ
+behind_kept q (agg.Sum c) = q
+behind_kept q (agg.Min c) = q + 2
+behind_kept q (agg.Max c) = q + 2
 
 -- how many keys there are, and the places in a joined row: of the fold, and behind it of the tests, which are added
 pub record Places : Type 0 where
@@ -78,7 +84,7 @@ member_columns p q y (agg.Max c) = end_columns p q y
 -- the columns of each, and whether the members are surely there
 abbrev pub each_member_columns : Places → ℕ → ℕ → List Agg → List PTerm
 each_member_columns p q y [] = Case (surely p) one_term zero_term ∷ []
-each_member_columns p q y (a ∷ aggs) = member_columns p q y a ++ each_member_columns p (q + 2) (y + 5) aggs
+each_member_columns p q y (a ∷ aggs) = member_columns p q y a ++ each_member_columns p (behind_kept q a) (y + 5) aggs
 
 -- what is added to a joined row: four places behind the fold stand the columns of the aggregates
 abbrev pub all_member_columns : Places → ℕ → List Agg → List PTerm

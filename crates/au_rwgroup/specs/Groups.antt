@@ -11,10 +11,15 @@ use Rattle.au_rwexpr.specs.Counts.{zero_term, one_term, positive}
 use Rattle.au_rwexpr.specs.Cells.{cell_places, run}
 use Rattle.au_combine.specs.Boxes.{boxes}
 
+-- whether the range at a place is certain
+abbrev pub sure : ℕ → PTerm
+sure i = Compare Equal (lo i) (hi i)
+
 -- whether so many ranges from a place on are certain
 abbrev pub all_sure : ℕ → ℕ → PTerm
 all_sure i zero = Literal (Flag true)
-all_sure i (suc k) = And (Compare Equal (lo i) (hi i)) (all_sure (i + 3) k)
+all_sure i (suc zero) = sure i
+all_sure i (suc (suc k)) = And (sure i) (all_sure (i + 3) (suc k))
 
 -- what a row adds to the triple of its group
 abbrev pub group_columns : ℕ → ℕ → List PTerm

@@ -3,7 +3,8 @@ ghost use Rattle.std.specs.Prelude.{◌≡◌, IfOk};
 ghost use Rattle.au_plain.specs.PTerms.{pterm};
 ghost use Rattle.au_plain.specs.PTerms as term;
 ghost use Rattle.au_rwexpr.specs.Counts.{one_term, positive as is_positive, zero_term};
-ghost use Rattle.au_rwgroup.specs.Groups.{all_sure as are_sure};
+ghost use Rattle.au_rwgroup.specs.Folds.{times_above as above_term, times_below as below_term};
+ghost use Rattle.au_rwgroup.specs.Groups.{all_sure as are_sure, sure as sure_term};
 ghost use Rattle.au_rwgroup.specs.Totals.{signed as signed_term};
 
 use au_plain::{Comparison2, PExpr, and, case, compare, multiply};
@@ -43,9 +44,19 @@ pub(crate) fn all_sure(
     if columns == 0 {
         return Ok(PExpr::Literal(Value::Flag(true)));
     }
+    if columns == 1 {
+        return is_sure(alloc, first);
+    }
     let rest = all_sure(alloc, behind(first)?, columns - 1)?;
-    let test = compare(alloc, Comparison2::Equal, first.lo(), first.hi())?;
+    let test = is_sure(alloc, first)?;
     and(alloc, test, rest)
+}
+
+// Whether a range is certain.
+fn is_sure(alloc: Global, cell: RangeColumns) -> Result<PExpr, NoMemory>
+    ensures { IfOk result (λ e. pterm e ≡ sure_term cell.first) }
+{
+    compare(alloc, Comparison2::Equal, cell.lo(), cell.hi())
 }
 
 /// A column times the first count where it is below 0, and times the second where not.
@@ -62,4 +73,24 @@ pub(crate) fn signed(
     let test = compare(alloc, Comparison2::Less, PExpr::Column(column), zero());
     let (test, (less, more)) = both(test, both_terms)?;
     case(alloc, test, less, more)
+}
+
+/// A column times a count where it is below 0, and 0 where not.
+pub(crate) fn times_below(alloc: Global, count: PExpr, column: usize) -> Result<PExpr, NoMemory>
+    ensures { IfOk result (λ e. pterm e ≡ below_term (pterm count) (term.Column column)) }
+{
+    let product = multiply(alloc, count, PExpr::Column(column));
+    let test = compare(alloc, Comparison2::Less, PExpr::Column(column), zero());
+    let (test, product) = both(test, product)?;
+    case(alloc, test, product, zero())
+}
+
+/// A column times a count where it is not below 0, and 0 where it is.
+pub(crate) fn times_above(alloc: Global, count: PExpr, column: usize) -> Result<PExpr, NoMemory>
+    ensures { IfOk result (λ e. pterm e ≡ above_term (pterm count) (term.Column column)) }
+{
+    let product = multiply(alloc, count, PExpr::Column(column));
+    let test = compare(alloc, Comparison2::Less, PExpr::Column(column), zero());
+    let (test, product) = both(test, product)?;
+    case(alloc, test, zero(), product)
 }

@@ -8,7 +8,7 @@ ghost use Rattle.au_rwexpr.specs.Counts.{zero_term};
 ghost use Rattle.au_rwgroup.specs.declared.folding.Folding.TheVariants as folding;
 ghost use Rattle.au_rwgroup.specs.Folds.{all_fold_terms, fold_aggs, fold_columns as terms_of, fold_places as places_of, fold_terms, folds as folded};
 
-use crate::count_terms::{positive, signed, zero};
+use crate::count_terms::{positive, times_above, times_below, zero};
 use crate::folding::Folding;
 use crate::group_aggregates::fold_aggregates;
 use au_algebra::Agg;
@@ -194,11 +194,11 @@ fn push_sum_terms(
 {
     let cell = RangeColumns::of(column)?;
     let (low, high) = (cell.first, cell.first + 2);
-    columns.push(signed(alloc, triple.hi(), zero(), low)?)?;
+    columns.push(times_below(alloc, triple.hi(), low)?)?;
     columns.push(multiply(alloc, triple.sg(), cell.sg())?)?;
-    columns.push(signed(alloc, zero(), triple.hi(), high)?)?;
-    columns.push(signed(alloc, zero(), triple.lo(), low)?)?;
-    columns.push(signed(alloc, triple.lo(), zero(), high)?)?;
+    columns.push(times_above(alloc, triple.hi(), high)?)?;
+    columns.push(times_above(alloc, triple.lo(), low)?)?;
+    columns.push(times_below(alloc, triple.lo(), high)?)?;
     Ok(())
 }
 

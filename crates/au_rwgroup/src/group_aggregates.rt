@@ -10,7 +10,7 @@ use au_rwexpr::RangeColumns;
 use au_value::NoMemory;
 use std::alloc::Global;
 
-/// What the first grouping keeps for the aggregates, two columns for each.
+/// What the first grouping keeps for the aggregates, two columns for each MIN and MAX.
 ///
 /// `NoMemory` comes also where a row cannot have so many columns.
 pub(crate) fn kept_aggregates(alloc: Global, aggs: &[Agg]) -> Result<Vec<PAgg>, NoMemory>
@@ -27,10 +27,7 @@ fn push_kept(kept: &mut Vec<PAgg>, agg: Agg) -> Result<(), NoMemory>
     ensures { OnOk result (kept.new.items ≡ kept.old.items ++ kept_for agg) }
 {
     match agg {
-        Agg::Sum(column) => {
-            let cell = RangeColumns::of(column)?;
-            push_two(kept, PAgg::Min(cell.first), PAgg::Min(cell.first))
-        }
+        Agg::Sum(_) => Ok(()),
         Agg::Min(column) => {
             let cell = RangeColumns::of(column)?;
             push_two(kept, PAgg::Max(cell.first + 2), PAgg::Max(cell.first + 1))

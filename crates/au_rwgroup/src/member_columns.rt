@@ -15,7 +15,7 @@ use au_value::{NoMemory, both};
 use std::alloc::Global;
 
 /// The columns that are added to each pair of a box and a fold: the tests, four for each aggregate, and whether the rows
-/// are surely there. What the first grouping kept for the aggregates stands from a place on, two columns for each.
+/// are surely there. What the first grouping kept for the aggregates stands from a place on.
 ///
 /// `NoMemory` comes also where a row cannot have so many columns.
 pub(crate) fn all_member_columns(
@@ -50,11 +50,22 @@ fn push_each(
     let mut value = joined.values();
     for agg in aggs {
         push_member(alloc, joined, kept, value, *agg, columns)?;
-        kept += 2;
+        kept = behind_kept(kept, *agg);
         value += 5;
     }
     columns.push(case(alloc, joined.surely(), one(), zero())?)?;
     Ok(())
+}
+
+// The place behind what is kept for an aggregate from a place on.
+fn behind_kept(kept: usize, agg: Agg) -> usize
+    requires { kept + 2 < 2 ^ 64 }
+    ensures { result ≡ plan.behind_kept kept agg }
+{
+    match agg {
+        Agg::Sum(_) => kept,
+        Agg::Min(_) | Agg::Max(_) => kept + 2,
+    }
 }
 
 // Adds the columns of one aggregate.

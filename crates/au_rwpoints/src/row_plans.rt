@@ -5,7 +5,7 @@ ghost use Rattle.au_plain.specs.PTerms as term;
 ghost use Rattle.au_plain.specs.Plans.{plan_tree};
 ghost use Rattle.au_plain.specs.Plans as tree;
 ghost use Rattle.au_rwexpr.specs.Counts.{one_term, zero_term};
-ghost use Rattle.au_rwgroup.specs.Groups.{all_sure as are_sure};
+ghost use Rattle.au_rwgroup.specs.Groups.{all_sure as are_sure, sure as sure_term};
 ghost use Rattle.au_rwpoints.specs.RowPlans as plan;
 
 use crate::row_places::{guess_row_places, key_places, possible_places};
@@ -93,9 +93,19 @@ fn all_sure(alloc: Global, first: RangeColumns, columns: usize) -> Result<PExpr,
     if columns == 0 {
         return Ok(PExpr::Literal(Value::Flag(true)));
     }
+    if columns == 1 {
+        return is_sure(alloc, first);
+    }
     let rest = all_sure(alloc, behind(first)?, columns - 1)?;
-    let test = compare(alloc, Comparison2::Equal, first.lo(), first.hi())?;
+    let test = is_sure(alloc, first)?;
     and(alloc, test, rest)
+}
+
+// Whether a range is certain.
+fn is_sure(alloc: Global, cell: RangeColumns) -> Result<PExpr, NoMemory>
+    ensures { IfOk result (λ e. pterm e ≡ sure_term cell.first) }
+{
+    compare(alloc, Comparison2::Equal, cell.lo(), cell.hi())
 }
 
 fn one() -> PExpr

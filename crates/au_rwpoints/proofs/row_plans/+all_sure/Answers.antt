@@ -1,8 +1,7 @@
 -- The first range's test, and then the others'.
 use Rattle.std.proofs.Common.{◌≡◌, ◌∙◌, ◌-◌, arith}
 use Rattle.std.proofs.lemmas.Result.{IfOk-weaker}
-use Rattle.au_plain.specs.declared.expr.Comparison2.TheVariants.{Equal}
-use Rattle.au_plain.specs.PTerms.{And, Compare, pterm}
+use Rattle.au_plain.specs.PTerms.{And, pterm}
 use Rattle.au_rwgroup.specs.Groups as tests
 use Rattle.au_rwgroup.proofs.Steps.{sure_step}
 use Rattle.au_rwpoints.proofs.row_plans.+all_sure.Goals as goal
@@ -11,7 +10,7 @@ pub returns : goal.returns
 returns depth c =
     let i = c.args.first.first in
     let a = c.in_ok-behind.field-0.first in
-    let step = sure_step i a c.args.columns c.in_ok-behind.ensures (omega (arith, c.if-columns-eq0.false)) in
+    let step = sure_step i a c.args.columns c.in_ok-behind.ensures (omega (arith, c.if-columns-eq0.false, c.if-columns-eq1.false)) in
     IfOk-weaker c.and.result _ (λ e. pterm e ≡ tests.all_sure i c.args.columns)
     (λ e is. is ∙ (λ k. And (c.in_ok-test.ensures k) (c.in_ok-rest.ensures k))
-    ∙ (λ k. And (Compare Equal (c.lo.ensures k) (c.hi.ensures k)) (tests.all_sure a (c.args.columns - 1))) ∙ step) c.and.ensures
+    ∙ step) c.and.ensures
