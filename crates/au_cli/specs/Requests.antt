@@ -19,6 +19,7 @@ use Rattle.au_engine.specs.Reading.{refused_text, statement_of}
 use Rattle.au_engine.specs.Answers.{IsDefect, Named, RowsHold, answer_fits, answer_kinds, answer_names, answer_rows, asked_fits, asked_rows, guess_answer, guess_answer_fits, statement_defects}
 use Rattle.au_engine.specs.Certainty.{UaHolds, ua_answer_fits, ua_rows}
 use Rattle.au_engine.specs.Exchange.{IsPlanText}
+use Rattle.au_engine.specs.declared.options.Rules.{Rules}
 use Rattle.au_words.specs.Words.{Request}
 use Rattle.au_words.specs.declared.answer_form.Form.{Form}
 use Rattle.au_words.specs.declared.answer_form.Form.TheVariants as form
@@ -105,11 +106,15 @@ abbrev pub bounded_rows_text : Form → List (List ℕ) → List Kind → Bounde
 bounded_rows_text form.Csv names kinds rows = csv_text names kinds rows
 bounded_rows_text form.Table names kinds rows = table_text names kinds rows
 
--- A text is what is printed: the bounded answer's, with `answer` from compressed products where that is asked for, or that
--- of the ordinary answer in the guess world, or that of its rows with how often each is certain, or that of a plan which
--- gives the bounded answer's rows over encoded tables.
+-- the rules by which `answer` forms products, groups and distinct rows
+abbrev pub rules_asked : Request → Rules
+rules_asked r = record { compress = r.compress; points = r.points }
+
+-- A text is what is printed: the bounded answer's, with `answer` by the rules that are asked for, or that of the ordinary
+-- answer in the guess world, or that of its rows with how often each is certain, or that of a plan which gives the bounded
+-- answer's rows over encoded tables.
 abbrev pub IsTextBy : Command → Request → List Named → QueryTree → List ℕ → Type 0
-IsTextBy Answer r ts s text = text ≡ bounded_rows_text r.form (answer_names ts s) (answer_kinds ts s) (asked_rows r.compress r.combine ts s)
+IsTextBy Answer r ts s text = text ≡ bounded_rows_text r.form (answer_names ts s) (answer_kinds ts s) (asked_rows (rules_asked r) r.combine ts s)
 IsTextBy Direct r ts s text = text ≡ bounded_rows_text r.form (answer_names ts s) (answer_kinds ts s) (answer_rows r.combine ts s)
 IsTextBy Guess r ts s text = text ≡ world_text (answer_names ts s) (answer_kinds ts s) (guess_answer ts s)
 IsTextBy Ua r ts s text = text ≡ ua_text (answer_names ts s) (answer_kinds ts s) (ua_rows ts s)
@@ -118,7 +123,7 @@ IsTextBy Rewrite r ts s text = IsPlanText ts s text
 -- whether each number of the answer lies in 128 bits, the printed counts among them: with `ua`, each number of the ordinary
 -- answer in the guess world. A plan is written whatever its numbers are.
 abbrev pub fit_by : Command → Request → List Named → QueryTree → Bool
-fit_by Answer r ts s = asked_fits r.compress r.combine ts s
+fit_by Answer r ts s = asked_fits (rules_asked r) r.combine ts s
 fit_by Direct r ts s = answer_fits r.combine ts s
 fit_by Guess r ts s = guess_answer_fits ts s && counts_fit (world_rows (guess_answer ts s))
 fit_by Ua r ts s = ua_answer_fits ts s
@@ -130,7 +135,7 @@ numbers_fit r ts s = fit_by r.command r ts s
 -- The printed rows hold in every possible world, and their guesses are the answer in the guess world. With `ua` there are
 -- in every world as many copies of each row as are certain, and in the guess world as many as are guessed.
 abbrev pub HoldsBy : Command → Request → List Named → QueryTree → Type 0
-HoldsBy Answer r ts s = RowsHold ts s (asked_rows r.compress r.combine ts s)
+HoldsBy Answer r ts s = RowsHold ts s (asked_rows (rules_asked r) r.combine ts s)
 HoldsBy Direct r ts s = RowsHold ts s (answer_rows r.combine ts s)
 HoldsBy Guess r ts s = ⊤
 HoldsBy Ua r ts s = UaHolds ts s

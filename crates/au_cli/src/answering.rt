@@ -7,7 +7,7 @@ ghost use Rattle.au_print.specs.GuessTexts.{counts_fit, world_rows, world_text};
 ghost use Rattle.au_ua.specs.NotPositive.{not_positive};
 ghost use Rattle.au_ua.specs.UaTexts.{ua_text as ua_text_of};
 ghost use Rattle.au_engine.specs.Answers.{AnswerCause, RowsHold, answer_fits, answer_kinds, answer_names, answer_rows, asked_fits, asked_rows, guess_answer as guess_answer_of, guess_answer_fits, statement_defects};
-ghost use Rattle.au_engine.specs.Compressing.{IsCompression};
+ghost use Rattle.au_engine.specs.Rules.{IsCompression, rules_of};
 ghost use Rattle.au_engine.specs.Certainty.{UaHolds, ua_answer_fits, ua_rows};
 ghost use Rattle.au_cli.specs.Requests.{FitsBy, HoldsBy, IsTextBy, fit_by, refused_place, bounded_rows_text};
 ghost use Rattle.au_words.specs.CommandLine.{seen_request};
@@ -55,6 +55,7 @@ pub(crate) fn answer_text<R: Threads + Sync, G: Gate + Sync>(
                 combine: request.combine,
                 workers: request.workers,
                 compress: request.compress,
+                points: request.points,
             };
             planned_text(rt, alloc, statement, tables, options, request.form, gate)
         }
@@ -79,9 +80,9 @@ fn planned_text<R: Threads + Sync, G: Gate + Sync>(
     requires workers { (1 ≤ options.workers) × (options.workers ≤ greatest_workers) }
     requires compression { IsCompression options.compress }
     ensures typed { OnOk result (statement_defects tables.now (statement_tree statement.now) ≡ []) }
-    ensures text { IfOk result (λ t. t.items ≡ bounded_rows_text form (answer_names tables.now (statement_tree statement.now)) (answer_kinds tables.now (statement_tree statement.now)) (asked_rows options.compress options.combine tables.now (statement_tree statement.now))) }
-    ensures holds { OnOk result (RowsHold tables.now (statement_tree statement.now) (asked_rows options.compress options.combine tables.now (statement_tree statement.now))) }
-    ensures refused { IfErr result (AnswerCause (statement_defects tables.now (statement_tree statement.now)) (asked_fits options.compress options.combine tables.now (statement_tree statement.now))) }
+    ensures text { IfOk result (λ t. t.items ≡ bounded_rows_text form (answer_names tables.now (statement_tree statement.now)) (answer_kinds tables.now (statement_tree statement.now)) (asked_rows (rules_of options) options.combine tables.now (statement_tree statement.now))) }
+    ensures holds { OnOk result (RowsHold tables.now (statement_tree statement.now) (asked_rows (rules_of options) options.combine tables.now (statement_tree statement.now))) }
+    ensures refused { IfErr result (AnswerCause (statement_defects tables.now (statement_tree statement.now)) (asked_fits (rules_of options) options.combine tables.now (statement_tree statement.now))) }
 {
     let workers = options.workers;
     match answer(rt, alloc, statement, tables, options, gate) {

@@ -115,6 +115,7 @@ fn answered<R: Threads + Sync, G: Gate + Sync>(
         combine: false,
         workers,
         compress: None,
+        points: false,
     };
     match answer(rt, alloc, statement, tables.as_slice(), options, gate) {
         Ok(answer) => {

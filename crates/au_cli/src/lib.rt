@@ -23,7 +23,10 @@ mod top;
 mod two_files;
 
 pub use au_engine::{LimitFault, QueryFault};
+pub use au_io::{RealShelf, RealSink, Sink};
+pub use au_par::NoGate;
 pub use au_sqltext::PlanFault;
+pub use au_value::Word;
 pub use au_words::UsageFault;
 pub use line::fault_line;
 pub use outcome::Outcome;

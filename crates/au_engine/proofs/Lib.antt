@@ -10,6 +10,7 @@ mod CountedFound
 mod CountedGuesses
 mod CountedRuns
 pub mod CountedSteps
+mod GroupPlans
 mod HeldRows
 mod Materialized
 mod Operators
@@ -17,6 +18,7 @@ mod OrderedRows
 mod OtherTables
 mod PairPlans
 pub mod PairTables
+mod PlainRules
 mod PlainRuns
 mod ReadRows
 mod PlanRuns

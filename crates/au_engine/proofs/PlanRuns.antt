@@ -1,5 +1,5 @@
 -- What is shown of a tree, by the plan of its relation: what its run gives is a relation of one normal form.
-use Rattle.std.specs.Prelude.{◌≡◌, ℕ, Bool, false, true, List, [], ◌++◌, map, Option, Some, ℤ}
+use Rattle.std.specs.Prelude.{◌≡◌, ℕ, Bool, false, true, List, [], ◌++◌, map, Some, ℤ}
 use Rattle.std.proofs.Common.{refl, sym, ◌∙◌, ap, subst, append-nil}
 use Rattle.std.proofs.lemmas.Bool.{false_from_ne_true}
 use Rattle.au_value.specs.declared.kinds.Kind.{Kind}
@@ -16,7 +16,8 @@ use Rattle.au_plain.specs.Plans.{PlanTree}
 use Rattle.au_encode.specs.Encode.{encode}
 use Rattle.au_encode.proofs.Decoded.{rows_back}
 use Rattle.au_engine.specs.Answers.{Named, blocks_of, tree_asked, tree_asked_fits}
-use Rattle.au_engine.specs.Compressing.{tree_numbers, tree_rows}
+use Rattle.au_engine.specs.Rules.{tree_numbers, tree_rows}
+use Rattle.au_engine.specs.declared.options.Rules.{Rules}
 use Rattle.au_engine.specs.Stages.{Adds, AddsTree, CanRunPlan, Decodes, LeavesRange, Shows, own_numbers, shown_rows}
 use Rattle.au_engine.proofs.AskedAnswers.{asked_is, parts_fit}
 use Rattle.au_engine.proofs.Materialized.{combined_adds}
@@ -42,17 +43,17 @@ answer_holds true rows ns more f =
     fit_both ns (triple_numbers (combine rows)) p.0 (fit_parts (triple_numbers (combine rows)) more p.1).0
 answer_holds false rows ns more f = fit_both ns [] (fit_parts ns (triple_numbers rows ++ more) f).0 refl
 
-module _ (how : Option ℕ) (combined : Bool) (ts : List Named) (q : Tree) (typed : IsTyped (map column_kinds (blocks_of ts)) q) where
+module _ (rules : Rules) (combined : Bool) (ts : List Named) (q : Tree) (typed : IsTyped (map column_kinds (blocks_of ts)) q) where
   abbrev tables : List Bounded
   tables = map bounded_table (blocks_of ts)
 
   abbrev rows : Bounded
-  rows = tree_rows how q tables
+  rows = tree_rows rules q tables
 
   abbrev ns : List ℤ
-  ns = tree_numbers how q tables
+  ns = tree_numbers rules q tables
 
-  module _ (held : List Rows) (of p : PlanTree) (c d : ℕ) (wide : d ≡ c) (shows : Shows combined c of p) (part : AddsTree how (blocks_of ts) q [] held of c) where
+  module _ (held : List Rows) (of p : PlanTree) (c d : ℕ) (wide : d ≡ c) (shows : Shows combined c of p) (part : AddsTree rules (blocks_of ts) q [] held of c) where
     shown_adds : (ks : List Kind) → kinds_of (map column_kinds (blocks_of ts)) q ≡ Some ks → Adds [] held p d ks (shown_rows combined rows) (ns ++ own_numbers combined rows)
     shown_adds ks e = shown_by combined held of p c d ks rows ns wide shows (part ks e)
 
@@ -62,7 +63,7 @@ module _ (how : Option ℕ) (combined : Bool) (ts : List Named) (q : Tree) (type
         (k.0, (shown_rows combined rows, (ns ++ own_numbers combined rows, shown_adds k.0 k.1)))
 
     -- what the plan's run gives is of the answer's normal form
-    pub shown_decodes : (rel : Bounded) → Decodes held p d rel → normal rel ≡ tree_asked how combined ts q
+    pub shown_decodes : (rel : Bounded) → Decodes held p d rel → normal rel ≡ tree_asked rules combined ts q
     shown_decodes rel decodes =
         let k = typed_kinds (map column_kinds (blocks_of ts)) q typed in
         let shown = shown_rows combined rows in
@@ -71,18 +72,18 @@ module _ (how : Option ℕ) (combined : Bool) (ts : List Named) (q : Tree) (type
         let relation = adds_relation held p d k.0 shown own a decodes.0 in
         let found = decodes.1 k.0 shown own a in
         ap normal found.1.0
-        ∙ (normal_same d found.0 (encode shown) found.1.1 ∙ (ap normal (rows_back d shown (have_columns k.0 d shown a.columns relation)) ∙ sym (asked_is how combined ts q)))
+        ∙ (normal_same d found.0 (encode shown) found.1.1 ∙ (ap normal (rows_back d shown (have_columns k.0 d shown a.columns relation)) ∙ sym (asked_is rules combined ts q)))
 
-    pub shown_leaves : LeavesRange held p d → tree_asked_fits how combined ts q ≡ false
+    pub shown_leaves : LeavesRange held p d → tree_asked_fits rules combined ts q ≡ false
     shown_leaves leaves =
         let k = typed_kinds (map column_kinds (blocks_of ts)) q typed in
-        false_from_ne_true (tree_asked_fits how combined ts q)
+        false_from_ne_true (tree_asked_fits rules combined ts q)
         (λ f. leaves k.0 (shown_rows combined rows) (ns ++ own_numbers combined rows) (shown_adds k.0 k.1)
-        (answer_holds combined rows ns (triple_numbers (normal (shown_rows combined rows))) (parts_fit how combined ts q f)))
+        (answer_holds combined rows ns (triple_numbers (normal (shown_rows combined rows))) (parts_fit rules combined ts q f)))
 
 -- a number of the tree that leaves the range is one of the answer
-pub tree_leaves : (how : Option ℕ) (combined : Bool) (ts : List Named) (q : Tree) → ¬ (Fit (tree_numbers how q (map bounded_table (blocks_of ts)))) → tree_asked_fits how combined ts q ≡ false
-tree_leaves how combined ts q h =
+pub tree_leaves : (rules : Rules) (combined : Bool) (ts : List Named) (q : Tree) → ¬ (Fit (tree_numbers rules q (map bounded_table (blocks_of ts)))) → tree_asked_fits rules combined ts q ≡ false
+tree_leaves rules combined ts q h =
     let tables = map bounded_table (blocks_of ts) in
-    let rows = shown_rows combined (tree_rows how q tables) in
-    false_from_ne_true (tree_asked_fits how combined ts q) (λ f. h (fit_parts (tree_numbers how q tables) (triple_numbers rows ++ triple_numbers (normal rows)) (parts_fit how combined ts q f)).0)
+    let rows = shown_rows combined (tree_rows rules q tables) in
+    false_from_ne_true (tree_asked_fits rules combined ts q) (λ f. h (fit_parts (tree_numbers rules q tables) (triple_numbers rows ++ triple_numbers (normal rows)) (parts_fit rules combined ts q f)).0)

@@ -1,5 +1,5 @@
 -- What a query that works row by row gives over a table is what it gives over slices of it, one after the other.
-use Rattle.std.specs.Prelude.{◌≡◌, ℕ, suc, ◌==◌, Bool, true, not, List, [], ◌∷◌, ◌++◌, length, map, flat_map, Some, None, is_some, option_and_then, slice_get, unwrap_or, pos, ℤ}
+use Rattle.std.specs.Prelude.{◌≡◌, ℕ, suc, ◌==◌, Bool, true, not, List, [], ◌∷◌, ◌++◌, length, map, flat_map, Some, is_some, option_and_then, slice_get, unwrap_or, pos, ℤ}
 use Rattle.std.specs.List.{AllByRecursion, list_all}
 use Rattle.std.proofs.Common.{arith, refl, sym, ◌∙◌, ap, subst, append_assoc}
 use Rattle.std.proofs.lemmas.Bool.{and_parts, eqb-true, true≢false}
@@ -20,7 +20,6 @@ use Rattle.au_expr.proofs.Fits.{fit_both, fit_parts}
 use Rattle.au_algebra.specs.Bounded.{Bounded, RangeRow, normal, present, project, select, weight}
 use Rattle.au_algebra.specs.Entries.{entry}
 use Rattle.au_algebra.specs.Fits.{triple_numbers, triples_fit}
-use Rattle.au_algebra.specs.Products.{bounded_by}
 use Rattle.au_algebra.specs.Trees.{Tree, Table, Select, Project, Product, Union, Difference, Distinct, Group, Total}
 use Rattle.au_algebra.specs.Typing.{items_kinds, kinds_if, kinds_of}
 use Rattle.au_algebra.proofs.Gathering.{front_fits, normal_behind, normal_twice}
@@ -30,14 +29,15 @@ use Rattle.au_blocks.specs.declared.column.Column.{Column}
 use Rattle.au_blocks.specs.Blocks.{Choices, IsBlock}
 use Rattle.au_blocks.specs.Tables.{IsBlockTable, fits_kinds, column_kinds, table}
 use Rattle.au_translate.specs.Translate.{block_row, bounded_blocks}
-use Rattle.au_compress.specs.ProductNumbers.{numbers_by}
-use Rattle.au_engine.specs.Compressing.{tree_numbers, tree_rows}
+use Rattle.au_points.specs.Groupings.{Grouping, bounded_with}
+use Rattle.au_points.specs.GroupingFits.{numbers_with}
+use Rattle.au_engine.specs.Rules.{plain_rules, tree_numbers, tree_rows}
 use Rattle.au_engine.specs.Slicing.{WorksByRow, gathered_numbers, over_one, row_table, slice_numbers, slice_rows}
 
 -- ---- the tree over its table alone
 
-module _ (join other : Bounded → Bounded → Bounded) (ts : List Bounded) (t : Bounded) where
-  pub rows_alone : (q : Tree) (i : ℕ) → row_table q ≡ Some i → unwrap_or (slice_get ts i) [] ≡ t → bounded_by join q ts ≡ bounded_by other (over_one q) (t ∷ [])
+module _ (join other : Bounded → Bounded → Bounded) (by with_other : Grouping) (ts : List Bounded) (t : Bounded) where
+  pub rows_alone : (q : Tree) (i : ℕ) → row_table q ≡ Some i → unwrap_or (slice_get ts i) [] ≡ t → bounded_with join by q ts ≡ bounded_with other with_other (over_one q) (t ∷ [])
   rows_alone (Table j) i is at = ap (λ n. unwrap_or (slice_get ts n) []) (some_is j i is) ∙ at
   rows_alone (Select e q) i is at = ap (select e) (rows_alone q i is at)
   rows_alone (Project items q) i is at = ap (project items) (rows_alone q i is at)
@@ -49,7 +49,7 @@ module _ (join other : Bounded → Bounded → Bounded) (ts : List Bounded) (t :
   rows_alone (Total aggs q) i is at = absurd (none-some i is)
 
   module _ (made also : Bounded → Bounded → List ℤ) where
-    pub numbers_alone : (q : Tree) (i : ℕ) → row_table q ≡ Some i → unwrap_or (slice_get ts i) [] ≡ t → numbers_by join made q ts ≡ numbers_by other also (over_one q) (t ∷ [])
+    pub numbers_alone : (q : Tree) (i : ℕ) → row_table q ≡ Some i → unwrap_or (slice_get ts i) [] ≡ t → numbers_with join made by q ts ≡ numbers_with other also with_other (over_one q) (t ∷ [])
     numbers_alone (Table j) i is at = ap triple_numbers (rows_alone (Table j) i is at)
     numbers_alone (Select e q) i is at =
         let rows = rows_alone q i is at in
@@ -88,10 +88,10 @@ present_append f xs ys = ap present (map-append f xs ys) ∙ filter-append (λ r
 
 -- the relation over the rows of a table
 abbrev over : Tree → Bounded → Bounded
-over q rows = tree_rows None (over_one q) (rows ∷ [])
+over q rows = tree_rows plain_rules (over_one q) (rows ∷ [])
 
 abbrev numbers_over : Tree → Bounded → List ℤ
-numbers_over q rows = tree_numbers None (over_one q) (rows ∷ [])
+numbers_over q rows = tree_numbers plain_rules (over_one q) (rows ∷ [])
 
 rows_append : (q : Tree) → WorksByRow q → (xs ys : Bounded) → over q (xs ++ ys) ≡ over q xs ++ over q ys
 rows_append (Table i) is xs ys = refl

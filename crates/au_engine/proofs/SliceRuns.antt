@@ -1,5 +1,5 @@
 -- What the plan of a query that works row by row finds over a slice, and what the slices together are of the answer.
-use Rattle.std.specs.Prelude.{◌≡◌, ℕ, false, IsTrue, List, [], ◌∷◌, ◌++◌, map, Option, Some, None, is_some, option_map, slice_get, unwrap_or}
+use Rattle.std.specs.Prelude.{◌≡◌, ℕ, false, IsTrue, List, [], ◌∷◌, ◌++◌, map, Some, is_some, option_map, slice_get, unwrap_or}
 use Rattle.std.proofs.Common.{sym, ◌∙◌, ap, subst}
 use Rattle.std.proofs.lemmas.Bool.{false_from_ne_true}
 use Rattle.std.proofs.lemmas.Option.{slice_get-map}
@@ -16,7 +16,8 @@ use Rattle.au_plain.specs.Plans.{PlanTree}
 use Rattle.au_encode.specs.Encode.{encode}
 use Rattle.au_encode.proofs.Decoded.{rows_back}
 use Rattle.au_engine.specs.Answers.{Named, blocks_of, tree_asked, tree_asked_fits}
-use Rattle.au_engine.specs.Compressing.{pair_numbers, pairs_by, tree_numbers, tree_rows}
+use Rattle.au_engine.specs.Rules.{grouping_by, pair_numbers, pairs_by, plain_rules, tree_numbers, tree_rows}
+use Rattle.au_engine.specs.declared.options.Rules.{Rules}
 use Rattle.au_engine.specs.Slicing.{gathered_numbers, over_one, row_table, slice_numbers, slice_rows}
 use Rattle.au_engine.specs.Stages.{AddsTree, Decodes, LeavesRange}
 use Rattle.au_engine.proofs.AskedAnswers.{asked_is, parts_fit}
@@ -28,7 +29,7 @@ use Rattle.au_engine.proofs.StageRuns.{adds_relation}
 
 -- ---- the plan over a slice
 
-module _ (q : Tree) (t : BlockTable) (typed : IsTyped (column_kinds t ∷ []) (over_one q)) (held : List Rows) (p : PlanTree) (c : ℕ) (part : AddsTree None (t ∷ []) (over_one q) [] held p c) where
+module _ (q : Tree) (t : BlockTable) (typed : IsTyped (column_kinds t ∷ []) (over_one q)) (held : List Rows) (p : PlanTree) (c : ℕ) (part : AddsTree plain_rules (t ∷ []) (over_one q) [] held p c) where
   abbrev rows : Bounded
   rows = slice_rows q t.blocks
 
@@ -49,18 +50,18 @@ module _ (q : Tree) (t : BlockTable) (typed : IsTyped (column_kinds t ∷ []) (o
 
 -- ---- the answer
 
-module _ (how : Option ℕ) (ts : List Named) (q : Tree) (i : ℕ) (t : BlockTable) (is : row_table q ≡ Some i) (at : slice_get (blocks_of ts) i ≡ Some t) where
+module _ (rules : Rules) (ts : List Named) (q : Tree) (i : ℕ) (t : BlockTable) (is : row_table q ≡ Some i) (at : slice_get (blocks_of ts) i ≡ Some t) where
   abbrev tables : List Bounded
   tables = map bounded_table (blocks_of ts)
 
   table_rows : unwrap_or (slice_get tables i) [] ≡ bounded_table t
   table_rows = ap (λ o. unwrap_or o []) (slice_get-map bounded_table (blocks_of ts) i ∙ ap (option_map bounded_table) at)
 
-  whole_rows : tree_rows how q tables ≡ slice_rows q t.blocks
-  whole_rows = rows_alone (pairs_by how) (pairs_by None) tables (bounded_table t) q i is table_rows
+  whole_rows : tree_rows rules q tables ≡ slice_rows q t.blocks
+  whole_rows = rows_alone (pairs_by rules.compress) (pairs_by plain_rules.compress) (grouping_by rules.points) (grouping_by plain_rules.points) tables (bounded_table t) q i is table_rows
 
-  whole_numbers : tree_numbers how q tables ≡ slice_numbers q t.blocks
-  whole_numbers = numbers_alone (pairs_by how) (pairs_by None) tables (bounded_table t) (pair_numbers how) (pair_numbers None) q i is table_rows
+  whole_numbers : tree_numbers rules q tables ≡ slice_numbers q t.blocks
+  whole_numbers = numbers_alone (pairs_by rules.compress) (pairs_by plain_rules.compress) (grouping_by rules.points) (grouping_by plain_rules.points) tables (bounded_table t) (pair_numbers rules.compress) (pair_numbers plain_rules.compress) q i is table_rows
 
   -- the tree is typed for its table alone
   pub typed_alone : IsTyped (map column_kinds (blocks_of ts)) q → IsTyped (column_kinds t ∷ []) (over_one q)
@@ -70,16 +71,16 @@ module _ (how : Option ℕ) (ts : List Named) (q : Tree) (i : ℕ) (t : BlockTab
       typed
 
   -- the rows of all blocks are those of the answer
-  pub asked_by_row : normal (slice_rows q t.blocks) ≡ tree_asked how false ts q
-  asked_by_row = ap normal (sym whole_rows) ∙ sym (asked_is how false ts q)
+  pub asked_by_row : normal (slice_rows q t.blocks) ≡ tree_asked rules false ts q
+  asked_by_row = ap normal (sym whole_rows) ∙ sym (asked_is rules false ts q)
 
   -- and so are their numbers
-  pub asked_leaves : ¬ (Fit (gathered_numbers [] q t.blocks)) → tree_asked_fits how false ts q ≡ false
+  pub asked_leaves : ¬ (Fit (gathered_numbers [] q t.blocks)) → tree_asked_fits rules false ts q ≡ false
   asked_leaves out =
-      let rows = tree_rows how q tables in
-      false_from_ne_true (tree_asked_fits how false ts q)
+      let rows = tree_rows rules q tables in
+      false_from_ne_true (tree_asked_fits rules false ts q)
       (λ f.
-      let a = fit_parts (tree_numbers how q tables) (triple_numbers rows ++ triple_numbers (normal rows)) (parts_fit how false ts q f) in
+      let a = fit_parts (tree_numbers rules q tables) (triple_numbers rows ++ triple_numbers (normal rows)) (parts_fit rules false ts q f) in
       let b = fit_parts (triple_numbers rows) (triple_numbers (normal rows)) a.1 in
       out
       (fit_both (slice_numbers q t.blocks) (triple_numbers (normal (slice_rows q t.blocks))) (subst Fit whole_numbers a.0)

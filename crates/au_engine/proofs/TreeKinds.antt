@@ -19,6 +19,10 @@ all_length (o ∷ os) ks h =
     let q = and_then_is _ (all_kinds os) ks p.2 in
     ap length (sym (some_is (p.0 ∷ q.0) ks q.2)) ∙ ap suc (all_length os q.0 q.1)
 
+-- the keys of a group are among the columns
+pub keys_within : (keys : ℕ) (aggs : List Agg) (ks js : List Kind) → group_kinds keys aggs ks ≡ Some js → keys ≤ length ks
+keys_within keys aggs ks js h = leb-true keys (length ks) (chosen_is (nat_le keys (length ks)) _ js h).0
+
 -- the kinds of a group are the keys' and the aggregates'
 pub group_length : (keys : ℕ) (aggs : List Agg) (ks js : List Kind) → group_kinds keys aggs ks ≡ Some js → length js ≡ keys + length aggs
 group_length keys aggs ks js h =
@@ -26,7 +30,7 @@ group_length keys aggs ks js h =
     let m = and_then_is _ (all_kinds (map (agg_kind ks) aggs)) js s.1 in
     let more : length m.0 ≡ length aggs = all_length (map (agg_kind ks) aggs) m.0 m.1 ∙ length-map aggs (agg_kind ks) in
     let whole : length js ≡ length (take keys ks ++ m.0) = ap length (sym (some_is (take keys ks ++ m.0) js m.2)) in
-    let within : keys ≤ length ks = leb-true keys (length ks) s.0 in
+    let within = keys_within keys aggs ks js h in
     whole ∙ length-append (take keys ks) m.0 ∙ omega (arith, more, length-take keys ks, within)
 
 -- ---- of two trees

@@ -13,7 +13,6 @@ use Rattle.au_algebra.specs.Laws.{IsRelation}
 use Rattle.au_algebra.specs.Lists.{copies}
 use Rattle.au_algebra.specs.Trees.{Tree, Table, Select, Project, Product, Union, Difference, Distinct, Group, Total}
 use Rattle.au_algebra.specs.Typing.{IsTyped, kinds_if, kinds_of}
-use Rattle.au_algebra.proofs.ByProduct.{bounded_is}
 use Rattle.au_algebra.proofs.Items.{some_is}
 use Rattle.au_algebra.proofs.TreeRelation.{tree_relation}
 use Rattle.au_plain.specs.PlanKinds.{FitTables, HaveKinds, plan_kinds}
@@ -29,9 +28,9 @@ use Rattle.au_rwdiff.specs.Gives.{Subtracts}
 use Rattle.au_rwgroup.specs.Gives.{Distincts, Groups, Totals}
 use Rattle.au_typing.specs.declared.schema.Schema.{Schema}
 use Rattle.au_typing.specs.Queries.{data_kinds, relations, table_kinds}
-use Rattle.au_compress.proofs.PlainProduct.{numbers_is}
-use Rattle.au_engine.specs.Compressing.{tree_numbers, tree_rows}
+use Rattle.au_engine.specs.Rules.{plain_rules, tree_numbers, tree_rows}
 use Rattle.au_engine.specs.Rewriting.{AreEncodable, GivesTree, IsPlanOf}
+use Rattle.au_engine.proofs.PlainRules.{plain_numbers_are, plain_rows_are}
 use Rattle.au_engine.proofs.Operators.{Counts, One, Two, difference_part, distinct_part, group_part, product_part, project_part, select_part, total_part, typed_kinds, union_part}
 
 -- what two facts of a value give together
@@ -73,44 +72,44 @@ module _ (kinds : List (List Kind)) where
       let known : length ks ≡ c = sym (ap length same) ∙ long in
       let found : slice_get tk i ≡ Some (encoded_kinds ks) = slice_get-map encoded_kinds kinds i ∙ ap (option_map encoded_kinds) typed in
       let scan : p ≡ Scan i (3 * length ks + 3) = is ∙ ap (λ n. Scan i (3 * n + 3)) (sym known) in
-      let gives : GivesRelation tk tables (Scan i (3 * length ks + 3)) ks (tree_rows None (Table i) ts) (tree_numbers None (Table i) ts) = record {
+      let gives : GivesRelation tk tables (Scan i (3 * length ks + 3)) ks (tree_rows plain_rules (Table i) ts) (tree_numbers plain_rules (Table i) ts) = record {
         typed = ap (option_and_then (λ js. kinds_if (length js == 3 * length ks + 3) js)) found ∙ wide_enough ks;
         relation = tree_relation kinds ts ok.relations (Table i) ks typed;
         encoded = ap (λ o. unwrap_or o []) (slice_get-map encode ts i) ∙ scanned (slice_get ts i);
         fit = λ f. refl;
       } in
-      (known ∙ sym wide, subst (λ (plan : PlanTree). GivesRelation tk tables plan ks (tree_rows None (Table i) ts) (tree_numbers None (Table i) ts)) (sym scan) gives)
+      (known ∙ sym wide, subst (λ (plan : PlanTree). GivesRelation tk tables plan ks (tree_rows plain_rules (Table i) ts) (tree_numbers plain_rules (Table i) ts)) (sym scan) gives)
 
   module _ (q : Tree) (of made : PlanTree) (c d : ℕ) (part : GivesTree kinds q of c) where
     pub select_whole : (e : Term) → d ≡ c → Selects c e of made → GivesTree kinds (Select e q) made d
     select_whole e wide step ts ks ok typed =
-        select_part None kinds ts (Knows kinds ts ok) (counts_known kinds ts ok) (one_known kinds ts ok) q of made c d (λ js h. part ts js ok h) e wide step ks typed
+        select_part plain_rules kinds ts (Knows kinds ts ok) (counts_known kinds ts ok) (one_known kinds ts ok) q of made c d (λ js h. part ts js ok h) e wide step ks typed
 
     pub project_whole : (items : List Term) → d ≡ length items → Projects c items of made → GivesTree kinds (Project items q) made d
     project_whole items wide step ts ks ok typed =
-        project_part None kinds ts (Knows kinds ts ok) (counts_known kinds ts ok) (one_known kinds ts ok) q of made c d (λ js h. part ts js ok h) items wide step ks typed
+        project_part plain_rules kinds ts (Knows kinds ts ok) (counts_known kinds ts ok) (one_known kinds ts ok) q of made c d (λ js h. part ts js ok h) items wide step ks typed
 
     pub distinct_whole : d ≡ c → Distincts c of made → GivesTree kinds (Distinct q) made d
     distinct_whole wide step ts ks ok typed =
-        distinct_part None kinds ts (Knows kinds ts ok) (counts_known kinds ts ok) (one_known kinds ts ok) q of made c d (λ js h. part ts js ok h) wide step ks typed
+        distinct_part plain_rules kinds ts (Knows kinds ts ok) (counts_known kinds ts ok) (one_known kinds ts ok) q of made c d (λ js h. part ts js ok h) wide step ks typed
 
     pub group_whole : (keys : ℕ) (aggs : List Agg) → d ≡ keys + length aggs → Groups c keys aggs of made → GivesTree kinds (Group keys aggs q) made d
     group_whole keys aggs wide step ts ks ok typed =
-        group_part None kinds ts (Knows kinds ts ok) (counts_known kinds ts ok) (one_known kinds ts ok) q of made c d (λ js h. part ts js ok h) keys aggs wide step ks typed
+        group_part plain_rules kinds ts (Knows kinds ts ok) (counts_known kinds ts ok) (one_known kinds ts ok) q of made c d (λ js h. part ts js ok h) keys aggs wide step ks typed
 
     pub total_whole : (aggs : List Agg) → d ≡ length aggs → Totals c aggs of made → GivesTree kinds (Total aggs q) made d
     total_whole aggs wide step ts ks ok typed =
-        total_part None kinds ts (Knows kinds ts ok) (counts_known kinds ts ok) (one_known kinds ts ok) q of made c d (λ js h. part ts js ok h) aggs wide step ks typed
+        total_part plain_rules kinds ts (Knows kinds ts ok) (counts_known kinds ts ok) (one_known kinds ts ok) q of made c d (λ js h. part ts js ok h) aggs wide step ks typed
 
   module _ (a b : Tree) (left right made : PlanTree) (m n d : ℕ) (of_right : GivesTree kinds b right n) where
     pub product_whole : GivesTree kinds a left m → d ≡ m + n → Multiplies m n left right made → GivesTree kinds (Product a b) made d
     product_whole of_left wide step ts ks ok typed =
-        product_part kinds ts a b (Knows kinds ts ok) (Knows kinds ts ok) (Knows kinds ts ok) (counts_known kinds ts ok) (counts_known kinds ts ok) (two_known kinds ts ok) left right made m n d
+        product_part plain_rules kinds ts a b (Knows kinds ts ok) (Knows kinds ts ok) (Knows kinds ts ok) (counts_known kinds ts ok) (counts_known kinds ts ok) (two_known kinds ts ok) left right made m n d
         (λ js h. of_right ts js ok h) (λ js h. of_left ts js ok h) wide step ks typed
 
     pub union_whole : GivesTree kinds a left m → d ≡ m → Unites left right made → GivesTree kinds (Union a b) made d
     union_whole of_left wide step ts ks ok typed =
-        union_part None kinds ts a b (Knows kinds ts ok) (Knows kinds ts ok) (Knows kinds ts ok) (counts_known kinds ts ok) (counts_known kinds ts ok) (two_known kinds ts ok) left right made m n d
+        union_part plain_rules kinds ts a b (Knows kinds ts ok) (Knows kinds ts ok) (Knows kinds ts ok) (counts_known kinds ts ok) (counts_known kinds ts ok) (two_known kinds ts ok) left right made m n d
         (λ js h. of_right ts js ok h) (λ js h. of_left ts js ok h) wide step ks typed
 
     -- over the combined rows of the left side's plan
@@ -118,11 +117,11 @@ module _ (kinds : List (List Kind)) where
     difference_whole of c of_left same joined wide step ts ks ok typed =
         let tk = map encoded_kinds kinds in
         let tables = map encode ts in
-        let xs = tree_rows None a ts in
-        let ms = tree_numbers None a ts in
+        let xs = tree_rows plain_rules a ts in
+        let ms = tree_numbers plain_rules a ts in
         let combined : (js : List Kind) → kinds_of kinds a ≡ Some js → Knows kinds ts ok left m js (combine xs) (ms ++ triple_numbers (combine xs)) × IsRelation js xs =
         λ js h. let g = of_left ts js ok h in ((g.0 ∙ sym same, joined tk tables js xs ms g.0 g.1), g.1.relation) in
-        difference_part None kinds ts a b (Knows kinds ts ok) (Knows kinds ts ok) (Knows kinds ts ok) (counts_known kinds ts ok) (counts_known kinds ts ok) (two_known kinds ts ok) left right made m n d
+        difference_part plain_rules kinds ts a b (Knows kinds ts ok) (Knows kinds ts ok) (Knows kinds ts ok) (counts_known kinds ts ok) (counts_known kinds ts ok) (two_known kinds ts ok) left right made m n d
         (λ js h. of_right ts js ok h) combined wide step ks typed
 
 -- ---- the whole plan
@@ -141,8 +140,8 @@ whole_plan kinds q p c typed gives =
     let k = typed_kinds kinds q typed in
     record {
       typed = λ ks e. (gives (map (λ js. []) kinds) ks (record { relations = empty_relations kinds; fit = empty_fit kinds }) e).1.typed;
-      rows = λ ts ok v. ap (copies v) ((gives ts k.0 ok k.1).1.encoded ∙ ap encode (bounded_is q ts));
-      fits = λ ts ok f. (gives ts k.0 ok k.1).1.fit (subst Fit (sym (numbers_is q ts)) f);
+      rows = λ ts ok v. ap (copies v) ((gives ts k.0 ok k.1).1.encoded ∙ ap encode (plain_rows_are q ts));
+      fits = λ ts ok f. (gives ts k.0 ok k.1).1.fit (subst Fit (sym (plain_numbers_are q ts)) f);
     }
 
 -- encoded tables have the encoded kinds

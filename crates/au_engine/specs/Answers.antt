@@ -1,5 +1,5 @@
 -- The answer of a statement over named block tables: its names and kinds, its rows and whether their numbers fit.
-use Rattle.std.specs.Prelude.{ℕ, ◌≡◌, ◌&&◌, Bool, false, List, [], map, Option, Some, None, ⊤, Contains, if◌then◌else◌}
+use Rattle.std.specs.Prelude.{ℕ, ◌≡◌, ◌&&◌, Bool, true, false, List, [], map, Option, Some, None, ⊤, Contains, if◌then◌else◌}
 use Rattle.std.specs.List.{list_all}
 use Rattle.au_value.specs.declared.kinds.Kind.{Kind}
 use Rattle.au_value.specs.Numeral.{is_i128}
@@ -12,11 +12,16 @@ use Rattle.au_algebra.specs.Fits.{certain_rows, fits, numbers, triples_fit}
 use Rattle.au_algebra.specs.Ordinary.{Rows, answer}
 use Rattle.au_compress.specs.CompressedAnswers.{compressed_answer}
 use Rattle.au_compress.specs.CompressedFits.{compressed_answer_fits}
+use Rattle.au_points.specs.Groupings.{answer_with}
+use Rattle.au_points.specs.GroupingFits.{fits_with}
+use Rattle.au_points.specs.Points.{by_points}
 use Rattle.au_translate.specs.Translate.{bounded_table, guessed_table}
 use Rattle.au_translate.specs.Headline.{HoldsInEveryWorld}
 use Rattle.au_typing.specs.Queries.{Relation, typing_defects, resolved_tree, resolved_names, resolved_kinds}
 use Rattle.au_typing.specs.declared.fault.TypingFault.{TypingFault}
 use Rattle.au_typing.specs.declared.fault.TypingFault.TheVariants as typing
+use Rattle.au_engine.specs.Rules.{pair_numbers, pairs_by}
+use Rattle.au_engine.specs.declared.options.Rules.{Rules}
 use Rattle.au_engine.specs.declared.faults.EngineFault.{EngineFault}
 use Rattle.au_engine.specs.declared.faults.EngineFault.TheVariants as engine
 use Rattle.au_engine.specs.declared.faults.QueryFault.TheVariants as query
@@ -62,20 +67,29 @@ answer_rows combined ts s = tree_answer combined ts (answer_tree ts s)
 abbrev pub answer_fits : Bool → List Named → QueryTree → Bool
 answer_fits combined ts s = tree_answer_fits combined ts (answer_tree ts s)
 
--- the answer that is asked for: the bounded answer, or that whose products are compressed
-abbrev pub tree_asked : Option ℕ → Bool → List Named → Tree → Bounded
-tree_asked None combined ts q = tree_answer combined ts q
-tree_asked (Some n) combined ts q = compressed_answer n combined q (map bounded_table (blocks_of ts))
+-- the answer that is asked for: the bounded answer, that whose products are compressed, or one with either product whose
+-- groups and distinct rows are formed by points
+abbrev pub answer_by : Bool → Option ℕ → Bool → Tree → List Bounded → Bounded
+answer_by false None = bounded_answer
+answer_by false (Some n) = compressed_answer n
+answer_by true how = answer_with (pairs_by how) by_points
 
-abbrev pub tree_asked_fits : Option ℕ → Bool → List Named → Tree → Bool
-tree_asked_fits None combined ts q = tree_answer_fits combined ts q
-tree_asked_fits (Some n) combined ts q = compressed_answer_fits n combined q (map bounded_table (blocks_of ts))
+abbrev pub answer_fits_by : Bool → Option ℕ → Bool → Tree → List Bounded → Bool
+answer_fits_by false None = fits
+answer_fits_by false (Some n) = compressed_answer_fits n
+answer_fits_by true how = fits_with (pairs_by how) (pair_numbers how) by_points
 
-abbrev pub asked_rows : Option ℕ → Bool → List Named → QueryTree → Bounded
-asked_rows compress combined ts s = tree_asked compress combined ts (answer_tree ts s)
+abbrev pub tree_asked : Rules → Bool → List Named → Tree → Bounded
+tree_asked rules combined ts q = answer_by rules.points rules.compress combined q (map bounded_table (blocks_of ts))
 
-abbrev pub asked_fits : Option ℕ → Bool → List Named → QueryTree → Bool
-asked_fits compress combined ts s = tree_asked_fits compress combined ts (answer_tree ts s)
+abbrev pub tree_asked_fits : Rules → Bool → List Named → Tree → Bool
+tree_asked_fits rules combined ts q = answer_fits_by rules.points rules.compress combined q (map bounded_table (blocks_of ts))
+
+abbrev pub asked_rows : Rules → Bool → List Named → QueryTree → Bounded
+asked_rows rules combined ts s = tree_asked rules combined ts (answer_tree ts s)
+
+abbrev pub asked_fits : Rules → Bool → List Named → QueryTree → Bool
+asked_fits rules combined ts s = tree_asked_fits rules combined ts (answer_tree ts s)
 
 -- rows hold in every possible world, and their guesses are the answer in the guess world
 abbrev pub RowsHold : List Named → QueryTree → Bounded → Type 0

@@ -1,7 +1,7 @@
 -- The definitions, in the order in which they are to be read.
 pub mod Reading
+pub mod Rules
 pub mod Answers
-pub mod Compressing
 pub mod Certainty
 pub mod Rewriting
 pub mod Exchange

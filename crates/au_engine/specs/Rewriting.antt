@@ -1,5 +1,5 @@
 -- One plan of a whole tree, over encoded tables.
-use Rattle.std.specs.Prelude.{◌≡◌, ℕ, List, length, map, None, Some}
+use Rattle.std.specs.Prelude.{◌≡◌, ℕ, List, length, map, Some}
 use Rattle.std.specs.List.{AllZip}
 use Rattle.au_value.specs.declared.kinds.Kind.{Kind}
 use Rattle.au_expr.specs.Figures.{Fit}
@@ -15,7 +15,7 @@ use Rattle.au_plain.specs.PlanNumbers.{plan_numbers}
 use Rattle.au_plain.specs.Plans.{PlanTree}
 use Rattle.au_encode.specs.Encode.{encode, encoded_kinds}
 use Rattle.au_encode.specs.Gives.{GivesRelation}
-use Rattle.au_engine.specs.Compressing.{tree_numbers, tree_rows}
+use Rattle.au_engine.specs.Rules.{plain_rules, tree_numbers, tree_rows}
 
 -- relations of these columns, whose whole numbers lie between -2^127 and 2^127 - 1 where they are encoded
 pub record AreEncodable (kinds : List (List Kind)) (ts : List Bounded) : Type 0 where
@@ -34,4 +34,4 @@ pub record IsPlanOf (kinds : List (List Kind)) (q : Tree) (p : PlanTree) : Type 
 abbrev pub GivesTree : List (List Kind) → Tree → PlanTree → ℕ → Type 0
 GivesTree kinds q p c =
     (ts : List Bounded) (ks : List Kind) → AreEncodable kinds ts → kinds_of kinds q ≡ Some ks →
-    (length ks ≡ c) × GivesRelation (map encoded_kinds kinds) (map encode ts) p ks (tree_rows None q ts) (tree_numbers None q ts)
+    (length ks ≡ c) × GivesRelation (map encoded_kinds kinds) (map encode ts) p ks (tree_rows plain_rules q ts) (tree_numbers plain_rules q ts)

@@ -5,7 +5,7 @@ use Rattle.au_algebra.specs.Fits.{triple_numbers}
 use Rattle.au_algebra.specs.Trees.{Tree, Table, Select, Project, Product, Union, Difference, Distinct, Group, Total}
 use Rattle.au_blocks.specs.Blocks.{Choices}
 use Rattle.au_translate.specs.Translate.{bounded_blocks}
-use Rattle.au_engine.specs.Compressing.{tree_numbers, tree_rows}
+use Rattle.au_engine.specs.Rules.{plain_rules, tree_numbers, tree_rows}
 
 -- the place of the table of a tree of Select and Project alone
 abbrev pub row_table : Tree → Option ℕ
@@ -37,10 +37,10 @@ over_one (Total aggs q) = Total aggs q
 
 -- its relation over some blocks of the table, and the numbers of its making
 abbrev pub slice_rows : Tree → List Choices → Bounded
-slice_rows q blocks = tree_rows None (over_one q) (bounded_blocks blocks ∷ [])
+slice_rows q blocks = tree_rows plain_rules (over_one q) (bounded_blocks blocks ∷ [])
 
 abbrev pub slice_numbers : Tree → List Choices → List ℤ
-slice_numbers q blocks = tree_numbers None (over_one q) (bounded_blocks blocks ∷ [])
+slice_numbers q blocks = tree_numbers plain_rules (over_one q) (bounded_blocks blocks ∷ [])
 
 -- these, and those of the normal form of the rows that were there before and of the slice's
 abbrev pub gathered_numbers : Bounded → Tree → List Choices → List ℤ

@@ -1,25 +1,28 @@
 -- A plan that is run in stages: of some operators the input is run first, and its rows stand as a table for the rest.
-use Rattle.std.specs.Prelude.{◌≡◌, ℕ, Bool, true, false, List, [], ◌++◌, length, map, Option, Some, ℤ, if◌then◌else◌}
+use Rattle.std.specs.Prelude.{◌≡◌, ℕ, Bool, true, false, List, [], ◌++◌, length, map, take, Some, ℤ, if◌then◌else◌}
 use Rattle.std.specs.List.{AllZip}
 use Rattle.au_value.specs.declared.kinds.Kind.{Kind}
 use Rattle.au_expr.specs.Figures.{Fit}
+use Rattle.au_algebra.specs.declared.query.Agg.{Agg}
 use Rattle.au_algebra.specs.Bounded.{Bounded, combine, product}
 use Rattle.au_algebra.specs.Fits.{triple_numbers}
 use Rattle.au_algebra.specs.Laws.{IsRelation}
 use Rattle.au_algebra.specs.Lists.{SameUpToOrder, same_row}
 use Rattle.au_algebra.specs.Ordinary.{Rows}
 use Rattle.au_algebra.specs.Trees.{Tree}
-use Rattle.au_algebra.specs.Typing.{kinds_of}
+use Rattle.au_algebra.specs.Typing.{group_kinds, kinds_of}
 use Rattle.au_blocks.specs.Tables.{BlockTable, column_kinds}
 use Rattle.au_translate.specs.Translate.{bounded_table}
 use Rattle.au_compress.specs.CompressedFits.{product_numbers}
 use Rattle.au_compress.specs.Splitting.{compressed_product}
+use Rattle.au_points.specs.Points.{distinct_points, group_points, numbers_by_points}
 use Rattle.au_plain.specs.PlanKinds.{FitTables, HaveKinds}
 use Rattle.au_plain.specs.Plans.{PlanTree}
 use Rattle.au_combine.specs.Gives.{Combines}
 use Rattle.au_encode.specs.Encode.{decode, encode}
 use Rattle.au_encode.specs.Gives.{GivesRelation}
-use Rattle.au_engine.specs.Compressing.{tree_numbers, tree_rows}
+use Rattle.au_engine.specs.Rules.{grouping_by, tree_numbers, tree_rows}
+use Rattle.au_engine.specs.declared.options.Rules.{Rules}
 
 -- two lists have the same rows, each equally often
 abbrev pub SameRows : Rows → Rows → Type 0
@@ -49,10 +52,10 @@ abbrev pub AddsTable : BlockTable → List Rows → List Rows → PlanTree → �
 AddsTable t old new p c = (ns : List ℤ) → Adds old new p c (column_kinds t) (bounded_table t) ns
 
 -- the relation and the numbers are those of a tree over block tables, where it is typed
-abbrev pub AddsTree : Option ℕ → List BlockTable → Tree → List Rows → List Rows → PlanTree → ℕ → Type 0
-AddsTree how ts q old new p c =
+abbrev pub AddsTree : Rules → List BlockTable → Tree → List Rows → List Rows → PlanTree → ℕ → Type 0
+AddsTree rules ts q old new p c =
     (ks : List Kind) → kinds_of (map column_kinds ts) q ≡ Some ks →
-    Adds old new p c ks (tree_rows how q (map bounded_table ts)) (tree_numbers how q (map bounded_table ts))
+    Adds old new p c ks (tree_rows rules q (map bounded_table ts)) (tree_numbers rules q (map bounded_table ts))
 
 -- a plan that gives some relation over all the tables
 abbrev pub CanRunPlan : List Rows → PlanTree → ℕ → Type 0
@@ -83,6 +86,29 @@ MaterializesCombined held p c old new q d =
 abbrev pub LeavesRangeCombined : List Rows → PlanTree → ℕ → Type 0
 LeavesRangeCombined held p c =
     (ks : List Kind) (rows : Bounded) (ns : List ℤ) → Adds [] held p c ks rows ns → ¬ (Fit (ns ++ triple_numbers (combine rows)))
+
+-- ---- groups and distinct rows
+
+-- where the input gives a relation of `c` columns, the plan gives its groups by points, and makes no other numbers
+abbrev pub GroupsByMembers : ℕ → ℕ → List Agg → PlanTree → PlanTree → Type 0
+GroupsByMembers c keys aggs of p =
+    (kinds : List (List Kind)) (tables : List Rows) (ks js : List Kind) (rows : Bounded) (ns : List ℤ) →
+    FitTables tables → length ks ≡ c → group_kinds keys aggs ks ≡ Some js → GivesRelation kinds tables of ks rows ns →
+    GivesRelation kinds tables p js (group_points keys aggs rows) (ns ++ numbers_by_points (take keys) aggs rows)
+
+-- a plan over tables of its own gives a relation, and another plan its groups
+abbrev pub AddsGroups : Bool → ℕ → List Agg → List Rows → PlanTree → ℕ → List Rows → List Rows → PlanTree → ℕ → Type 0
+AddsGroups points keys aggs held p c old new q d =
+    (ks js : List Kind) (rows : Bounded) (ns : List ℤ) → group_kinds keys aggs ks ≡ Some js → Adds [] held p c ks rows ns →
+    Adds old new q d js ((grouping_by points).groups keys aggs rows) (ns ++ (grouping_by points).groups_numbers keys aggs rows)
+
+-- the same of its distinct rows by points
+abbrev pub AddsDistinct : List Rows → PlanTree → ℕ → List Rows → List Rows → PlanTree → ℕ → Type 0
+AddsDistinct held p c old new q d =
+    (ks : List Kind) (rows : Bounded) (ns : List ℤ) → Adds [] held p c ks rows ns →
+    Adds old new q d ks (distinct_points rows) (ns ++ triple_numbers (distinct_points rows))
+
+-- ---- what is shown
 
 -- the relation that is shown, and its numbers
 abbrev pub shown_rows : Bool → Bounded → Bounded

@@ -14,7 +14,7 @@ ghost use Rattle.au_value.specs.declared.kinds.Kind.{Kind};
 ghost use Rattle.au_value.specs.Order.{data_kind};
 ghost use Rattle.au_value.specs.Numeral.{is_i128};
 ghost use Rattle.au_engine.specs.Answers.{AnswerCause, RowsCause, RowsHold, blocks_of, combined_normal_fits, tree_answer, tree_asked, tree_asked_fits, tree_answer_fits, answer_fits, answer_kinds, answer_names, answer_rows as answer_rows_of, asked_fits, asked_rows, statement_defects};
-ghost use Rattle.au_engine.specs.Compressing.{IsCompression};
+ghost use Rattle.au_engine.specs.Rules.{IsCompression, rules_of};
 
 use crate::faults::EngineFault;
 use crate::options::Options;
@@ -35,8 +35,8 @@ use au_value::{NoMemory, Range, Word, beside};
 use std::alloc::Global;
 use std::thread::Threads;
 
-/// The bounded answer of a statement over tables, each under its name. Where products are to be compressed, it is the
-/// answer that their compressed products give.
+/// The bounded answer of a statement over tables, each under its name. Where products are to be compressed, or groups and
+/// distinct rows to be formed by points, it is the answer that these give.
 ///
 /// `Query` names a defect of the statement and its byte, one of ten. `Overflow` comes only where a number of the answer
 /// leaves 128 bits. `Limit` never comes.
@@ -54,11 +54,11 @@ pub fn answer<R: Threads + Sync, G: Gate + Sync>(
     ensures typed { OnOk result (statement_defects tables.now (statement_tree statement.now) ≡ []) }
     ensures names { IfOk result (λ a. a.names.items ≡ answer_names tables.now (statement_tree statement.now)) }
     ensures kinds { IfOk result (λ a. a.kinds.items ≡ answer_kinds tables.now (statement_tree statement.now)) }
-    ensures rows { IfOk result (λ a. a.rows ≡ asked_rows options.compress options.combine tables.now (statement_tree statement.now)) }
+    ensures rows { IfOk result (λ a. a.rows ≡ asked_rows (rules_of options) options.combine tables.now (statement_tree statement.now)) }
     ensures relation { IfOk result (λ a. IsRelation (map data_kind a.kinds.items) a.rows) }
     ensures widths { IfOk result (λ a. AllByRecursion (λ r. length r.cells ≡ length a.names.items) a.rows) }
     ensures holds { IfOk result (λ a. RowsHold tables.now (statement_tree statement.now) a.rows) }
-    ensures refused { IfErr result (AnswerCause (statement_defects tables.now (statement_tree statement.now)) (asked_fits options.compress options.combine tables.now (statement_tree statement.now))) }
+    ensures refused { IfErr result (AnswerCause (statement_defects tables.now (statement_tree statement.now)) (asked_fits (rules_of options) options.combine tables.now (statement_tree statement.now))) }
 {
     let typed = match resolved(alloc, statement, tables) {
         Ok(typed) => typed,
@@ -133,8 +133,8 @@ fn planned_rows<R: Threads + Sync, G: Gate + Sync>(
 ) -> Result<Rel<Range, Triple>, EvalFault>
     requires typed { (ks : List Kind) × (kinds_of (map column_kinds (blocks_of tables.now)) (tree query.now) ≡ Some ks) }
     requires compression { IsCompression options.compress }
-    ensures rows { IfOk result (λ r. r ≡ tree_asked options.compress options.combine tables.now (tree query.now)) }
-    ensures overflow { result ≡ Err EvalFault.Overflow → tree_asked_fits options.compress options.combine tables.now (tree query.now) ≡ false }
+    ensures rows { IfOk result (λ r. r ≡ tree_asked (rules_of options) options.combine tables.now (tree query.now)) }
+    ensures overflow { result ≡ Err EvalFault.Overflow → tree_asked_fits (rules_of options) options.combine tables.now (tree query.now) ≡ false }
 {
     let rows = match evaluated_by_plan(runner, alloc, query, tables, options) {
         Ok(rows) => rows,

@@ -12,9 +12,9 @@ use au_value::Value;
 // There are the more windows the more rows there are, up to so many.
 const WINDOW: usize = 32;
 
-const WINDOWS: usize = 16;
+const WINDOWS: usize = 8;
 
-const ROWS_FOR_A_WINDOW: usize = 256;
+const ROWS_FOR_A_WINDOW: usize = 1024;
 
 // One row in so many may repeat the keys of another where each row is to stay by itself. A row too few in a fold costs a
 // little, and wide ranges that meet each box row by row cost ten times as much, so few repetitions suffice.

@@ -10,7 +10,7 @@
 //!
 //! ```text
 //! let statement = read_query(alloc, "SELECT city FROM orders")?;
-//! let options = Options { combine: false, workers: 1, compress: None };
+//! let options = Options { combine: false, workers: 1, compress: None, points: false };
 //! let answer = answer(&rt, alloc, &statement, tables.as_slice(), options, NoGate)?;
 //! ```
 //!
@@ -25,6 +25,7 @@ mod counted_steps;
 mod decoded;
 mod encoded;
 mod faults;
+mod groups;
 mod guess_counts;
 mod guess_rows;
 mod guess_size;
@@ -37,6 +38,7 @@ mod plain;
 mod reading;
 mod reads;
 mod rewriting;
+mod row_queries;
 mod runner;
 mod running;
 mod slicing;
@@ -53,7 +55,7 @@ pub use certainty::{UaAnswer, ua_answer};
 pub use faults::{EngineFault, LimitFault, QueryFault};
 pub use guess_size::fits_plain;
 pub use guessing::{GuessAnswer, guess_answer};
-pub use options::Options;
+pub use options::{Options, Rules};
 pub use plain::{PlainFault, plain_answer};
 pub use reading::read_query;
 pub use rewriting::rewritten;

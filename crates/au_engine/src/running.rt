@@ -6,12 +6,13 @@ ghost use Rattle.au_algebra.specs.Typing.{IsTyped};
 ghost use Rattle.au_blocks.specs.Tables.{column_kinds};
 ghost use Rattle.au_plain.specs.Plans.{plan_tree};
 ghost use Rattle.au_engine.specs.Answers.{blocks_of, tree_asked, tree_asked_fits};
-ghost use Rattle.au_engine.specs.Compressing.{IsCompression};
+ghost use Rattle.au_engine.specs.Rules.{IsCompression, rules_of};
 ghost use Rattle.au_engine.specs.Stages.{Shows};
 
 use crate::options::Options;
+use crate::row_queries::table_by_row;
 use crate::runner::Runner;
-use crate::slicing::{by_slices, table_by_row};
+use crate::slicing::by_slices;
 use crate::stage::run_decoded;
 use crate::staged::staged;
 use crate::steps::{Planned, combined_of};
@@ -46,11 +47,11 @@ fn evaluated_at_once<R: Threads + Sync, G: Gate + Sync>(
 ) -> Result<Rel<Range, Triple>, EvalFault>
     requires typed { IsTyped (map column_kinds (blocks_of tables.now)) (tree query.now) }
     requires compression { IsCompression options.compress }
-    ensures rows { IfOk result (λ r. normal_of r ≡ tree_asked options.compress options.combine tables.now (tree query.now)) }
-    ensures overflow { result ≡ Err EvalFault.Overflow → tree_asked_fits options.compress options.combine tables.now (tree query.now) ≡ false }
+    ensures rows { IfOk result (λ r. normal_of r ≡ tree_asked (rules_of options) options.combine tables.now (tree query.now)) }
+    ensures overflow { result ≡ Err EvalFault.Overflow → tree_asked_fits (rules_of options) options.combine tables.now (tree query.now) ≡ false }
 {
     let mut inputs = Vec::new(alloc);
-    let planned = match staged(runner, alloc, query, tables, options.compress, &mut inputs) {
+    let planned = match staged(runner, alloc, query, tables, options.rules(), &mut inputs) {
         Ok(planned) => planned,
         Err(fault) => return Err(fault),
     };
@@ -77,8 +78,8 @@ pub(crate) fn evaluated_by_plan<R: Threads + Sync, G: Gate + Sync>(
 ) -> Result<Rel<Range, Triple>, EvalFault>
     requires typed { IsTyped (map column_kinds (blocks_of tables.now)) (tree query.now) }
     requires compression { IsCompression options.compress }
-    ensures rows { IfOk result (λ r. normal_of r ≡ tree_asked options.compress options.combine tables.now (tree query.now)) }
-    ensures overflow { result ≡ Err EvalFault.Overflow → tree_asked_fits options.compress options.combine tables.now (tree query.now) ≡ false }
+    ensures rows { IfOk result (λ r. normal_of r ≡ tree_asked (rules_of options) options.combine tables.now (tree query.now)) }
+    ensures overflow { result ≡ Err EvalFault.Overflow → tree_asked_fits (rules_of options) options.combine tables.now (tree query.now) ≡ false }
 {
     if options.combine {
         return evaluated_at_once(runner, alloc, query, tables, options);

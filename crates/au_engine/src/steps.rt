@@ -8,16 +8,19 @@ ghost use Rattle.au_rwcore.specs.Gives.{Multiplies, Projects, Selects, Unites};
 ghost use Rattle.au_combine.specs.Gives.{Combines};
 ghost use Rattle.au_rwdiff.specs.Gives.{Subtracts};
 ghost use Rattle.au_rwgroup.specs.Gives.{Distincts, Groups, Totals};
+ghost use Rattle.au_rwpoints.specs.Gives.{DistinctByPoints, Members};
+ghost use Rattle.au_engine.specs.Stages.{GroupsByMembers};
 
 use au_algebra::Agg;
 use au_combine::combine;
 use au_expr::Expr;
-use au_plain::{Layout, Plan};
+use au_plain::{Layout, Plan, copy_plan};
 use au_rwcore::{product, project, select, union};
 use au_rwdiff::difference;
 use au_rwexpr::width_of;
 use au_rwgroup::{Folding, distinct, group, total};
-use au_value::NoMemory;
+use au_rwpoints::{distinct as distinct_by_points, group as group_by_points, members};
+use au_value::{NoMemory, beside};
 use std::alloc::Global;
 
 /// A plan over encoded tables, with the layout of its rows.
@@ -141,6 +144,46 @@ pub(crate) fn group_of(
     Ok(Planned {
         plan,
         layout: Layout { columns },
+    })
+}
+
+/// The same by points. The plan holds its input six times.
+pub(crate) fn group_by_points_of(
+    alloc: Global,
+    keys: usize,
+    aggs: &[Agg],
+    of: Planned,
+) -> Result<Planned, NoMemory>
+    ensures columns { IfOk result (λ p. p.layout.columns ≡ keys + length aggs.now) }
+    ensures plan { IfOk result (λ p. GroupsByMembers of.layout.columns keys aggs.now (plan_tree of.plan) (plan_tree p.plan)) }
+{
+    let with_members = members_of(alloc, keys, &of);
+    let (with_members, of) = beside(with_members, of)?;
+    let plan = group_by_points(alloc, with_members, of.plan, keys, aggs, &of.layout)?;
+    let columns = keys + aggs.len();
+    Ok(Planned {
+        plan,
+        layout: Layout { columns },
+    })
+}
+
+// The members of the points.
+fn members_of(alloc: Global, keys: usize, of: &Planned) -> Result<Plan, NoMemory>
+    ensures { IfOk result (λ p. Members of.now.layout.columns keys (plan_tree of.now.plan) (plan_tree p)) }
+{
+    let copy = copy_plan(alloc, &of.plan)?;
+    let plan = members(alloc, copy, keys, &of.layout)?;
+    Ok(plan)
+}
+
+/// Each row once, by points. The plan holds its input twice.
+pub(crate) fn distinct_by_points_of(alloc: Global, of: Planned) -> Result<Planned, NoMemory>
+    ensures columns { IfOk result (λ p. p.layout.columns ≡ of.layout.columns) }
+    ensures plan { IfOk result (λ p. DistinctByPoints of.layout.columns (plan_tree of.plan) (plan_tree p.plan)) }
+{
+    Ok(Planned {
+        plan: distinct_by_points(alloc, of.plan, &of.layout)?,
+        layout: of.layout,
     })
 }
 

@@ -97,6 +97,7 @@ fn compressed_text(
         combine: false,
         workers: 2,
         compress: Some(1),
+        points: false,
     };
     match answer(rt, alloc, statement, tables, options, NoGate) {
         Ok(answer) => relation_text(alloc, &answer.rows),

@@ -39,6 +39,8 @@ mod physical_tests;
 #[cfg(test)]
 mod plan_tests;
 #[cfg(test)]
+mod points_tests;
+#[cfg(test)]
 mod query_tables;
 #[cfg(test)]
 mod query_tests;

@@ -37,6 +37,7 @@ fn by_both_roads(
         combine: false,
         workers: 2,
         compress: None,
+        points: false,
     };
     let planned = answer_text(
         alloc,

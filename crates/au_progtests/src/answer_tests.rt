@@ -71,6 +71,22 @@ guess|SELECT a.x FROM t a, t b, t c|t=trillion.csv -> 4 Overflow ! audb: a numbe
 guess|SELECT id AS \"a,b\", city AS \"say \"\"x\"\"\" FROM t|t=none.csv -> 0 Done row,\"a,b\",\"say \"\"x\"\"\"~! 
 guess|SELECT t AS \"two~lines\", n FROM t|t=texts.csv -> 0 Done row,\"two~lines\",n~2,,-1~5,b,2~1,b,10~! ";
 
+// Groups and distinct rows by points, with each other option of `answer`, and commands that have none.
+const BY_POINTS: &str =
+    "answer|--points|SELECT city, SUM(amount) AS s FROM orders GROUP BY city|orders=orders.csv -> 0 Done row_lo,row,row_hi,city_lo,city,city_hi,s_lo,s,s_hi~1,1,1,Bergen,Bergen,Bergen,5,5,17~0,0,1,Bergen,Oslo,Oslo,0,0,12~0,1,1,Oslo,Oslo,Oslo,0,17,19~! 
+answer|SELECT city, SUM(amount) AS s FROM orders GROUP BY city|--workers=3|orders=orders.csv|--points -> 0 Done row_lo,row,row_hi,city_lo,city,city_hi,s_lo,s,s_hi~1,1,1,Bergen,Bergen,Bergen,5,5,17~0,0,1,Bergen,Oslo,Oslo,0,0,12~0,1,1,Oslo,Oslo,Oslo,0,17,19~! 
+answer|--table|--points|SELECT city, SUM(amount) AS s FROM orders GROUP BY city|orders=orders.csv -> 0 Done city               | s         | row  ~-------------------+-----------+------~Bergen             | [5/5/17]  | 1/1/1~[Bergen/Oslo/Oslo] | [0/0/12]  | 0/0/1~Oslo               | [0/17/19] | 0/1/1~! 
+answer|--points|SELECT DISTINCT city FROM orders|orders=orders.csv -> 0 Done row_lo,row,row_hi,city_lo,city,city_hi~1,1,1,Bergen,Bergen,Bergen~0,0,1,Bergen,Oslo,Oslo~0,1,1,Oslo,Oslo,Oslo~! 
+answer|--combine|--points|SELECT DISTINCT city FROM orders|orders=orders.csv -> 0 Done row_lo,row,row_hi,city_lo,city,city_hi~1,1,1,Bergen,Bergen,Bergen~0,1,2,Bergen,Oslo,Oslo~! 
+answer|--points|--compress=2|SELECT o.city, SUM(o.amount) AS s FROM orders o, rates r WHERE o.city = r.city GROUP BY o.city|orders=orders.csv|rates=rates.csv -> 0 Done row_lo,row,row_hi,city_lo,city,city_hi,s_lo,s,s_hi~1,1,1,Bergen,Bergen,Bergen,5,5,53~0,0,4,Bergen,Oslo,Oslo,0,0,48~0,1,1,Oslo,Oslo,Oslo,0,17,72~! 
+answer|--points|SELECT o.city, SUM(o.amount) AS s FROM orders o, rates r WHERE o.city = r.city GROUP BY o.city|orders=orders.csv|rates=rates.csv -> 0 Done row_lo,row,row_hi,city_lo,city,city_hi,s_lo,s,s_hi~1,1,1,Bergen,Bergen,Bergen,5,5,29~0,0,2,Bergen,Oslo,Oslo,0,0,24~0,1,1,Oslo,Oslo,Oslo,0,17,31~! 
+answer|--points|SELECT city, COUNT(*) AS n FROM orders GROUP BY city HAVING COUNT(*) > 1|orders=orders.csv -> 0 Done row_lo,row,row_hi,city_lo,city,city_hi,n_lo,n,n_hi~0,0,1,Bergen,Bergen,Bergen,1,1,2~0,1,1,Oslo,Oslo,Oslo,0,2,2~! 
+answer|--points|SELECT city FROM orders EXCEPT SELECT city FROM rates WHERE fee = 4|orders=orders.csv|rates=rates.csv -> 0 Done row_lo,row,row_hi,city_lo,city,city_hi~0,1,2,Bergen,Oslo,Oslo~! 
+answer|--points|SELECT id, amount FROM orders WHERE amount > 6|orders=orders.csv -> 0 Done row_lo,row,row_hi,id_lo,id,id_hi,amount_lo,amount,amount_hi~1,1,1,1,1,1,10,10,12~0,1,1,3,3,3,7,7,7~! 
+answer|--points|SELECT k, SUM(x) AS s FROM t GROUP BY k|t=sums.csv -> 4 Overflow ! audb: a number leaves 128 bits~
+guess|--points|SELECT city, SUM(amount) AS s FROM orders GROUP BY city|orders=orders.csv -> 2 Usage(Words) ! audb: usage: audb answer SQL NAME=PATH..~
+direct|--points|SELECT DISTINCT city FROM orders|orders=orders.csv -> 2 Usage(Words) ! audb: usage: audb answer SQL NAME=PATH..~";
+
 // Demonstrations: the least and the greatest words, the same twice, and words that are none.
 const DEMONSTRATIONS: &str = "demo|0|1 -> 0 Done rows 1~least 1~guess 1~most 1~! 
 demo|1|3 -> 0 Done rows 2~least 1~guess 2~most 3~! 
@@ -145,6 +161,8 @@ const LARGE_JOIN: &str = "SELECT a.id FROM a, b WHERE a.id = b.id|a=slices.csv|b
 const GROUPS: &str =
     "SELECT grp, COUNT(*) AS n, SUM(amount) AS total FROM t GROUP BY grp|t=slices.csv";
 
+const POINTS: &str = "--points|SELECT amount, COUNT(*) AS n FROM t GROUP BY amount|t=slices.csv";
+
 // So many workers give the answer of one.
 fn share<R: Abort + Threads + Sync>(rt: &R, alloc: Global, asked: &str) -> Result<(), Fail> {
     let one = format!(in alloc; "answer|{asked}")?;
@@ -166,6 +184,11 @@ fn answers_of_queries(rt: HostRuntime) -> Result<(), Fail> {
 #[test]
 fn forms_of_answers(rt: HostRuntime) -> Result<(), Fail> {
     judge(&rt, rt.alloc(), FORMS)
+}
+
+#[test]
+fn answers_by_points(rt: HostRuntime) -> Result<(), Fail> {
+    judge(&rt, rt.alloc(), BY_POINTS)
 }
 
 #[test]
@@ -200,5 +223,6 @@ fn one_answer_over_slices(rt: HostRuntime) -> Result<(), Fail> {
 fn one_answer_by_all_workers(rt: HostRuntime) -> Result<(), Fail> {
     share(&rt, rt.alloc(), JOIN)?;
     share(&rt, rt.alloc(), LARGE_JOIN)?;
-    share(&rt, rt.alloc(), GROUPS)
+    share(&rt, rt.alloc(), GROUPS)?;
+    share(&rt, rt.alloc(), POINTS)
 }

@@ -37,6 +37,7 @@ workers_step : (word : Text) (words : List Text) → Kind word → IsRead (codes
 workers_step word words (Kind.positional e) ih = let no = positional_named word (codes "-workers") e in rw no ih
 workers_step word words (Kind.table e) ih = rw e ih
 workers_step word words (Kind.combine e) ih = rw e ih
+workers_step word words (Kind.points e) ih = rw e ih
 workers_step word words (Kind.workers value e fits) ih = subst (λ w. IsRead (codes "--workers") 64 (w ∷ words)) (sym e) (found_number 64 value fits)
 workers_step word words (Kind.compress value e fits) ih = subst (λ w. IsRead (codes "--workers") 64 (w ∷ words)) (sym e) ih
 
@@ -44,6 +45,7 @@ compress_step : (word : Text) (words : List Text) → Kind word → IsRead (code
 compress_step word words (Kind.positional e) ih = let no = positional_named word (codes "-compress") e in rw no ih
 compress_step word words (Kind.table e) ih = rw e ih
 compress_step word words (Kind.combine e) ih = rw e ih
+compress_step word words (Kind.points e) ih = rw e ih
 compress_step word words (Kind.workers value e fits) ih = subst (λ w. IsRead (codes "--compress") 1000 (w ∷ words)) (sym e) ih
 compress_step word words (Kind.compress value e fits) ih = subst (λ w. IsRead (codes "--compress") 1000 (w ∷ words)) (sym e) (found_number 1000 value fits)
 

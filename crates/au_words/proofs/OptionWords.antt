@@ -1,4 +1,4 @@
--- The words that may stand behind a command: positional words, and four options.
+-- The words that may stand behind a command: positional words, and five options.
 use Rattle.std.proofs.Common.{◌≡◌, ◌∙◌, ◌+◌, ◌<◌, ◌||◌, ◌==◌, ℕ, Bool, cond, true, false, not, refl, sym, ap, arith, eqb-true, List, [], ◌∷◌, ◌++◌, length, get_or, take, Some, None, codes, suc}
 use Rattle.std.specs.List.{list_all, list_any, position_or_len}
 use Rattle.std.specs.Str.{bytes_eq}
@@ -16,6 +16,7 @@ pub data Kind (word : Text) : Type 0 where
   positional : is_option word ≡ false → Kind word
   table : word ≡ codes "--table" → Kind word
   combine : word ≡ codes "--combine" → Kind word
+  points : word ≡ codes "--points" → Kind word
   workers : (value : Text) → word ≡ codes "--workers=" ++ value → is_number 1 64 value ≡ true → Kind word
   compress : (value : Text) → word ≡ codes "--compress=" ++ value → is_number 1 1000 value ≡ true → Kind word
 
@@ -50,35 +51,37 @@ number_kind name most word h =
     let named : name_part word ≡ name = (bytes_eq-Decides (name_part word) name).0 front.1 in
     (cut_is word front.0 ∙ ap (λ n. n ++ 61 ∷ value_part word) named, parts.1)
 
-any_kind : (word : Text) (a b c d : Bool) → is_written (codes "--table", None) word ≡ a → is_written (codes "--combine", None) word ≡ b
-    → is_written (codes "--workers", Some 64) word ≡ c → is_written (codes "--compress", Some 1000) word ≡ d → (a || (b || (c || (d || false)))) ≡ true → Kind word
-any_kind word true b c d e f g h any = Kind.table ((bytes_eq-Decides word (codes "--table")).0 e)
-any_kind word false true c d e f g h any = Kind.combine ((bytes_eq-Decides word (codes "--combine")).0 f)
-any_kind word false false true d e f g h any = let p = number_kind (codes "--workers") 64 word g in Kind.workers (value_part word) p.0 p.1
-any_kind word false false false true e f g h any = let p = number_kind (codes "--compress") 1000 word h in Kind.compress (value_part word) p.0 p.1
-any_kind word false false false false e f g h any = absurd (true≢false (sym any))
+any_kind : (word : Text) (a b p c d : Bool) → is_written (codes "--table", None) word ≡ a → is_written (codes "--combine", None) word ≡ b → is_written (codes "--points", None) word ≡ p
+    → is_written (codes "--workers", Some 64) word ≡ c → is_written (codes "--compress", Some 1000) word ≡ d → (a || (b || (p || (c || (d || false))))) ≡ true → Kind word
+any_kind word true b p c d e f i g h any = Kind.table ((bytes_eq-Decides word (codes "--table")).0 e)
+any_kind word false true p c d e f i g h any = Kind.combine ((bytes_eq-Decides word (codes "--combine")).0 f)
+any_kind word false false true c d e f i g h any = Kind.points ((bytes_eq-Decides word (codes "--points")).0 i)
+any_kind word false false false true d e f i g h any = let n = number_kind (codes "--workers") 64 word g in Kind.workers (value_part word) n.0 n.1
+any_kind word false false false false true e f i g h any = let n = number_kind (codes "--compress") 1000 word h in Kind.compress (value_part word) n.0 n.1
+any_kind word false false false false false e f i g h any = absurd (true≢false (sym any))
 
 kind_by : (word : Text) (b : Bool) → is_option word ≡ b → (not b || list_any (λ option. is_written option word) all_options) ≡ true → Kind word
 kind_by word false e h = Kind.positional e
-kind_by word true e h = any_kind word _ _ _ _ refl refl refl refl h
+kind_by word true e h = any_kind word _ _ _ _ _ refl refl refl refl refl h
 
 pub kind_of : (word : Text) → is_taken all_options word ≡ true → Kind word
 kind_of word h = kind_by word (is_option word) refl h
 
 -- ---- what a command takes is among all options
 
-wider : (a b c d o : Bool) → (not o || (a || (b || false))) ≡ true → (not o || (a || (b || (c || (d || false))))) ≡ true
-wider a b c d false h = refl
-wider true b c d true h = refl
-wider false true c d true h = refl
-wider false false c d true h = absurd (true≢false (sym h))
+wider : (a b p c d o : Bool) → (not o || (a || (b || false))) ≡ true → (not o || (a || (b || (p || (c || (d || false)))))) ≡ true
+wider a b p c d false h = refl
+wider true b p c d true h = refl
+wider false true p c d true h = refl
+wider false false p c d true h = absurd (true≢false (sym h))
 
-third : (a b c d o : Bool) → (not o || (c || false)) ≡ true → (not o || (a || (b || (c || (d || false))))) ≡ true
-third a b c d false h = refl
-third true b c d true h = refl
-third false true c d true h = refl
-third false false true d true h = refl
-third false false false d true h = absurd (true≢false (sym h))
+fourth : (a b p c d o : Bool) → (not o || (c || false)) ≡ true → (not o || (a || (b || (p || (c || (d || false)))))) ≡ true
+fourth a b p c d false h = refl
+fourth true b p c d true h = refl
+fourth false true p c d true h = refl
+fourth false false true c d true h = refl
+fourth false false false true d true h = refl
+fourth false false false false d true h = absurd (true≢false (sym h))
 
 no_option : (b o : Bool) → (not o || false) ≡ true → (not o || b) ≡ true
 no_option b false h = refl
@@ -90,12 +93,12 @@ any word = list_any (λ option. is_written option word) all_options
 pub taken_widely : (v : Verb) (word : Text) → is_taken (options_of v) word ≡ true → is_taken all_options word ≡ true
 taken_widely (verb.Query Answer) word h = h
 taken_widely (verb.Query Direct) word h =
-    wider (is_written (codes "--table", None) word) (is_written (codes "--combine", None) word) (is_written (codes "--workers", Some 64) word) (is_written (codes "--compress", Some 1000) word) (is_option word) h
+    wider (is_written (codes "--table", None) word) (is_written (codes "--combine", None) word) (is_written (codes "--points", None) word) (is_written (codes "--workers", Some 64) word) (is_written (codes "--compress", Some 1000) word) (is_option word) h
 taken_widely (verb.Query Guess) word h = no_option (any word) (is_option word) h
 taken_widely (verb.Query Ua) word h = no_option (any word) (is_option word) h
 taken_widely (verb.Query Rewrite) word h = no_option (any word) (is_option word) h
 taken_widely verb.Demo word h =
-    third (is_written (codes "--table", None) word) (is_written (codes "--combine", None) word) (is_written (codes "--workers", Some 64) word) (is_written (codes "--compress", Some 1000) word) (is_option word) h
+    fourth (is_written (codes "--table", None) word) (is_written (codes "--combine", None) word) (is_written (codes "--points", None) word) (is_written (codes "--workers", Some 64) word) (is_written (codes "--compress", Some 1000) word) (is_option word) h
 taken_widely verb.Encode word h = no_option (any word) (is_option word) h
 taken_widely verb.Plain word h = no_option (any word) (is_option word) h
 

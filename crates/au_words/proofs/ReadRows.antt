@@ -6,7 +6,7 @@ use Rattle.std.specs.Str.{bytes_eq}
 use Rattle.clap.specs.Walk.{Row, Text, has_row, more_values, used}
 use Rattle.clap.specs.declared.parser.matches.ValueSource.TheVariants.{CommandLine}
 use Rattle.au_words.proofs.RowsById.{added, has_row-at, more_here, more_other, put_at_end, row_at, row_for, set_once, with_more}
-use Rattle.au_words.proofs.WordSteps.{combine, compress, first, later, table, workers}
+use Rattle.au_words.proofs.WordSteps.{combine, compress, first, later, points, table, workers}
 
 abbrev pub flag_found : Text → Bool → Option Row
 flag_found name false = None
@@ -25,10 +25,11 @@ later_found [] = None
 later_found (word ∷ []) = None
 later_found (word ∷ other ∷ words) = Some (row_for (codes "LATER") (other ∷ words))
 
--- which options were given so far: the two that stand alone, and the values of the two others
+-- which options were given so far: the three that stand alone, and the values of the two others
 pub record Given : Type 0 where
   pub table : Bool
   pub combine : Bool
+  pub points : Bool
   pub workers : Option Text
   pub compress : Option Text
 
@@ -36,6 +37,7 @@ pub record Given : Type 0 where
 pub record Reads (rows : List Row) (g : Given) (words : List Text) : Type 0 where
   pub table_row : row_at (codes "table") rows ≡ flag_found (codes "table") g.table
   pub combine_row : row_at (codes "combine") rows ≡ flag_found (codes "combine") g.combine
+  pub points_row : row_at (codes "points") rows ≡ flag_found (codes "points") g.points
   pub workers_row : row_at (codes "workers") rows ≡ value_found (codes "workers") g.workers
   pub compress_row : row_at (codes "compress") rows ≡ value_found (codes "compress") g.compress
   pub first_row : row_at (codes "FIRST") rows ≡ first_found words
@@ -61,6 +63,7 @@ reads_table rows g words new r =
     rw is (record {
       table_row = added (codes "table") rows last None gone;
       combine_row = other (codes "combine") rows last _ refl r.combine_row;
+      points_row = other (codes "points") rows last _ refl r.points_row;
       workers_row = other (codes "workers") rows last _ refl r.workers_row;
       compress_row = other (codes "compress") rows last _ refl r.compress_row;
       first_row = other (codes "FIRST") rows last _ refl r.first_row;
@@ -75,6 +78,22 @@ reads_combine rows g words new r =
     rw is (record {
       table_row = other (codes "table") rows last _ refl r.table_row;
       combine_row = added (codes "combine") rows last None gone;
+      points_row = other (codes "points") rows last _ refl r.points_row;
+      workers_row = other (codes "workers") rows last _ refl r.workers_row;
+      compress_row = other (codes "compress") rows last _ refl r.compress_row;
+      first_row = other (codes "FIRST") rows last _ refl r.first_row;
+      later_row = other (codes "LATER") rows last _ refl r.later_row;
+    })
+
+pub reads_points : (rows : List Row) (g : Given) (words : List Text) → g.points ≡ false → Reads rows g words → Reads (used points [] rows) (record g { points = true }) words
+reads_points rows g words new r =
+    let last = row_for (codes "points") (codes "true" ∷ []) in
+    let gone = r.points_row ∙ ap (flag_found (codes "points")) new in
+    let is : used points [] rows ≡ rows ++ last ∷ [] = set_once (codes "points") (codes "true" ∷ []) rows gone in
+    rw is (record {
+      table_row = other (codes "table") rows last _ refl r.table_row;
+      combine_row = other (codes "combine") rows last _ refl r.combine_row;
+      points_row = added (codes "points") rows last None gone;
       workers_row = other (codes "workers") rows last _ refl r.workers_row;
       compress_row = other (codes "compress") rows last _ refl r.compress_row;
       first_row = other (codes "FIRST") rows last _ refl r.first_row;
@@ -89,6 +108,7 @@ reads_workers rows g words value new r =
     rw is (record {
       table_row = other (codes "table") rows last _ refl r.table_row;
       combine_row = other (codes "combine") rows last _ refl r.combine_row;
+      points_row = other (codes "points") rows last _ refl r.points_row;
       workers_row = added (codes "workers") rows last None gone;
       compress_row = other (codes "compress") rows last _ refl r.compress_row;
       first_row = other (codes "FIRST") rows last _ refl r.first_row;
@@ -103,6 +123,7 @@ reads_compress rows g words value new r =
     rw is (record {
       table_row = other (codes "table") rows last _ refl r.table_row;
       combine_row = other (codes "combine") rows last _ refl r.combine_row;
+      points_row = other (codes "points") rows last _ refl r.points_row;
       workers_row = other (codes "workers") rows last _ refl r.workers_row;
       compress_row = added (codes "compress") rows last None gone;
       first_row = other (codes "FIRST") rows last _ refl r.first_row;
@@ -117,6 +138,7 @@ reads_first rows g word r =
     rw is (record {
       table_row = other (codes "table") rows last _ refl r.table_row;
       combine_row = other (codes "combine") rows last _ refl r.combine_row;
+      points_row = other (codes "points") rows last _ refl r.points_row;
       workers_row = other (codes "workers") rows last _ refl r.workers_row;
       compress_row = other (codes "compress") rows last _ refl r.compress_row;
       first_row = added (codes "FIRST") rows last None r.first_row;
@@ -132,6 +154,7 @@ reads_later rows g front [] word r =
     rw is (record {
       table_row = other (codes "table") rows last _ refl r.table_row;
       combine_row = other (codes "combine") rows last _ refl r.combine_row;
+      points_row = other (codes "points") rows last _ refl r.points_row;
       workers_row = other (codes "workers") rows last _ refl r.workers_row;
       compress_row = other (codes "compress") rows last _ refl r.compress_row;
       first_row = other (codes "FIRST") rows last _ refl r.first_row;
@@ -143,6 +166,7 @@ reads_later rows g front (next ∷ words) word r =
     record {
       table_row = more_other (codes "LATER") (codes "table") (word ∷ []) (last ∷ []) rows refl there ∙ r.table_row;
       combine_row = more_other (codes "LATER") (codes "combine") (word ∷ []) (last ∷ []) rows refl there ∙ r.combine_row;
+      points_row = more_other (codes "LATER") (codes "points") (word ∷ []) (last ∷ []) rows refl there ∙ r.points_row;
       workers_row = more_other (codes "LATER") (codes "workers") (word ∷ []) (last ∷ []) rows refl there ∙ r.workers_row;
       compress_row = more_other (codes "LATER") (codes "compress") (word ∷ []) (last ∷ []) rows refl there ∙ r.compress_row;
       first_row = more_other (codes "LATER") (codes "FIRST") (word ∷ []) (last ∷ []) rows refl there ∙ r.first_row;

@@ -101,11 +101,13 @@ form_walk v name rest form =
     let options = and_parts _ _ (and_parts _ _ form).0 in
     let table = and_parts _ _ options.1 in
     let combine = and_parts _ _ table.1 in
-    let workers = and_parts _ _ combine.1 in
+    let points = and_parts _ _ combine.1 in
+    let workers = and_parts _ _ points.1 in
     let compress = and_parts _ _ workers.1 in
     let once : Once nothing rest = record {
       table = (let few = at_most_one (length (filter (has_name (codes "--table")) rest)) table.0 in omega (arith, few));
       combine = (let few = at_most_one (length (filter (has_name (codes "--combine")) rest)) combine.0 in omega (arith, few));
+      points = (let few = at_most_one (length (filter (has_name (codes "--points")) rest)) points.0 in omega (arith, few));
       workers = (let few = at_most_one (length (filter (has_name (codes "--workers")) rest)) workers.0 in omega (arith, few));
       compress = (let few = at_most_one (length (filter (has_name (codes "--compress")) rest)) compress.0 in omega (arith, few));
     } in

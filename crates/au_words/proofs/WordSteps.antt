@@ -19,6 +19,9 @@ table = filled (flag (codes "table"))
 abbrev pub combine : Rule
 combine = filled (flag (codes "combine"))
 
+abbrev pub points : Rule
+points = filled (flag (codes "points"))
+
 abbrev pub workers : Rule
 workers = filled (valued (codes "workers"))
 
@@ -32,7 +35,7 @@ abbrev pub later : Rule
 later = with_index 2 (filled later_rule)
 
 abbrev pub rules : List Rule
-rules = table ∷ combine ∷ workers ∷ compress ∷ first ∷ later ∷ []
+rules = table ∷ combine ∷ points ∷ workers ∷ compress ∷ first ∷ later ∷ []
 
 pub line_rules : (name : Text) → (line name).rules ≡ rules
 line_rules name = refl
@@ -93,6 +96,12 @@ unfolding walked
 walks_combine true position rows pending = refl
 walks_combine false position rows pending = refl
 
+pub walks_points : (several : Bool) (position : ℕ) (rows : List Row) (pending : Option (Text × List Text))
+    → walked rules [] (state several position rows pending) (codes "--points") ≡ state false position (used points [] (settled_rows rules pending rows)) None
+unfolding walked
+walks_points true position rows pending = refl
+walks_points false position rows pending = refl
+
 pub walks_workers : (several : Bool) (position : ℕ) (rows : List Row) (pending : Option (Text × List Text)) (value : Text)
     → walked rules [] (state several position rows pending) (codes "--workers=" ++ value) ≡ state false position (used workers (value ∷ []) (settled_rows rules pending rows)) None
 unfolding walked
@@ -131,6 +140,12 @@ pub passes_combine : (several : Bool) (position : ℕ) (name : Text) (rows : Lis
     → turn_passes (line name) [] (state several position rows pending) (codes "--combine") ≡ true
 passes_combine true position name rows pending e f = rw (e, f) refl
 passes_combine false position name rows pending e f = rw (e, f) refl
+
+pub passes_points : (several : Bool) (position : ℕ) (name : Text) (rows : List Row) (pending : Option (Text × List Text))
+    → settle_passes rules false (held rows pending) ≡ true → has_row (codes "points") (settled_rows rules pending rows) ≡ false
+    → turn_passes (line name) [] (state several position rows pending) (codes "--points") ≡ true
+passes_points true position name rows pending e f = rw (e, f) refl
+passes_points false position name rows pending e f = rw (e, f) refl
 
 pub passes_workers : (several : Bool) (position : ℕ) (name : Text) (rows : List Row) (pending : Option (Text × List Text)) (value : Text)
     → settle_passes rules false (held rows pending) ≡ true → has_row (codes "workers") (settled_rows rules pending rows) ≡ false

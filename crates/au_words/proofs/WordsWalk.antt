@@ -9,8 +9,8 @@ use Rattle.clap.specs.Walk.{Row, Text, Walk, settled_rows, used, walked}
 use Rattle.clap.specs.Takes.{settle_passes, turn_passes, walk_passes}
 use Rattle.au_words.specs.Words.{all_options, has_name, is_option, is_taken, positionals, option_value}
 use Rattle.au_words.proofs.OptionWords.{Kind, kind_of, positional_differs, positional_named}
-use Rattle.au_words.proofs.WordSteps.{combine, compress, held, line, line_rules, passes_combine, passes_compress, passes_first, passes_later, passes_table, passes_workers, rules, settled_first, settled_later, settles_first, settles_later, state, table, walks_combine, walks_compress, walks_first, walks_later, walks_table, walks_workers, workers}
-use Rattle.au_words.proofs.ReadRows.{Given, Reads, flag_found, missing, reads_combine, reads_compress, reads_first, reads_later, reads_table, reads_workers, value_found}
+use Rattle.au_words.proofs.WordSteps.{combine, compress, held, line, line_rules, passes_combine, passes_compress, passes_first, passes_later, passes_points, passes_table, passes_workers, points, rules, settled_first, settled_later, settles_first, settles_later, state, table, walks_combine, walks_compress, walks_first, walks_later, walks_points, walks_table, walks_workers, workers}
+use Rattle.au_words.proofs.ReadRows.{Given, Reads, flag_found, missing, reads_combine, reads_compress, reads_first, reads_later, reads_points, reads_table, reads_workers, value_found}
 
 -- ---- where the walk stands after some words
 
@@ -80,6 +80,7 @@ once seen name words = cond seen 1 0 + length (filter (has_name name) words) ≤
 pub record Once (g : Given) (words : List Text) : Type 0 where
   pub table : once g.table (codes "--table") words
   pub combine : once g.combine (codes "--combine") words
+  pub points : once g.points (codes "--points") words
   pub workers : once (is_some g.workers) (codes "--workers") words
   pub compress : once (is_some g.compress) (codes "--compress") words
 
@@ -88,6 +89,7 @@ abbrev pub given_by : Given → List Text → Given
 given_by g words = record {
   table = g.table || list_any (bytes_eq (codes "--table")) words;
   combine = g.combine || list_any (bytes_eq (codes "--combine")) words;
+  points = g.points || list_any (bytes_eq (codes "--points")) words;
   workers = option_or g.workers (option_value (codes "--workers") words);
   compress = option_or g.compress (option_value (codes "--compress") words);
 }
@@ -104,17 +106,19 @@ module _ (name word : Text) (words : List Text) (e : is_option word ≡ false) (
   others_once g o =
       let table = positional_named word (codes "-table") e in
       let combine = positional_named word (codes "-combine") e in
+      let points = positional_named word (codes "-points") e in
       let workers = positional_named word (codes "-workers") e in
       let compress = positional_named word (codes "-compress") e in
-      record { table = rw table at o.table; combine = rw combine at o.combine; workers = rw workers at o.workers; compress = rw compress at o.compress }
+      record { table = rw table at o.table; combine = rw combine at o.combine; points = rw points at o.points; workers = rw workers at o.workers; compress = rw compress at o.compress }
 
   others_given : (g : Given) → given_by g (word ∷ words) ≡ given_by g words
   others_given g =
       let table = positional_differs word (codes "--table") refl e in
       let combine = positional_differs word (codes "--combine") refl e in
+      let points = positional_differs word (codes "--points") refl e in
       let workers = positional_named word (codes "-workers") e in
       let compress = positional_named word (codes "-compress") e in
-      rw (table, combine, workers, compress) refl
+      rw (table, combine, points, workers, compress) refl
 
   positional_in_front : Walks name (word ∷ words)
   positional_in_front several rows pending g [] s o =
@@ -141,7 +145,7 @@ module _ (name : Text) (words : List Text) (ih : Walks name words) where
       let new = new_flag g.table (length (filter (has_name (codes "--table")) words)) o.table in
       let with_it : Given = record g { table = true } in
       let stands : Stands (used table [] now) None with_it read = record { settles = refl; reads = reads_table now g read new.0 s.reads } in
-      let next = ih false (used table [] now) None with_it read stands (record { table = omega (arith, new.1); combine = o.combine; workers = o.workers; compress = o.compress }) in
+      let next = ih false (used table [] now) None with_it read stands (record { table = omega (arith, new.1); combine = o.combine; points = o.points; workers = o.workers; compress = o.compress }) in
       let same : given_by g (codes "--table" ∷ words) ≡ given_by with_it words = rw new.0 refl in
       rw same (in_front name _ _ (codes "--table") words _ _ (passes_table several (place_of read) name rows pending s.settles (missing (codes "table") now (s.reads.table_row ∙ ap (flag_found (codes "table")) new.0))) (walks_table several (place_of read) rows pending) next)
 
@@ -151,9 +155,19 @@ module _ (name : Text) (words : List Text) (ih : Walks name words) where
       let new = new_flag g.combine (length (filter (has_name (codes "--combine")) words)) o.combine in
       let with_it : Given = record g { combine = true } in
       let stands : Stands (used combine [] now) None with_it read = record { settles = refl; reads = reads_combine now g read new.0 s.reads } in
-      let next = ih false (used combine [] now) None with_it read stands (record { table = o.table; combine = omega (arith, new.1); workers = o.workers; compress = o.compress }) in
+      let next = ih false (used combine [] now) None with_it read stands (record { table = o.table; combine = omega (arith, new.1); points = o.points; workers = o.workers; compress = o.compress }) in
       let same : given_by g (codes "--combine" ∷ words) ≡ given_by with_it words = rw new.0 refl in
       rw same (in_front name _ _ (codes "--combine") words _ _ (passes_combine several (place_of read) name rows pending s.settles (missing (codes "combine") now (s.reads.combine_row ∙ ap (flag_found (codes "combine")) new.0))) (walks_combine several (place_of read) rows pending) next)
+
+  points_in_front : Walks name (codes "--points" ∷ words)
+  points_in_front several rows pending g read s o =
+      let now = settled_rows rules pending rows in
+      let new = new_flag g.points (length (filter (has_name (codes "--points")) words)) o.points in
+      let with_it : Given = record g { points = true } in
+      let stands : Stands (used points [] now) None with_it read = record { settles = refl; reads = reads_points now g read new.0 s.reads } in
+      let next = ih false (used points [] now) None with_it read stands (record { table = o.table; combine = o.combine; points = omega (arith, new.1); workers = o.workers; compress = o.compress }) in
+      let same : given_by g (codes "--points" ∷ words) ≡ given_by with_it words = rw new.0 refl in
+      rw same (in_front name _ _ (codes "--points") words _ _ (passes_points several (place_of read) name rows pending s.settles (missing (codes "points") now (s.reads.points_row ∙ ap (flag_found (codes "points")) new.0))) (walks_points several (place_of read) rows pending) next)
 
   workers_in_front : (value : Text) → Walks name ((codes "--workers=" ++ value) ∷ words)
   workers_in_front value several rows pending g read s o =
@@ -161,7 +175,7 @@ module _ (name : Text) (words : List Text) (ih : Walks name words) where
       let new = new_value g.workers (length (filter (has_name (codes "--workers")) words)) o.workers in
       let with_it : Given = record g { workers = Some value } in
       let stands : Stands (used workers (value ∷ []) now) None with_it read = record { settles = refl; reads = reads_workers now g read value new.0 s.reads } in
-      let next = ih false (used workers (value ∷ []) now) None with_it read stands (record { table = o.table; combine = o.combine; workers = omega (arith, new.1); compress = o.compress }) in
+      let next = ih false (used workers (value ∷ []) now) None with_it read stands (record { table = o.table; combine = o.combine; points = o.points; workers = omega (arith, new.1); compress = o.compress }) in
       let same : given_by g ((codes "--workers=" ++ value) ∷ words) ≡ given_by with_it words = rw new.0 refl in
       rw same (in_front name _ _ (codes "--workers=" ++ value) words _ _ (passes_workers several (place_of read) name rows pending value s.settles (missing (codes "workers") now (s.reads.workers_row ∙ ap (value_found (codes "workers")) new.0))) (walks_workers several (place_of read) rows pending value) next)
 
@@ -171,7 +185,7 @@ module _ (name : Text) (words : List Text) (ih : Walks name words) where
       let new = new_value g.compress (length (filter (has_name (codes "--compress")) words)) o.compress in
       let with_it : Given = record g { compress = Some value } in
       let stands : Stands (used compress (value ∷ []) now) None with_it read = record { settles = refl; reads = reads_compress now g read value new.0 s.reads } in
-      let next = ih false (used compress (value ∷ []) now) None with_it read stands (record { table = o.table; combine = o.combine; workers = o.workers; compress = omega (arith, new.1) }) in
+      let next = ih false (used compress (value ∷ []) now) None with_it read stands (record { table = o.table; combine = o.combine; points = o.points; workers = o.workers; compress = omega (arith, new.1) }) in
       let same : given_by g ((codes "--compress=" ++ value) ∷ words) ≡ given_by with_it words = rw new.0 refl in
       rw same (in_front name _ _ (codes "--compress=" ++ value) words _ _ (passes_compress several (place_of read) name rows pending value s.settles (missing (codes "compress") now (s.reads.compress_row ∙ ap (value_found (codes "compress")) new.0))) (walks_compress several (place_of read) rows pending value) next)
 
@@ -179,6 +193,7 @@ word_in_front : (name : Text) (word : Text) (words : List Text) → Kind word �
 word_in_front name word words (Kind.positional e) ih = positional_in_front name word words e ih
 word_in_front name word words (Kind.table e) ih = subst (λ x. Walks name (x ∷ words)) (sym e) (table_in_front name words ih)
 word_in_front name word words (Kind.combine e) ih = subst (λ x. Walks name (x ∷ words)) (sym e) (combine_in_front name words ih)
+word_in_front name word words (Kind.points e) ih = subst (λ x. Walks name (x ∷ words)) (sym e) (points_in_front name words ih)
 word_in_front name word words (Kind.workers value e fits) ih = subst (λ x. Walks name (x ∷ words)) (sym e) (workers_in_front name words ih value)
 word_in_front name word words (Kind.compress value e fits) ih = subst (λ x. Walks name (x ∷ words)) (sym e) (compress_in_front name words ih value)
 
@@ -192,7 +207,7 @@ or_none (Some v) = refl
 
 no_words : (name : Text) → Walks name []
 no_words name several rows pending g read s o =
-    let same : given_by g [] ≡ g = rw (or_false g.table, or_false g.combine, or_none g.workers, or_none g.compress) refl in
+    let same : given_by g [] ≡ g = rw (or_false g.table, or_false g.combine, or_false g.points, or_none g.workers, or_none g.compress) refl in
     rw (same, append-nil read) (at_end several name rows pending g read s)
 
 pub walks : (name : Text) (words : List Text) → list_all (is_taken all_options) words ≡ true → Walks name words
@@ -201,11 +216,11 @@ walks name (word ∷ words) all = let parts = and_parts _ _ all in word_in_front
 
 -- nothing is given before the words
 abbrev pub nothing : Given
-nothing = record { table = false; combine = false; workers = None; compress = None }
+nothing = record { table = false; combine = false; points = false; workers = None; compress = None }
 
 -- from the start
 pub whole_walk : (name : Text) (words : List Text) → list_all (is_taken all_options) words ≡ true → Once nothing words
     → Ends name (state false 1 [] None) words (given_by nothing words) (positionals words)
 whole_walk name words all o =
     walks name words all false [] None nothing []
-    (record { settles = refl; reads = record { table_row = refl; combine_row = refl; workers_row = refl; compress_row = refl; first_row = refl; later_row = refl } }) o
+    (record { settles = refl; reads = record { table_row = refl; combine_row = refl; points_row = refl; workers_row = refl; compress_row = refl; first_row = refl; later_row = refl } }) o

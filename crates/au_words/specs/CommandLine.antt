@@ -37,6 +37,7 @@ seen_request r = record {
   command = r.command;
   form = r.form;
   combine = r.combine;
+  points = r.points;
   workers = r.workers;
   compress = r.compress;
   query = r.query.now;
@@ -85,7 +86,7 @@ later_rule = repeated (codes "LATER")
 -- the words of each command: all options, and positional words
 abbrev pub command_line : Text → App
 command_line name =
-    let flags = with_rule (with_rule (new_app name) (flag (codes "table"))) (flag (codes "combine")) in
+    let flags = with_rule (with_rule (with_rule (new_app name) (flag (codes "table"))) (flag (codes "combine"))) (flag (codes "points")) in
     let options = with_rule (with_rule flags (valued (codes "workers"))) (valued (codes "compress")) in
     with_rule (with_rule options first_rule) later_rule
 
@@ -117,6 +118,7 @@ IsFlag text given = text ≡ Some (bool_text given)
 pub record HasWords (rest : List Text) (rows : List Row) : Type 0 where
   pub table : IsFlag (one_of (codes "table") rows) (list_any (bytes_eq (codes "--table")) rest)
   pub combine : IsFlag (one_of (codes "combine") rows) (list_any (bytes_eq (codes "--combine")) rest)
+  pub points : IsFlag (one_of (codes "points") rows) (list_any (bytes_eq (codes "--points")) rest)
   pub workers : first_of (codes "workers") rows ≡ option_value (codes "--workers") rest
   pub compress : first_of (codes "compress") rows ≡ option_value (codes "--compress") rest
   pub first : first_of (codes "FIRST") rows ≡ Some (first_word rest)

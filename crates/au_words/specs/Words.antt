@@ -67,7 +67,7 @@ abbrev pub is_taken : List OptionWord → Text → Bool
 is_taken taken word = not (is_option word) || list_any (λ option. is_written option word) taken
 
 abbrev pub all_options : List OptionWord
-all_options = (codes "--table", None) ∷ (codes "--combine", None) ∷ (codes "--workers", Some greatest_workers) ∷ (codes "--compress", Some 1000) ∷ []
+all_options = (codes "--table", None) ∷ (codes "--combine", None) ∷ (codes "--points", None) ∷ (codes "--workers", Some greatest_workers) ∷ (codes "--compress", Some 1000) ∷ []
 
 -- whether the options are among these, each at most once
 abbrev pub are_options : List OptionWord → List Text → Bool
@@ -120,6 +120,7 @@ pub record Request : Type 0 where
   pub command : Command
   pub form : Form
   pub combine : Bool
+  pub points : Bool
   pub workers : ℕ
   pub compress : Option ℕ
   pub query : Text
@@ -179,6 +180,7 @@ request_of command words = record {
   command = command;
   form = form_asked (list_any (bytes_eq (codes "--table")) words);
   combine = list_any (bytes_eq (codes "--combine")) words;
+  points = list_any (bytes_eq (codes "--points")) words;
   workers = unwrap_or (number_of (codes "--workers") words) 1;
   compress = number_of (codes "--compress") words;
   query = first_word words;

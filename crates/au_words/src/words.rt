@@ -58,6 +58,9 @@ pub struct Request<'a> {
     /// Whether the rows of the answer are combined.
     pub combine: bool,
 
+    /// Whether rows are grouped by points.
+    pub points: bool,
+
     /// How many workers share the work, 1 to 64.
     pub workers: usize,
 

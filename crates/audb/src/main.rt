@@ -1,10 +1,7 @@
 //! The command `audb`: SQL over uncertain tables, answered with bounds.
 #![tactic(auto)]
 
-use au_cli::{Outcome, UsageFault, fault_line, run};
-use au_io::{RealShelf, RealSink, Sink};
-use au_par::NoGate;
-use au_value::Word;
+use au_cli::{NoGate, Outcome, RealShelf, RealSink, Sink, UsageFault, Word, fault_line, run};
 use std::process::ExitCode;
 use std::thread::{Builder, Threads};
 use std::{env, io};

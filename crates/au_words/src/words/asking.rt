@@ -53,6 +53,7 @@ fn read_query<'a>(
     };
     let form = form_asked(has_flag(&matches, "table"));
     let combine = has_flag(&matches, "combine");
+    let points = has_flag(&matches, "points");
     let workers = workers_at(&matches);
     let compress = number_at(&matches, "compress", MAX_COMPRESS);
     let query = text_at(&matches, "FIRST");
@@ -61,6 +62,7 @@ fn read_query<'a>(
             command,
             form,
             combine,
+            points,
             workers,
             compress,
             query,

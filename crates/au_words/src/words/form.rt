@@ -79,6 +79,7 @@ fn is_own_option(verb: Verb, word: &str) -> bool
     match verb {
         Verb::Query(Command::Answer) => {
             is_flag(word)
+                || word == "--points"
                 || is_numbered("--workers", MAX_WORKERS, word)
                 || is_numbered("--compress", MAX_COMPRESS, word)
         }
@@ -131,6 +132,7 @@ fn are_once(words: &[&str]) -> bool
 {
     is_once("--table", words)
         && is_once("--combine", words)
+        && is_once("--points", words)
         && is_once("--workers", words)
         && is_once("--compress", words)
 }

@@ -53,6 +53,7 @@ fn command_line<'a>(alloc: Global, name: &'a str) -> Result<clap::Command<'a>, A
     clap::Command::new(alloc, name)
         .arg(flag(alloc, "table"))?
         .arg(flag(alloc, "combine"))?
+        .arg(flag(alloc, "points"))?
         .arg(valued(alloc, "workers"))?
         .arg(valued(alloc, "compress"))?
         .arg(positional(alloc, "FIRST"))?

@@ -10,6 +10,9 @@ decreases-staged g l = 3 * tree_size (tree l.query.now)
 abbrev pub decreases-apart : goal.decreases-apart
 decreases-apart g l = 3 * tree_size (tree l.query.now) + 1
 
+abbrev pub decreases-deduplicated : goal.decreases-deduplicated
+decreases-deduplicated g l = 3 * tree_size (tree l.of.now) + 2
+
 abbrev pub decreases-paired : goal.decreases-paired
 decreases-paired g l = 3 * (tree_size (tree l.left.now) + tree_size (tree l.right.now)) + 2
 

@@ -1,7 +1,7 @@
 -- The table stands at the place that the tree names.
 use Rattle.std.proofs.Common.{sym}
 use Rattle.au_engine.proofs.TableRelations.{table_at}
-use Rattle.au_engine.proofs.slicing.table_by_row.Goals as goal
+use Rattle.au_engine.proofs.row_queries.table_by_row.Goals as goal
 
 pub returns-in-Some-get : goal.returns-in-Some-get
 returns-in-Some-get c =

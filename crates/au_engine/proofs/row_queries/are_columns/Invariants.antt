@@ -2,7 +2,7 @@
 use Rattle.std.proofs.Common.{◌≡◌, drop, length, map}
 use Rattle.au_expr.specs.Terms.{term}
 use Rattle.au_engine.specs.Scans.{columns_from}
-use Rattle.au_engine.proofs.slicing.are_columns.Given as goal
+use Rattle.au_engine.proofs.row_queries.are_columns.Given as goal
 
 abbrev pub invariant-loop-place : goal.invariant-loop-place
 invariant-loop-place l =
