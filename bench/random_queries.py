@@ -128,8 +128,13 @@ class Maker:
         if depth > 0 and self.chance(0.25):
             left, columns = self.query(tables, kinds, depth - 1)
             right, _ = self.query(tables, [kind for _, kind in columns], depth - 1)
-            return f"{left} {self.pick(('UNION', 'UNION ALL', 'EXCEPT', 'EXCEPT ALL'))} {right}", columns
+            return self.combined(left, self.pick(("UNION", "UNION ALL", "EXCEPT", "EXCEPT ALL")), right, columns), columns
         return self.select(tables, kinds, depth)
+
+    @staticmethod
+    def combined(left, word, right, _columns):
+        """Returns the query of two queries of these columns with a set word between them."""
+        return f"{left} {word} {right}"
 
     def select(self, tables, kinds, depth):
         """Returns a SELECT with its columns."""

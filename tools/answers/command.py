@@ -51,6 +51,8 @@ def parser_of_words():
     parser.add_argument("--limit", type=number(0, 10**18), metavar="N", help="show the first N rows")
     parser.add_argument("--only", choices=MARKS, help="show the rows of one mark: certain, expected, or (only) possible")
     parser.add_argument("--combine", action="store_true", help="one row for each guess, as audb answer --combine")
+    parser.add_argument("--points", action="store_true",
+                        help="narrow groups where keys are unsure, with rows for other keys, as audb answer --points")
     parser.add_argument("--workers", type=number(1, 64), metavar="N", help="the threads that audb takes, 1 to 64")
     parser.add_argument("--compress", type=number(1, 1000), metavar="N",
                         help="answer wide joins by N rows a side, as audb answer --compress=N")
@@ -106,7 +108,8 @@ class Asking:
         """The words of audb for this question's options."""
         numbers = [f"--{name}={value}" for name in ("workers", "compress")
                    for value in [getattr(self.options, name)] if value is not None]
-        return ["--combine"] * self.options.combine + numbers
+        flags = [f"--{name}" for name in ("combine", "points") if getattr(self.options, name)]
+        return flags + numbers
 
     def run(self, *words):
         """Runs audb on a query, which stands second of these words. One that begins with a hyphen gets a blank before it."""

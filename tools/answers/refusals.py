@@ -246,7 +246,7 @@ def not_text(table, number):
     at = next((at for at, field in enumerate(record.fields) if ESCAPED.search(field)), 0)
     names = [*LEADS[0][:table.lead], *table.names()]
     column = f", column {names[at]}" if number and at < len(names) else ""
-    return f"{record}{column}: {short(record.fields[at])} is not UTF-8; save the file as UTF-8"
+    return f"{record}{column}: {short(record.fields[at])} is not UTF-8; save the file as UTF-8, or let blocks convert --encoding read it"
 
 
 def absent_with_values(table, number):
