@@ -5,15 +5,17 @@ Usage: tools/audb_test.py [TEST..]
 The last line is unittest's own.
 """
 import os
-import shutil
 import signal
 import subprocess
 import sys
-import tempfile
 import time
 import unittest
 
-SCRIPT = os.path.join(os.path.dirname(os.path.dirname(os.path.abspath(__file__))), "audb")
+sys.dont_write_bytecode = True
+
+from small_repository import CRATES, TOP, SmallRepository, read, write
+
+SCRIPT = f"{TOP}/audb"
 # What the script reads of `rt ci`: the folders out/ of the crates that were begun, its lines, and the program. Where a crate
 # isn't proved it goes on with others.
 TOOLCHAIN = """#!/bin/sh
@@ -47,49 +49,18 @@ chmod +x crates/audb/out/audb
 """
 # The program tells its words and the folder that it is run in, and ends with a status of its own.
 PROGRAM = '#!/bin/sh\necho "$# words: $*, in $(pwd)"\nexit 3\n'
-CRATES = """# Each crate, and what it stands on.
-high: low middle
-low: num_traits
-middle: low
-audb: high
-beside: low
-"""
 
 
-def write(path, text):
-    os.makedirs(os.path.dirname(path), exist_ok=True)
-    with open(path, "w", encoding="utf-8") as file:
-        file.write(text)
+class FirstRun(SmallRepository):
+    toolchain, script = TOOLCHAIN, "audb"
 
-
-def read(path):
-    with open(path, encoding="utf-8") as file:
-        return file.read()
-
-
-class FirstRun(unittest.TestCase):
     def setUp(self):
-        self.room = tempfile.mkdtemp()
-        self.addCleanup(shutil.rmtree, self.room)
-        self.kit = f"{self.room}/kit/bin"
-        self.make_toolchain(TOOLCHAIN)
+        super().setUp()
         self.make_repository(f"{self.room}/clone")
 
-    def make_toolchain(self, text):
-        write(f"{self.kit}/rt", text)
-        os.chmod(f"{self.kit}/rt", 0o755)
-
     def make_repository(self, top):
-        self.top = top
-        write(f"{top}/crates.txt", CRATES)
-        write(f"{top}/HANDLES", "Handles allowed: Threads.\n")
-        for crate in ("low", "middle", "high", "beside"):
-            write(f"{top}/crates/{crate}/src/lib.rt", f"// {crate}\n")
-            write(f"{top}/crates/{crate}/specs/Lib.antt", f"-- {crate}\n")
-            write(f"{top}/crates/{crate}/must-fail/wrong.edit", "file: src/lib.rt\n")
+        super().make_repository(top)
         write(f"{top}/crates/audb/src/main.rt", PROGRAM)
-        write(f"{top}/crates/audb/data/orders.csv", "id:int\n")
-        shutil.copy(SCRIPT, f"{top}/audb")
 
     def start(self, words, folder=None, path=None, script=None):
         env = {**os.environ, "PATH": f"{self.kit}:/usr/bin:/bin" if path is None else path, "TMPDIR": self.room}
