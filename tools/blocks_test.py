@@ -341,6 +341,8 @@ class Decimals(Cases):
                    "_block,_role,id:int,p:dec2\n1,guess,1,0.50\n1,alt,1,0.00\n1,alt,1,1.00\n")
         self.refuses("impute a.csv --column p --range 0 1.5", {"a.csv": "id,p:int\n1,\n2,3\n"},
                      "a.csv: column p is int, and --range has another kind")
+        self.refuses("impute a.csv --column p --range 0 9", {"a.csv": "id,p:text\n1,\n2,3\n"},
+                     "a.csv: column p is text, and --range has another kind; leave :text out of the header")
 
     def test_a_second_pass_multiplies_nothing(self):
         words = "error - --column p --above 0 --decimals p=3"

@@ -12,7 +12,7 @@ class Files(Cases):
         block = "_block,_role,a:int\n"
         for text, line in (
                 (b"", "no header; the file is empty"),
-                (b"a,b\n1,x\n2,\xe5\n", "record 2 (line 3), column b: '\ufffd' is not UTF-8; save the file as UTF-8"),
+                (b"a,b\n1,x\n2,\xe5\n", "record 2 (line 3), column b: '\ufffd' is not UTF-8; save the file as UTF-8, or let blocks convert --encoding read it"),
                 (",".join(f"c{n}" for n in range(65)) + "\n", "65 columns; a table has at most 64"),
                 ("n" * 129 + "\n", f"record 0 (line 1), column '{'n' * 37}...': a name of more than 128 bytes"),
                 ("a,b,A\n", "record 0 (line 1): columns 1 and 3 have the name 'A', capitals or not"),

@@ -91,3 +91,5 @@ class Listing(Cases):
         plain = ask([query, WORDS[0]]).out
         self.assertEqual(ask(["--combine", query, WORDS[0]]).out.count("\n"), plain.count("\n") - 1)
         self.assertEqual(ask(["--workers", "2", "--compress", "1", query, WORDS[0]]).out, plain)
+        sums = "SELECT city, SUM(amount) AS s FROM orders GROUP BY city"
+        self.assertEqual(ask(["--points", sums, WORDS[0]]).out.count("\n"), ask([sums, WORDS[0]]).out.count("\n") + 1)

@@ -119,7 +119,8 @@ def chooser_from_range(table, at, options, missing, warnings):
         if row.cells[at] not in missing and most_digits([row.cells[at]]) is None:
             raise row.refusal(name, no_number(row.cells[at]))
     if kind is None:
-        raise Refusal(f"{shown(table.path)}: column {name} is {table.kinds[at]}, and --range has another kind")
+        cure = "; leave :text out of the header" if table.kinds[at] == "text" else ""
+        raise Refusal(f"{shown(table.path)}: column {name} is {table.kinds[at]}, and --range has another kind{cure}")
     respell(table, at, kind, missing)
     digits = digits_of(kind)
     low, high = (span_of(word, digits)[0] for word in words)
