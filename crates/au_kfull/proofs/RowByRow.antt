@@ -1,5 +1,5 @@
 -- A loop over rows: the row at hand, and those that are left.
-use Rattle.std.specs.Prelude.{◌≡◌, ℕ, ◌+◌, ◌<◌, List, [], ◌∷◌, ◌++◌, length, drop}
+use Rattle.std.specs.Prelude.{◌≡◌, ℕ, ◌+◌, ◌<◌, List, ◌∷◌, length, drop}
 use Rattle.std.specs.List.{AllByRecursion}
 use Rattle.std.proofs.Common.{get_or, sym, ◌∙◌, subst, add-one, drop-cons}
 use Rattle.au_value.specs.declared.kinds.Kind.{Kind}
@@ -13,8 +13,3 @@ split_at xs i x h e = drop-cons xs i x h ∙ (λ j. sym e j ∷ drop (sym (add-o
 -- the kinds of the row at hand, and of those that are left
 pub kinds_at : (ks : List Kind) (rows : Bounded) (i : ℕ) (r : RangeRow) → i < length rows → r ≡ get_or rows i r → HasKinds ks (drop i rows) → (kinds r.cells ≡ ks) × HasKinds ks (drop (i + 1) rows)
 kinds_at ks rows i r h e k = let both : HasKinds ks (r ∷ drop (i + 1) rows) = subst (HasKinds ks) (split_at rows i r h e) k in (both.0, both.1)
-
--- one item behind the others
-pub all_put : {A : Type 0} (P : A → Type 0) (xs : List A) (x : A) → AllByRecursion P xs → P x → AllByRecursion P (xs ++ x ∷ [])
-all_put P [] x h p = (p, tt)
-all_put P (y ∷ xs) x h p = (h.0, all_put P xs x h.1 p)
