@@ -219,7 +219,11 @@ fn judge_batches(
 }
 
 const CHOSEN: &str =
-    "SELECT x.c0 AS c0, x.c1 AS c1, x.c2 AS c2, x.c3 AS c3, x.c4 AS c4, x.c5 AS c5, y.c0 AS c6, y.c1 AS c7, y.c2 AS c8, y.c3 AS c9, y.c4 AS c10, y.c5 AS c11 FROM (SELECT c0, c1, c2, c3, c4, c5 FROM t0) x, (SELECT c0, c1, c2, c3, c4, c5 FROM t1) y WHERE ((((TRUE AND (x.c3 <= y.c2)) AND (x.c0 <= y.c2)) AND (y.c0 <= x.c2)) AND (y.c3 <= x.c5)) -> overlap Bounds { left_lo: 0, left_hi: 2, right_lo: 0, right_hi: 2 }(t0, t1)
+    "SELECT x.c0 AS c0, x.c1 AS c1, x.c2 AS c2, x.c3 AS c3, x.c4 AS c4, x.c5 AS c5, \
+     y.c0 AS c6, y.c1 AS c7, y.c2 AS c8, y.c3 AS c9, y.c4 AS c10, y.c5 AS c11 \
+     FROM (SELECT c0, c1, c2, c3, c4, c5 FROM t0) x, (SELECT c0, c1, c2, c3, c4, c5 FROM t1) y \
+     WHERE ((((TRUE AND (x.c3 <= y.c2)) AND (x.c0 <= y.c2)) AND (y.c0 <= x.c2)) AND (y.c3 <= x.c5)) \
+     -> overlap Bounds { left_lo: 0, left_hi: 2, right_lo: 0, right_hi: 2 }(t0, t1)
 SELECT x.c0 AS c0, x.c1 AS c1, x.c2 AS c2, x.c3 AS c3, x.c4 AS c4, x.c5 AS c5, y.c0 AS c6, y.c1 AS c7, y.c2 AS c8, y.c3 AS c9, y.c4 AS c10, y.c5 AS c11 FROM (SELECT c0, c1, c2, c3, c4, c5 FROM t0) x, (SELECT c0, c1, c2, c3, c4, c5 FROM t1) y WHERE (((((TRUE AND (x.c0 <= y.c2)) AND (y.c0 <= x.c2)) AND (y.c3 = x.c3)) AND (x.c0 = x.c3)) AND (x.c1 = y.c1)) -> hash [(3, 3), (1, 1)](filter(t0), t1)
 SELECT x.c0 AS c0, x.c1 AS c1, x.c2 AS c2, x.c3 AS c3, x.c4 AS c4, x.c5 AS c5, y.c0 AS c6, y.c1 AS c7, y.c2 AS c8, y.c3 AS c9, y.c4 AS c10, y.c5 AS c11 FROM (SELECT c0, c1, c2, c3, c4, c5 FROM t0) x, (SELECT c0, c1, c2, c3, c4, c5 FROM t1) y WHERE ((TRUE AND (x.c0 <= y.c2)) AND (y.c0 < x.c2)) -> nested(t0, t1)
 SELECT c0 AS c0 FROM (SELECT c0 AS c0, c2 AS c1 FROM (SELECT x.*, (c0 + 1) AS c2 FROM (SELECT c0, c1 FROM t0) x) x) x -> keep [0](t0)
@@ -251,12 +255,18 @@ SELECT x.c0 AS c0, x.c1 AS c1, x.c2 AS c2, y.c0 AS c3, y.c1 AS c4, y.c2 AS c5 FR
 SELECT x.c0 AS c0, x.c1 AS c1, x.c2 AS c2, y.c0 AS c3, y.c1 AS c4, y.c2 AS c5, y.c3 AS c6 FROM (SELECT c0, c1, c2 FROM t0) x, (SELECT x.*, c0 AS c3 FROM (SELECT c0, c1, c2 FROM t0) x) y WHERE ((x.c0 = y.c0) AND (x.c0 = y.c3)) | 1 a true; 2 b true -> 1 a true 1 a true 1 ; 2 b true 2 b true 2 ; 
 SELECT x.c0 AS c0, x.c1 AS c1, x.c2 AS c2, y.c0 AS c3, y.c1 AS c4, y.c2 AS c5 FROM (SELECT c0, c1, c2 FROM t0) x, (SELECT c0, c1, c2 FROM t0) y WHERE (x.c1 = y.c1) | 1 ab true; 2 a true; 3 A true; 4 ab false -> 1 ab true 1 ab true ; 1 ab true 4 ab false ; 2 a true 2 a true ; 3 A true 3 A true ; 4 ab false 1 ab true ; 4 ab false 4 ab false ; 
 SELECT x.c0 AS c0, x.c1 AS c1, x.c2 AS c2, y.c0 AS c3, y.c1 AS c4, y.c2 AS c5 FROM (SELECT c0, c1, c2 FROM t0) x, (SELECT c0, c1, c2 FROM t0) y WHERE (x.c2 = y.c2) | 1 a true; 2 b false -> 1 a true 1 a true ; 2 b false 2 b false ; 
-SELECT x.c0 AS c0, x.c1 AS c1, x.c2 AS c2, y.c0 AS c3, y.c1 AS c4, y.c2 AS c5 FROM (SELECT c0, c1, c2 FROM t0) x, (SELECT c0, c1, c2 FROM t0) y WHERE (x.c0 = y.c0) | -170141183460469231731687303715884105728 a true; 170141183460469231731687303715884105727 a true -> -170141183460469231731687303715884105728 a true -170141183460469231731687303715884105728 a true ; 170141183460469231731687303715884105727 a true 170141183460469231731687303715884105727 a true ; 
+SELECT x.c0 AS c0, x.c1 AS c1, x.c2 AS c2, y.c0 AS c3, y.c1 AS c4, y.c2 AS c5 \
+     FROM (SELECT c0, c1, c2 FROM t0) x, (SELECT c0, c1, c2 FROM t0) y WHERE (x.c0 = y.c0) \
+     | -170141183460469231731687303715884105728 a true; 170141183460469231731687303715884105727 a true \
+     -> -170141183460469231731687303715884105728 a true -170141183460469231731687303715884105728 a true ; 170141183460469231731687303715884105727 a true 170141183460469231731687303715884105727 a true ; 
 SELECT x.c0 AS c0, x.c1 AS c1, x.c2 AS c2, y.c0 AS c3, y.c1 AS c4, y.c2 AS c5 FROM (SELECT c0, c1, c2 FROM t0) x, (SELECT c0, c1, c2 FROM t0) y WHERE ((x.c0 = y.c0) AND (x.c1 < y.c1)) | 1 a true; 1 b true; 2 c true -> 1 a true 1 b true ; 
 SELECT x.c0 AS c0, x.c1 AS c1, x.c2 AS c2, y.c0 AS c3, y.c1 AS c4, y.c2 AS c5 FROM (SELECT c0, c1, c2 FROM t0) x, (SELECT c0, c1, c2 FROM t0) y WHERE ((x.c0 = y.c0) AND FALSE) | 1 a true -> 
 SELECT x.c0 AS c0, x.c1 AS c1, x.c2 AS c2, y.c0 AS c3, y.c1 AS c4, y.c2 AS c5 FROM (SELECT c0, c1, c2 FROM t0) x, (SELECT c0, c1, c2 FROM t0) y WHERE ((x.c0 = y.c0) AND (0 < (x.c0 + 1))) | 170141183460469231731687303715884105727 a true -> Overflow
 SELECT x.c0 AS c0, x.c1 AS c1, x.c2 AS c2, y.c0 AS c3, y.c1 AS c4, y.c2 AS c5 FROM (SELECT c0, c1, c2 FROM t0) x, (SELECT * FROM (SELECT c0, c1, c2 FROM t0) x WHERE c2) y WHERE ((x.c0 = y.c0) AND (0 < (x.c0 + 1))) | 170141183460469231731687303715884105727 a false; 2 b true -> 2 b true 2 b true ; 
-SELECT x.c0 AS c0, x.c1 AS c1, x.c2 AS c2, x.c3 AS c3, y.c0 AS c4, y.c1 AS c5, y.c2 AS c6, y.c3 AS c7 FROM (SELECT x.*, (c0 + 2) AS c3 FROM (SELECT c0, c1, c2 FROM t0) x) x, (SELECT x.*, (c0 + 2) AS c3 FROM (SELECT c0, c1, c2 FROM t0) x) y WHERE ((x.c0 <= y.c3) AND (y.c0 <= x.c3)) | 1 a true; 3 b true; 6 c true -> 1 a true 3 1 a true 3 ; 1 a true 3 3 b true 5 ; 3 b true 5 1 a true 3 ; 3 b true 5 3 b true 5 ; 6 c true 8 6 c true 8 ; 
+SELECT x.c0 AS c0, x.c1 AS c1, x.c2 AS c2, x.c3 AS c3, y.c0 AS c4, y.c1 AS c5, y.c2 AS c6, y.c3 AS c7 \
+     FROM (SELECT x.*, (c0 + 2) AS c3 FROM (SELECT c0, c1, c2 FROM t0) x) x, (SELECT x.*, (c0 + 2) AS c3 FROM (SELECT c0, c1, c2 FROM t0) x) y \
+     WHERE ((x.c0 <= y.c3) AND (y.c0 <= x.c3)) | 1 a true; 3 b true; 6 c true \
+     -> 1 a true 3 1 a true 3 ; 1 a true 3 3 b true 5 ; 3 b true 5 1 a true 3 ; 3 b true 5 3 b true 5 ; 6 c true 8 6 c true 8 ; 
 SELECT x.c0 AS c0, x.c1 AS c1, x.c2 AS c2, x.c3 AS c3, y.c0 AS c4, y.c1 AS c5, y.c2 AS c6, y.c3 AS c7 FROM (SELECT x.*, (c0 + 2) AS c3 FROM (SELECT c0, c1, c2 FROM t0) x) x, (SELECT x.*, (c0 + 2) AS c3 FROM (SELECT c0, c1, c2 FROM t0) x) y WHERE ((x.c0 <= y.c3) AND (y.c0 <= x.c3)) |  -> 
 SELECT x.c0 AS c0, x.c1 AS c1, x.c2 AS c2, x.c3 AS c3, y.c0 AS c4, y.c1 AS c5, y.c2 AS c6, y.c3 AS c7 FROM (SELECT x.*, (c0 + 2) AS c3 FROM (SELECT c0, c1, c2 FROM t0) x) x, (SELECT x.*, (c0 + 2) AS c3 FROM (SELECT c0, c1, c2 FROM t0) x) y WHERE (((x.c0 <= y.c3) AND (y.c0 <= x.c3)) AND (x.c1 < y.c1)) | 1 a true; 3 b true; 6 c true -> 1 a true 3 3 b true 5 ; 
 SELECT x.c0 AS c0, x.c1 AS c1, x.c2 AS c2, y.c0 AS c3, y.c1 AS c4, y.c2 AS c5 FROM (SELECT c0, c1, c2 FROM t0) x, (SELECT c0, c1, c2 FROM t0) y WHERE FALSE | 1 a true -> 

@@ -26,6 +26,7 @@ pub mod ConvertedLaws
 pub mod Gathering
 pub mod Pieces
 pub mod PieceLaws
+pub mod ProbeResults
 pub mod GatherLaws
 pub mod Lending
 pub mod Copies
@@ -34,6 +35,7 @@ pub mod Ascents
 pub mod Paired
 pub mod Placing
 pub mod PairLaws
+pub mod GroupResults
 pub mod Pushed
 pub mod Left
 pub mod Waiting

@@ -1,14 +1,14 @@
 //! Groups that are ready for their rows to be pulled: all rows of the node below were seen, and none is kept.
-ghost use Rattle.std.specs.Prelude.{◌≡◌, ◌≤◌, ◌&&◌, [], true, false, MatchResult};
+ghost use Rattle.std.specs.Prelude.{◌≤◌, ◌&&◌, []};
 ghost use Rattle.std.specs.List.{AllByRecursion};
 ghost use Rattle.au_expr.specs.Figures.{fit};
-ghost use Rattle.au_expr.specs.declared.fault.EvalFault.TheVariants as fault;
 ghost use Rattle.au_plain.specs.Meaning.{plain_group};
 ghost use Rattle.au_plain.specs.PlanNumbers.{group_numbers};
 ghost use Rattle.au_exec.specs.Fitting.{HasArgument, HavePlaces};
+ghost use Rattle.au_exec.specs.GroupResults.{GroupsWithin};
 ghost use Rattle.au_exec.specs.Left.{CanPull, fits_left, rows_left};
 ghost use Rattle.au_exec.specs.Opened.{Makes};
-ghost use Rattle.au_exec.specs.Tables.{CanGrowAll, grow_all, grown_fit, groups_table, table_with};
+ghost use Rattle.au_exec.specs.Tables.{CanGrowAll, table_with};
 
 use crate::boxed::boxed;
 use crate::drawn::shared_groups;
@@ -62,7 +62,7 @@ fn node_groups<R: Threads + Sync, G: Gate + Sync>(
     requires of { CanPull of.old }
     requires keys { AllByRecursion (HavePlaces keys.now) (rows_left of.old) }
     requires aggs { AllByRecursion (HasArgument (rows_left of.old)) aggs.now }
-    ensures { MatchResult result (λ g. (groups_table g ≡ grow_all keys.now aggs.now (table_with [] []) (rows_left of.old)) × (fits_left of.old ≡ true) × (grown_fit keys.now aggs.now (table_with [] []) (rows_left of.old) ≡ true)) (λ f. f ≡ fault.Overflow → fits_left of.old && grown_fit keys.now aggs.now (table_with [] []) (rows_left of.old) ≡ false) }
+    ensures { GroupsWithin keys.now aggs.now (rows_left of.old) (fits_left of.old) result }
 {
     if !is_probed(of) && (workers == 1 || !is_there(of)) {
         return folded_rows(alloc, keys, aggs, of);
@@ -100,7 +100,7 @@ fn folded_rows(
 ) -> Result<Groups, EvalFault>
     requires of { CanPull of.old }
     requires grows { CanGrowAll keys.now aggs.now (table_with [] []) (rows_left of.old) }
-    ensures { MatchResult result (λ g. (groups_table g ≡ grow_all keys.now aggs.now (table_with [] []) (rows_left of.old)) × (fits_left of.old ≡ true) × (grown_fit keys.now aggs.now (table_with [] []) (rows_left of.old) ≡ true)) (λ f. f ≡ fault.Overflow → fits_left of.old && grown_fit keys.now aggs.now (table_with [] []) (rows_left of.old) ≡ false) }
+    ensures { GroupsWithin keys.now aggs.now (rows_left of.old) (fits_left of.old) result }
 {
     let mut groups = Groups {
         seen: IndexSet::new(alloc),

@@ -114,7 +114,14 @@ _block,_role,x,_times:int~a,guess,1,2~ -> x:Int _times:Int |*1,2
 x:dec2,y:dec9~2.5,-1~0,0.000000001~ -> x:Dec(2) y:Dec(9) |*250,-1000000000|*0,1
 _Block,_role,x~a,guess,1~ -> _Block:Text _role:Text x:Int |*a,guess,1
 «128 n»:int~ -> nnnnnnnnnnnnnnnnnnnnnnnnnnnnnnnnnnnnnnnnnnnnnnnnnnnnnnnnnnnnnnnnnnnnnnnnnnnnnnnnnnnnnnnnnnnnnnnnnnnnnnnnnnnnnnnnnnnnnnnnnnnnnnnn:Int 
-_block,_role«64 ,»~ -> col1:Text col2:Text col3:Text col4:Text col5:Text col6:Text col7:Text col8:Text col9:Text col10:Text col11:Text col12:Text col13:Text col14:Text col15:Text col16:Text col17:Text col18:Text col19:Text col20:Text col21:Text col22:Text col23:Text col24:Text col25:Text col26:Text col27:Text col28:Text col29:Text col30:Text col31:Text col32:Text col33:Text col34:Text col35:Text col36:Text col37:Text col38:Text col39:Text col40:Text col41:Text col42:Text col43:Text col44:Text col45:Text col46:Text col47:Text col48:Text col49:Text col50:Text col51:Text col52:Text col53:Text col54:Text col55:Text col56:Text col57:Text col58:Text col59:Text col60:Text col61:Text col62:Text col63:Text col64:Text ";
+_block,_role«64 ,»~ \
+     -> col1:Text col2:Text col3:Text col4:Text col5:Text col6:Text col7:Text col8:Text col9:Text col10:Text \
+     col11:Text col12:Text col13:Text col14:Text col15:Text col16:Text col17:Text col18:Text col19:Text col20:Text \
+     col21:Text col22:Text col23:Text col24:Text col25:Text col26:Text col27:Text col28:Text col29:Text col30:Text \
+     col31:Text col32:Text col33:Text col34:Text col35:Text col36:Text col37:Text col38:Text col39:Text col40:Text \
+     col41:Text col42:Text col43:Text col44:Text col45:Text col46:Text col47:Text col48:Text col49:Text col50:Text \
+     col51:Text col52:Text col53:Text col54:Text col55:Text col56:Text col57:Text col58:Text col59:Text col60:Text \
+     col61:Text col62:Text col63:Text col64:Text ";
 
 const DEFECTS: &str = " -> NoHeader
 \u{FEFF}^~~ -> NoHeader
