@@ -11,6 +11,7 @@ ghost use Rattle.au_exec.specs.Fitting.{CanAggregate, CanAggregateAll};
 ghost use Rattle.au_exec.specs.Folds.{CanStep, CanStepAll, fold_of, step, stepped_numbers};
 
 use crate::lent_row::LentRow;
+use crate::rows::with_room;
 use au_expr::EvalFault;
 use au_plain::PAgg;
 use au_value::{Adder, Extreme, NoMemory, Value, copy, is_first};
@@ -33,7 +34,7 @@ pub(crate) fn first_folds(
     requires { CanAggregateAll aggs.now (row.now ∷ []) }
     ensures { MatchResult result (λ v. (v.items ≡ map (fold_of (row.now ∷ [])) aggs.now) × Fit (flat_map (magnitudes (row.now ∷ [])) aggs.now)) (λ f. f ≡ fault.Overflow → ¬ (Fit (flat_map (magnitudes (row.now ∷ [])) aggs.now))) }
 {
-    let mut folds = Vec::new(alloc);
+    let mut folds = with_room(alloc, aggs.len())?;
     for agg in aggs {
         push_fold(&mut folds, first_fold(*agg, row)?)?;
     }

@@ -16,7 +16,7 @@ use crate::fold::{Fold, add_all, first_folds};
 use crate::keep::columns;
 use crate::key::{has_values, push_kept};
 use crate::lent_row::LentRow;
-use crate::rows::{push_row, push_value};
+use crate::rows::{push_row, push_value, widened, with_room};
 use au_expr::EvalFault;
 use au_plain::{PAgg, PRow};
 use au_value::{NoMemory, Value};
@@ -68,18 +68,31 @@ pub(crate) fn add_rows(
 pub(crate) fn finished(alloc: Global, groups: Groups) -> Result<Vec<PRow>, NoMemory>
     ensures { IfOk result (λ v. rows_of v ≡ map finished_row (groups_table groups).groups) }
 {
-    let mut rows = Vec::new(alloc);
-    for (key, folds) in groups.held {
+    let held = held_of(groups);
+    let mut rows = with_room(alloc, held.len())?;
+    for (key, folds) in held {
         push_row(&mut rows, group_row(key, folds)?)?;
     }
     Ok(rows)
+}
+
+// What is kept of each group: the keys that were seen are given back first.
+fn held_of(groups: Groups) -> Vec<(PRow, Vec<Fold>)>
+    ensures { result ≡ groups.held }
+{
+    let Groups {
+        seen: _,
+        held,
+        recent: _,
+    } = groups;
+    held
 }
 
 // The key values, and then the aggregates.
 fn group_row(key: PRow, folds: Vec<Fold>) -> Result<PRow, NoMemory>
     ensures { IfOk result (λ v. v.items ≡ key.items ++ map fold_value folds.items) }
 {
-    let mut row = key;
+    let mut row = widened(key, folds.len())?;
     for fold in folds {
         push_value(&mut row, value(fold))?;
     }
@@ -150,9 +163,18 @@ pub(crate) fn place_of(
     ensures keys { OnOk result (key_values seen.new.keys ≡ insert_key same_row (key_values seen.old.keys) (kept keys.now row.now)) }
     ensures place { IfOk result (λ place. place ≡ position_or_len (same_row (kept keys.now row.now)) (key_values seen.old.keys)) }
 {
-    key.clear();
+    empty_for(key, keys.len())?;
     push_kept(key, keys, row)?;
     place_of_key(alloc, seen, key)
+}
+
+// Takes the values out of a key, which then has room for so many.
+fn empty_for(key: &mut Vec<Value>, count: usize) -> Result<(), NoMemory>
+    ensures { OnOk result (key.new.items ≡ []) }
+{
+    key.clear();
+    key.reserve_exact(count)?;
+    Ok(())
 }
 
 /// The place of a key among those that were seen, behind the others where it is new.

@@ -16,7 +16,7 @@ use crate::evaluation::{passes, value_of};
 use crate::keep::columns;
 use crate::lent_row::LentRow;
 use crate::narrow::{Ascending, is_ascending, narrow};
-use crate::rows::{push_row, push_value, with_room};
+use crate::rows::{move_values, push_row, push_value, with_room};
 use au_expr::EvalFault;
 use au_plain::{PExpr, PRow};
 use au_value::NoMemory;
@@ -73,13 +73,69 @@ pub(crate) fn work_rows(
     ensures { WorksAll operators.now (rows_of rows) result }
 {
     let mut kept = with_room(alloc, rows.len())?;
+    let mut made = Vec::new(alloc);
     for row in rows {
         let mut row = row;
-        if work_row(alloc, operators, &mut row)? {
+        if work_held(alloc, operators, &mut row, &mut made)? {
             push_row(&mut kept, row)?;
         }
     }
     Ok(kept)
+}
+
+// Whether a row stays, changed by each operator in turn. Where they add columns and then narrow the row, they work in room
+// that is used again for each row: a row that is widened in place keeps twice its room.
+fn work_held(
+    alloc: Global,
+    operators: &[Operator],
+    row: &mut PRow,
+    made: &mut PRow,
+) -> Result<bool, EvalFault>
+    requires { CanChain operators.now (row.old.items ∷ []) }
+    ensures { Works operators.now row.old.items row.new.items result }
+{
+    if ends_narrow(operators) && adds_some(operators) {
+        work_in_room(alloc, operators, row, made)
+    } else {
+        work_row(alloc, operators, row)
+    }
+}
+
+// The same where the operators work in this room.
+fn work_in_room(
+    alloc: Global,
+    operators: &[Operator],
+    row: &mut PRow,
+    made: &mut PRow,
+) -> Result<bool, EvalFault>
+    requires { CanChain operators.now (row.old.items ∷ []) }
+    ensures { Works operators.now row.old.items row.new.items result }
+{
+    made.clear();
+    move_values(row, made)?;
+    let stays = work_row(alloc, operators, made)?;
+    if stays {
+        move_values(made, row)?;
+    }
+    Ok(stays)
+}
+
+// Whether the last operator narrows the row. A row whose columns are copied has no more room than it needs.
+fn ends_narrow(operators: &[Operator]) -> bool {
+    match operators.split_last() {
+        Some((Operator::Narrow(_), _)) => true,
+        _ => false,
+    }
+}
+
+// Whether an operator adds a column.
+fn adds_some(operators: &[Operator]) -> bool {
+    for operator in operators {
+        if let Operator::Extend(_) = operator {
+            return true;
+        }
+    }
+    false
 }
 
 /// Whether a row stays, changed by each operator in turn.

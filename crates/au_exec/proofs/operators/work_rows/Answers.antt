@@ -11,21 +11,21 @@ use Rattle.au_exec.proofs.ChainSteps.{can_this, chained_fit, chained_rows, rows_
 use Rattle.au_exec.proofs.Growth.{failed}
 use Rattle.au_exec.proofs.operators.work_rows.Goals as goal
 
-pub work_row-requires : goal.work_row-requires
-work_row-requires c =
+pub work_held-requires : goal.work_held-requires
+work_held-requires c =
     let rest = map (λ (row : Vec Value Global). row.items) (into_iter_items c.loop-row.row-iterator) in
     let later = map (λ (row : Vec Value Global). row.items) (into_iter_items c.next.new.self) in
     let is : rest ≡ c.in-Some.row.items ∷ later = ap (map (λ (row : Vec Value Global). row.items)) c.in-Some.ensures.steps.0 in
     can_this c.args.operators.now rest later (rows_of c.args.rows) (rows_of c.loop-row.kept) c.in-Some.row.items is c.loop-row.invariant
 
-pub returns-in_err-work_row : goal.returns-in_err-work_row
-returns-in_err-work_row c =
+pub returns-in_err-work_held : goal.returns-in_err-work_held
+returns-in_err-work_held c =
     let os = c.args.operators.now in
     let rest = map (λ (row : Vec Value Global). row.items) (into_iter_items c.loop-row.row-iterator) in
     let later = map (λ (row : Vec Value Global). row.items) (into_iter_items c.next.new.self) in
     let is : rest ≡ c.in-Some.row.items ∷ later = ap (map (λ (row : Vec Value Global). row.items)) c.in-Some.ensures.steps.0 in
-    failed _ _ c.in_err-work_row.field-0.0 (chain_fit os (rows_of c.args.rows)) c.from_residual-in_err-work_row.ensures.1
-    (λ over. rows_over os rest later (rows_of c.args.rows) (rows_of c.loop-row.kept) c.in-Some.row.items is c.loop-row.invariant (c.in_err-work_row.ensures over))
+    failed _ _ c.in_err-work_held.field-0.0 (chain_fit os (rows_of c.args.rows)) c.from_residual-in_err-work_held.ensures.1
+    (λ over. rows_over os rest later (rows_of c.args.rows) (rows_of c.loop-row.kept) c.in-Some.row.items is c.loop-row.invariant (c.in_err-work_held.ensures over))
 
 pub loop-row-preserved-in-Continue-branch-3 : goal.loop-row-preserved-in-Continue-branch-3
 loop-row-preserved-in-Continue-branch-3 c =
@@ -34,13 +34,13 @@ loop-row-preserved-in-Continue-branch-3 c =
     let later = map (λ (row : Vec Value Global). row.items) (into_iter_items c.next.new.self) in
     let is : rest ≡ c.in-Some.row.items ∷ later = ap (map (λ (row : Vec Value Global). row.items)) c.in-Some.ensures.steps.0 in
     let done = rows_of c.loop-row.kept in
-    let then = c.work_row.new.row in
+    let then = c.work_held.new.row in
     let pushed : c.push_row.new.rows.items ≡ c.loop-row.kept.items ++ then ∷ [] = c.in_ok-push_row.ensures in
-    let made : rows_of c.push_row.new.rows ≡ done ++ if_stays c.in_ok-work_row.field-0 then.items =
+    let made : rows_of c.push_row.new.rows ≡ done ++ if_stays c.in_ok-work_held.field-0 then.items =
     ap (map (λ (row : Vec Value Global). row.items)) pushed
     ∙ map-append (λ (row : Vec Value Global). row.items) c.loop-row.kept.items (then ∷ [])
     ∙ ap (λ b. done ++ if_stays b then.items) (sym c.if-branch.true) in
-    rows_next os rest later (rows_of c.args.rows) done c.in-Some.row.items is (rows_of c.push_row.new.rows) c.in_ok-work_row.field-0 then.items c.loop-row.invariant c.in_ok-work_row.ensures.0 c.in_ok-work_row.ensures.1 made
+    rows_next os rest later (rows_of c.args.rows) done c.in-Some.row.items is (rows_of c.push_row.new.rows) c.in_ok-work_held.field-0 then.items c.loop-row.invariant c.in_ok-work_held.ensures.0 c.in_ok-work_held.ensures.1 made
 
 pub loop-row-preserved : goal.loop-row-preserved
 loop-row-preserved c =
@@ -49,9 +49,9 @@ loop-row-preserved c =
     let later = map (λ (row : Vec Value Global). row.items) (into_iter_items c.next.new.self) in
     let is : rest ≡ c.in-Some.row.items ∷ later = ap (map (λ (row : Vec Value Global). row.items)) c.in-Some.ensures.steps.0 in
     let done = rows_of c.loop-row.kept in
-    let then = c.work_row.new.row in
-    let made : done ≡ done ++ if_stays c.in_ok-work_row.field-0 then.items = sym (without done) ∙ ap (λ b. done ++ if_stays b then.items) (sym c.if-branch.false) in
-    rows_next os rest later (rows_of c.args.rows) done c.in-Some.row.items is done c.in_ok-work_row.field-0 then.items c.loop-row.invariant c.in_ok-work_row.ensures.0 c.in_ok-work_row.ensures.1 made
+    let then = c.work_held.new.row in
+    let made : done ≡ done ++ if_stays c.in_ok-work_held.field-0 then.items = sym (without done) ∙ ap (λ b. done ++ if_stays b then.items) (sym c.if-branch.false) in
+    rows_next os rest later (rows_of c.args.rows) done c.in-Some.row.items is done c.in_ok-work_held.field-0 then.items c.loop-row.invariant c.in_ok-work_held.ensures.0 c.in_ok-work_held.ensures.1 made
 
 pub returns : goal.returns
 returns c =
