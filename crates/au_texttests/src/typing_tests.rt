@@ -1,5 +1,5 @@
 //! What statements resolve to: their names and kinds, or the fault with its place.
-use crate::cases::{Call, judge};
+use crate::cases::{Call, judge, unfolded};
 use au_blocks::{copy_columns, read_table};
 use au_lex::tokens;
 use au_parse::parse;
@@ -26,14 +26,15 @@ fn schemas(alloc: Global) -> Result<Vec<Schema>, Fail> {
     Ok(list)
 }
 
-fn resolved(alloc: Global, text: &str, schemas: &[Schema]) -> Result<Typed, TypingFault> {
-    let Ok(list) = tokens(alloc, text) else {
-        return Err(TypingFault::NoMemory);
-    };
-    let Ok(statement) = parse(alloc, list.items(), text.len()) else {
-        return Err(TypingFault::NoMemory);
-    };
-    resolve(alloc, &statement, schemas)
+fn resolved(
+    alloc: Global,
+    text: &str,
+    schemas: &[Schema],
+) -> Result<Result<Typed, TypingFault>, Fail> {
+    let list = tokens(alloc, text).ok().ok_or("tokens")?;
+    let parsed = parse(alloc, list.items(), text.len());
+    let statement = parsed.ok().ok_or("a statement")?;
+    Ok(resolve(alloc, &statement, schemas))
 }
 
 // The names and the kinds of the columns.
@@ -51,7 +52,7 @@ struct Columns;
 impl Call for Columns {
     fn outcome(alloc: Global, given: &str) -> Result<String, Fail> {
         let schemas = schemas(alloc)?;
-        match resolved(alloc, given, schemas.as_slice()) {
+        match resolved(alloc, given, schemas.as_slice())? {
             Ok(typed) => Ok(columns_text(alloc, &typed)?),
             Err(fault) => Ok(format!(in alloc; "{fault:?}")?),
         }
@@ -112,6 +113,19 @@ SELECT COUNT(*) FROM orders o, rates r -> CountOverJoin(7)
 SELECT SUM(1) FROM orders o, rates r -> CountOverJoin(7)
 SELECT COUNT(*) FROM (SELECT o.id FROM orders o, rates r) u -> CountOverJoin(7)
 SELECT id FROM orders EXCEPT SELECT * FROM rates -> WidthMismatch(22)";
+
+// Stars that multiply: to 8,192 columns along a path, to one more, to more in one SELECT, and to 2 * 10^30.
+const STARS: &str =
+    "SELECT 1, 1 FROM (SELECT «63 *, »* FROM (SELECT «62 *, »* FROM rates) t) t -> col1:Int col2:Int 
+SELECT 1, 1, 1 FROM (SELECT «63 *, »* FROM (SELECT «62 *, »* FROM rates) t) t -> NoMemory
+SELECT «63 *, »* FROM (SELECT «63 *, »* FROM rates) t, rates -> NoMemory
+SELECT * FROM («30 SELECT *, *, *, *, *, *, *, *, *, * FROM (»SELECT * FROM rates«30 ) t») t -> NoMemory";
+
+#[test]
+fn columns_that_stars_multiply(rt: HostRuntime) -> Result<(), Fail> {
+    let alloc = rt.alloc();
+    judge::<Columns>(&rt, alloc, unfolded(alloc, STARS)?.as_str())
+}
 
 #[test]
 fn columns_of_statements(rt: HostRuntime) -> Result<(), Fail> {

@@ -17,7 +17,7 @@ use Rattle.au_typing.specs.Selects.{Clauses, FromItem, Typing, alias_faults, cla
 use Rattle.au_typing.specs.Scopes.{then_faults}
 use Rattle.au_typing.specs.declared.fault.TypingFault.{TypingFault}
 use Rattle.au_typing.specs.declared.from_items.FromPart.{FromPart}
-use Rattle.au_typing.specs.declared.from_items.Part.{Part}
+use Rattle.au_typing.specs.declared.part.Part.{Part}
 use Rattle.au_typing.proofs.Sizes.{query_size, sources_size}
 use Rattle.au_typing.proofs.Steps.{refuses_left}
 use Rattle.au_typing.proofs.Within.{Contains-flat_map}

@@ -14,7 +14,7 @@ use Rattle.au_typing.specs.Selects.{FromItem, Typing}
 use Rattle.au_typing.specs.declared.fault.TypingFault.{TypingFault}
 use Rattle.au_typing.specs.declared.fault.TypingFault.TheVariants as fault
 use Rattle.au_typing.specs.declared.from_items.FromPart.{FromPart}
-use Rattle.au_typing.specs.declared.from_items.Part.{Part}
+use Rattle.au_typing.specs.declared.part.Part.{Part}
 use Rattle.au_typing.specs.declared.sets.Fitted.{Fitted}
 
 -- A query is found to be this, or one of its faults is named.

@@ -6,6 +6,7 @@ pub mod Terms
 pub mod Items
 pub mod Selects
 pub mod Queries
+pub mod MadeColumns
 pub mod Laws
 -- What the contracts of inner calls and the proofs speak of.
 pub mod Shapes

@@ -16,7 +16,7 @@ use Rattle.au_typing.specs.Scales.{rescaled}
 use Rattle.au_typing.specs.Scopes.{Scope, name_faults}
 use Rattle.au_typing.specs.declared.outputs.Outputs.{Outputs}
 use Rattle.au_typing.specs.declared.from_items.FromPart.{FromPart}
-use Rattle.au_typing.specs.declared.from_items.Part.{Part}
+use Rattle.au_typing.specs.declared.part.Part.{Part}
 use Rattle.au_typing.specs.declared.select.ClauseTerms.{ClauseTerms}
 use Rattle.au_typing.specs.Selects.{Clauses, FromItem, Typing, clause_faults, clauses_faults, clauses_written, distinct_if, having_written, is_join, outputs, from_product, resolved_select, setting_of}
 use Rattle.au_algebra.specs.Trees.{Tree as Query, tree, Select, Project, Product, Group, Total}

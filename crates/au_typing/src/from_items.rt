@@ -7,19 +7,12 @@ ghost use Rattle.au_typing.specs.Results.{from_view, joined_to, scope_view};
 ghost use Rattle.au_typing.specs.Selects.{alias_faults, is_join, owned, from_product, scope_of};
 
 use crate::fault::TypingFault;
+use crate::part::Part;
 use crate::scope::{Field, Scope, same_word};
 use au_algebra::Query;
 use au_blocks::Column;
 use au_value::{NoMemory, Word, both};
 use std::alloc::Global;
-
-/// A well-typed query: its tree, the names and kinds of its columns, and whether one of its SELECTs joins.
-#[derive(Drop)]
-pub(crate) struct Part {
-    pub query: Query,
-    pub columns: Vec<Column>,
-    pub joins: bool,
-}
 
 /// A FROM item: its place, the name under which it is visible, and what it is.
 #[derive(Drop)]

@@ -9,6 +9,7 @@ ghost use Rattle.au_typing.specs.Terms.{Setting as SettingOf, term_faults};
 ghost use Rattle.au_typing.specs.Queries.{Refuses};
 
 use crate::fault::TypingFault;
+use crate::made_columns::MOST_COLUMNS;
 use crate::scope::{Scope, column, is_owner, knows_owner};
 use crate::setting::{Gathered, Setting};
 use crate::terms::{Answer, column_at, typed_term};
@@ -45,7 +46,8 @@ impl Outputs {
         }
     }
 
-    /// Puts an output column behind the others. One without a name is named after its place.
+    /// Puts an output column behind the others. One without a name is named after its place. `NoMemory` comes also where
+    /// there are as many as a tree may make.
     pub fn push(
         &mut self,
         alloc: Global,
@@ -56,6 +58,9 @@ impl Outputs {
         ensures exprs { OnOk result (self.new.exprs.items ≡ self.old.exprs.items ++ expr ∷ []) }
         ensures columns { OnOk result (self.new.columns.items ≡ self.old.columns.items ++ column_of (length self.old.columns.items + 1) (output (term expr) name kind) ∷ []) }
     {
+        if self.columns.len() >= MOST_COLUMNS {
+            return Err(NoMemory);
+        }
         let name = match name {
             Some(word) => word,
             None => numbered(alloc, self.columns.len())?,

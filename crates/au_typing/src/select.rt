@@ -11,8 +11,9 @@ ghost use Rattle.au_typing.specs.Queries.{Refuses};
 
 use crate::aggregates::have_aggregate;
 use crate::fault::TypingFault;
-use crate::from_items::{FromPart, Part, alias_fault, is_join, product, scope_of};
+use crate::from_items::{FromPart, alias_fault, is_join, product, scope_of};
 use crate::outputs::{Outputs, put_item};
+use crate::part::Part;
 use crate::scope::{Scope, column};
 use crate::setting::{Gathered, Groups, Setting};
 use crate::terms::{Answer, typed_term};
@@ -261,11 +262,7 @@ fn part_of(
     let below = body(alloc, setting, filter, having, gathered, query)?;
     let items = Query::Project(exprs, Box::new(alloc, below)?);
     let query = distinct_if(alloc, distinct, items)?;
-    Ok(Part {
-        query,
-        columns,
-        joins,
-    })
+    Part::new(query, columns, joins)
 }
 
 /// A SELECT over these FROM items.

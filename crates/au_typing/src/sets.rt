@@ -8,7 +8,7 @@ ghost use Rattle.au_typing.specs.Judged.{Brings, FewDigits, Judges};
 ghost use Rattle.au_typing.specs.Results.{part_typing};
 
 use crate::fault::TypingFault;
-use crate::from_items::Part;
+use crate::part::Part;
 use crate::scales::{common_kind, rescaled, scale};
 use crate::trees::distinct_if;
 use au_algebra::Query;
@@ -234,11 +234,7 @@ pub(crate) fn union(
             let joins = sides.joins;
             let query = united(alloc, all, sides.left, sides.right);
             let (query, columns) = beside(query, sides.columns)?;
-            Ok(Part {
-                query,
-                columns,
-                joins,
-            })
+            Ok(Part::new(query, columns, joins)?)
         }
         Err(fault) => Err(fault),
     }
@@ -259,11 +255,7 @@ pub(crate) fn except(
             let joins = sides.joins;
             let query = lessened(alloc, all, sides.left, sides.right);
             let (query, columns) = beside(query, sides.columns)?;
-            Ok(Part {
-                query,
-                columns,
-                joins,
-            })
+            Ok(Part::new(query, columns, joins)?)
         }
         Err(fault) => Err(fault),
     }

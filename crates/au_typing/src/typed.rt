@@ -1,5 +1,5 @@
 //! Statements over tables of known columns.
-ghost use Rattle.std.specs.Prelude.{◌≡◌, ◌<◌, Some, IfOk, IfErr, IfSome, flat_map, length, map, position};
+ghost use Rattle.std.specs.Prelude.{◌≡◌, ◌<◌, Some, IfOk, IfErr, IfSome, IsTrue, flat_map, length, map, position};
 ghost use Rattle.std.specs.Str.{str_eq_ignore_ascii_case};
 ghost use Rattle.au_algebra.specs.Trees.{tree};
 ghost use Rattle.au_algebra.specs.Typing.{kinds_of};
@@ -7,11 +7,13 @@ ghost use Rattle.au_value.specs.Order.{data_kind};
 ghost use Rattle.au_parse.specs.Views.{statement_tree};
 ghost use Rattle.au_parse.specs.Whole.{WholeQuery};
 ghost use Rattle.au_typing.specs.Queries.{IsWellTyped, typing_defects, resolved_kinds, kinds_of_columns, resolved_names, relations, table_kinds, table_place, table_typing, resolved_tree, typing, Refuses};
+ghost use Rattle.au_typing.specs.MadeColumns.{makes_few_columns};
 ghost use Rattle.au_typing.specs.Judged.{Judges, JudgesSides, Shows, source_faults, source_item};
 ghost use Rattle.au_typing.specs.Results.{from_view};
 
 use crate::fault::TypingFault;
-use crate::from_items::{FromPart, Part};
+use crate::from_items::FromPart;
+use crate::part::Part;
 use crate::schema::Schema;
 use crate::scope::same_word;
 use crate::select::select;
@@ -173,7 +175,8 @@ fn with_columns(alloc: Global, query: Query, columns: Vec<Column>) -> Result<Typ
 }
 
 /// The tree of a statement over these tables, and the names and kinds of its columns. A fault names a place at which
-/// that defect stands; where several stand, it may be any of them.
+/// that defect stands; where several stand, it may be any of them. `NoMemory` comes also where the tree would make more
+/// than 8,192 columns along a path, as stars in nested SELECTs can.
 pub fn resolve(
     alloc: Global,
     statement: &Statement,
@@ -184,6 +187,7 @@ pub fn resolve(
     ensures tree { IfOk result (λ t. tree t.query ≡ resolved_tree (relations schemas.now) (statement_tree statement.now)) }
     ensures names { IfOk result (λ t. t.names.items ≡ resolved_names (relations schemas.now) (statement_tree statement.now)) }
     ensures kinds { IfOk result (λ t. t.kinds.items ≡ resolved_kinds (relations schemas.now) (statement_tree statement.now)) }
+    ensures few { IfOk result (λ t. IsTrue (makes_few_columns (tree t.query))) }
     ensures typed { IfOk result (λ t. kinds_of (table_kinds (relations schemas.now)) (tree t.query) ≡ Some (map data_kind t.kinds.items)) }
     ensures fault { IfErr result (Refuses (typing_defects (relations schemas.now) (statement_tree statement.now))) }
 {
