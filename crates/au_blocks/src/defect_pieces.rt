@@ -85,7 +85,8 @@ fn defects_by<R: Threads + Sync>(
     };
     match by_drawn_pieces(rt, alloc, rows, workers, &work, &NoGate) {
         Ok(defects) => Ok(defects),
-        Err(_) => Err(NoMemory),
+        Err(EvalFault::NoMemory) => Err(NoMemory),
+        Err(EvalFault::Overflow) => unreachable!(),
     }
 }
 

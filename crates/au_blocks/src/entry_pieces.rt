@@ -59,7 +59,8 @@ pub(crate) fn entries_by<R: Threads + Sync>(
     let work = Entries { format, columns };
     match by_drawn_pieces(rt, alloc, rows, workers, &work, &NoGate) {
         Ok(entries) => Ok(entries),
-        Err(_) => Err(NoMemory),
+        Err(EvalFault::NoMemory) => Err(NoMemory),
+        Err(EvalFault::Overflow) => unreachable!(),
     }
 }
 

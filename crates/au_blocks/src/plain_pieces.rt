@@ -54,7 +54,8 @@ pub(crate) fn plain_blocks_by<R: Threads + Sync>(
     let work = Plain { columns };
     match by_drawn_pieces(rt, alloc, rows, workers, &work, &NoGate) {
         Ok(blocks) => Ok(blocks),
-        Err(_) => Err(NoMemory),
+        Err(EvalFault::NoMemory) => Err(NoMemory),
+        Err(EvalFault::Overflow) => unreachable!(),
     }
 }
 

@@ -60,7 +60,8 @@ pub(crate) fn runs_by<R: Threads + Sync>(
     let work = Runs { format, columns };
     match by_drawn_pieces(rt, alloc, runs, workers, &work, &NoGate) {
         Ok(builders) => Ok(builders),
-        Err(_) => Err(NoMemory),
+        Err(EvalFault::NoMemory) => Err(NoMemory),
+        Err(EvalFault::Overflow) => unreachable!(),
     }
 }
 
