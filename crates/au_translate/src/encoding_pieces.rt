@@ -91,7 +91,8 @@ pub fn encoded_by<R: Threads + Sync>(
     let work = Encoding { columns };
     match by_drawn_pieces(rt, alloc, blocks, workers, &work, &NoGate) {
         Ok(made) => plain_rows(alloc, made),
-        Err(_) => Err(NoMemory),
+        Err(EvalFault::NoMemory) => Err(NoMemory),
+        Err(EvalFault::Overflow) => unreachable!(),
     }
 }
 
