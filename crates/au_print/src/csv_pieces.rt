@@ -92,7 +92,8 @@ fn records_by<R: Threads + Sync>(
     let work = Writing { kinds };
     match by_drawn_pieces(rt, alloc, rows, workers, &work, &NoGate) {
         Ok(text) => Ok(text),
-        Err(_) => Err(NoMemory),
+        Err(EvalFault::NoMemory) => Err(NoMemory),
+        Err(EvalFault::Overflow) => unreachable!(),
     }
 }
 
