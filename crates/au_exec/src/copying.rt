@@ -52,7 +52,8 @@ pub(crate) fn copied_rows<R: Threads + Sync>(
     }
     match by_left_rows(rt, alloc, rows, workers, &Copying, &NoGate) {
         Ok(made) => rows_within(alloc, made),
-        Err(_) => Err(NoMemory),
+        Err(EvalFault::NoMemory) => Err(NoMemory),
+        Err(EvalFault::Overflow) => unreachable!(),
     }
 }
 
