@@ -1,0 +1,15 @@
+mod BookPlaces
+mod CarefulValues
+mod CodedInPlace
+mod Fronts
+mod GatheredTexts
+mod GroupRows
+mod JoinedRows
+mod KeptOrder
+mod Lists
+mod PlanNumbers
+mod PlanRows
+mod Ranks
+mod Terms
+mod TextOrder
+mod TextsBack
