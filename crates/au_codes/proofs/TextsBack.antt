@@ -4,7 +4,7 @@ use Rattle.std.specs.Str.{IsUtf8, is_utf8}
 use Rattle.std.proofs.Common.{refl, ap, sym, ◌∙◌, arith, append_assoc}
 use Rattle.std.proofs.lemmas.Bool.{le-leb}
 use Rattle.std.proofs.lemmas.List.{drop_more}
-use Rattle.std.proofs.lemmas.Str.{is_utf8-from_IsUtf8}
+use Rattle.std.proofs.lemmas.Str.{IsUtf8-from_is_utf8, is_utf8-from_IsUtf8}
 use Rattle.au_value.specs.declared.kinds.Kind.{Kind}
 use Rattle.au_value.specs.declared.value.Value.{Value}
 use Rattle.au_value.specs.declared.value.Value.TheVariants.{Int, Text, Flag}
@@ -72,3 +72,15 @@ row_step book ks zs i row v more k z h same made pushed inv =
     let next : decoded_row book (drop i ks) (drop i zs) ≡ v ∷ rest =
     (λ j. decoded_row book (drop_more ks i k h j) (drop_more zs i z (let e : i < length zs = omega (arith, h, same) in e) j)) ∙ ap (λ u. u ∷ rest) (sym made) in
     ap (λ l. l ++ rest) pushed ∙ append_assoc row (v ∷ []) rest ∙ ap (λ l. row ++ l) (sym next) ∙ inv
+
+-- ---- bytes that are read as a text
+
+pub valid_text : (bytes text w : List ℕ) → text ≡ bytes → IsUtf8 bytes → bytes ≡ w → text ≡ text_or_none w
+valid_text bytes text w is u e = is ∙ sym (text_itself bytes u) ∙ ap text_or_none e
+
+none_by : (b : Bool) (bytes : List ℕ) → is_utf8 bytes ≡ b → (IsUtf8 bytes → ⊥) → [] ≡ cond b bytes []
+none_by true bytes e f = absurd (f (IsUtf8-from_is_utf8 bytes e))
+none_by false bytes e f = refl
+
+pub no_text : (bytes w : List ℕ) → (IsUtf8 bytes → ⊥) → bytes ≡ w → [] ≡ text_or_none w
+no_text bytes w f e = none_by (is_utf8 bytes) bytes refl f ∙ ap text_or_none e
