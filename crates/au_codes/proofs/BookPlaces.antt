@@ -1,5 +1,5 @@
 -- In a book in order a text stands at the place of its rank.
-use Rattle.std.specs.Prelude.{◌≡◌, ◌<◌, ◌≤◌, ◌+◌, ℕ, zero, suc, Bool, true, false, cond, ◌||◌, List, [], ◌∷◌, ◌++◌, length, Some, None, slice_get, position, bytes_eq, nat_lt, get_or}
+use Rattle.std.specs.Prelude.{◌≡◌, ◌<◌, ◌≤◌, ◌+◌, ℕ, suc, Bool, true, false, cond, ◌||◌, List, [], ◌∷◌, ◌++◌, length, Some, None, slice_get, position, bytes_eq, nat_lt, get_or}
 use Rattle.std.specs.List.{AllByRecursion, position_or_len, IsDistinct}
 use Rattle.std.specs.List.Sorted.{IsSortedBy}
 use Rattle.std.specs.FinMap.{nat_cmp-IsAntisymmetric, slice_cmp-IsAntisymmetric}
@@ -72,7 +72,6 @@ place_is_rank (t ∷ book) w up h =
           let later : has book w ≡ true = rw here at h in
           ap (slice_get (t ∷ book)) (rank_later t w book up.0 later) ∙ place_is_rank book w up.1 later
     ]
-
 
 pub has_first : (xs ys : Book) (w : List ℕ) → has xs w ≡ true → has (xs ++ ys) w ≡ true
 has_first [] ys w h = absurd (true≢false (sym h))

@@ -2,7 +2,7 @@
 use Rattle.std.proofs.Common.{◌≡◌, ℕ, zero, suc, ◌<◌, List, [], ◌∷◌, Vec, Global, length, get_or, map, refl, sym, ap, ◌∙◌, arith}
 use Rattle.au_plain.specs.declared.expr.PExpr.{PExpr}
 use Rattle.au_plain.specs.declared.expr.PExpr.TheVariants.{Least, Greatest}
-use Rattle.au_plain.specs.PTerms.{PTerm, pterm}
+use Rattle.au_plain.specs.PTerms.{pterm}
 use Rattle.au_plain.specs.PTerms as term
 use Rattle.au_plain.proofs.TermLists.{terms_of, least_view, greatest_view}
 use Rattle.au_codes.specs.Codes.{Code}

@@ -1,12 +1,11 @@
 -- Rows of a grouping over cells.
-use Rattle.std.specs.Prelude.{◌≡◌, ◌<◌, ℕ, Bool, true, false, cond, ◌||◌, List, [], ◌∷◌, ◌++◌, length, map, filter, slice_get, Some, ℤ}
+use Rattle.std.specs.Prelude.{◌≡◌, ◌<◌, ℕ, Bool, true, false, cond, ◌||◌, List, [], ◌∷◌, ◌++◌, length, map, filter, slice_get, Some}
 use Rattle.std.specs.List.{AllByRecursion, list_any}
 use Rattle.std.proofs.Common.{refl, sym, ap, ◌∙◌, inl, inr, arith}
 use Rattle.std.proofs.lemmas.Bool.{cases_Bool}
 use Rattle.au_value.specs.declared.kinds.Kind.{Kind}
 use Rattle.au_value.specs.declared.kinds.Kind.TheVariants as kind
 use Rattle.au_value.specs.declared.value.Value.{Value}
-use Rattle.au_value.specs.Order.{kind_of}
 use Rattle.au_value.specs.Lists.{distinct}
 use Rattle.au_expr.specs.Ordinary.{number}
 use Rattle.au_algebra.specs.Lists.{same_row, int_sum, least, greatest, value_at}
@@ -20,7 +19,7 @@ use Rattle.au_plain.specs.declared.plan.PAgg.{PAgg}
 use Rattle.au_plain.specs.declared.plan.PAgg.TheVariants.{Sum, Min, Max}
 use Rattle.au_plain.specs.PlanKinds.{kept_kinds, plain_agg_kind}
 use Rattle.au_plain.specs.Meaning.{kept, plain_aggregate, plain_group}
-use Rattle.au_codes.specs.Codes.{Code, KeepsOrder, Cells, CellRows, code, coded_row, coded_rows}
+use Rattle.au_codes.specs.Codes.{Code, KeepsOrder, Cells, code, coded_row, coded_rows}
 use Rattle.au_codes.specs.CellMeaning.{cell_in, cells_kept, same_cells, least_number, greatest_number, cell_aggregate, cell_members, cell_group}
 use Rattle.au_codes.proofs.Lists.{map-append, map-map, map_same, filter_kept, distinct_kept, all_map}
 use Rattle.au_codes.proofs.KeptOrder.{rows_equal}

@@ -23,7 +23,7 @@ use Rattle.au_codes.specs.Codes.{Code, KeepsOrder, coded_row, coded_rows, coded_
 use Rattle.au_codes.specs.CodedPlans.{coded_term, coded_tree, coded_list, coded_literals, literals, written, KnowsPlan}
 use Rattle.au_codes.specs.CellMeaning.{cell, cells_extended, cells_kept, cell_pairs, cells_equal_at, cells_overlap, cells_by_range, cell_group, plan_cells}
 use Rattle.au_codes.proofs.Lists.{all_parts}
-use Rattle.au_codes.proofs.Terms.{IsRow, literal_cell}
+use Rattle.au_codes.proofs.Terms.{literal_cell}
 use Rattle.au_codes.proofs.JoinedRows.{AreRows, AreCoded, extend_coded, keep_coded, filtered_coded, product_coded, hash_coded, overlap_coded, union_coded}
 use Rattle.au_codes.proofs.GroupRows.{group_coded}
 

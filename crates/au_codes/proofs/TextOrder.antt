@@ -1,5 +1,5 @@
 -- The code of texts keeps their order.
-use Rattle.std.specs.Prelude.{◌≡◌, ◌<◌, ◌≤◌, ◌+◌, ◌*◌, ◌-◌, ◌^◌, ℕ, suc, Bool, true, false, cond, ◌&&◌, ◌||◌, List, [], ◌∷◌, length, pos, nat_abs, nat_le}
+use Rattle.std.specs.Prelude.{◌≡◌, ◌<◌, ◌≤◌, ◌+◌, ◌*◌, ◌-◌, ◌^◌, ℕ, Bool, true, false, cond, ◌&&◌, ◌||◌, List, length, pos, nat_abs, nat_le}
 use Rattle.std.specs.Str.{IsUtf8, is_utf8}
 use Rattle.std.specs.declared.cmp.Ordering.{Ordering}
 use Rattle.std.specs.declared.cmp.Ordering.TheVariants.{Less, Equal, Greater}
@@ -7,15 +7,15 @@ use Rattle.std.specs.Ordering.{nat_cmp, int_cmp, is_le, ordering_reverse}
 use Rattle.std.specs.Cmp.{int_cmp_total, tied_itself}
 use Rattle.std.specs.Cmp.Lexicographic.{slice_cmp, nat_list_cmp_total}
 use Rattle.std.specs.FinMap.{nat_cmp-IsAntisymmetric, slice_cmp-IsAntisymmetric}
-use Rattle.std.proofs.Common.{arith, refl, sym, ap, ◌∙◌, inl, inr}
-use Rattle.std.proofs.lemmas.Bool.{and_parts, cases_Bool, le-leb, lt-ltb, true≢false}
+use Rattle.std.proofs.Common.{arith, refl, sym, ap, ◌∙◌}
+use Rattle.std.proofs.lemmas.Bool.{and_parts, le-leb, lt-ltb, true≢false}
 use Rattle.std.proofs.lemmas.Str.{IsUtf8-from_is_utf8}
 use Rattle.au_value.specs.Numeral.{is_i128}
-use Rattle.au_codes.specs.Codes.{KeepsOrder, number_at_most, text_at_most}
+use Rattle.au_codes.specs.Codes.{KeepsOrder, number_at_most}
 use Rattle.au_codes.specs.Books.{Book, has, rank, IsCodebook}
 use Rattle.au_codes.specs.TextCodes.{is_short, packed, tag, text_number, knows_text, text_code}
 use Rattle.au_codes.proofs.BookPlaces.{all_has}
-use Rattle.au_codes.proofs.Fronts.{AreBytes, text_bytes, packed_small, Lower, apart, shorter, longer, lower_text}
+use Rattle.au_codes.proofs.Fronts.{text_bytes, packed_small, Lower, apart, shorter, longer, lower_text}
 use Rattle.au_codes.proofs.Ranks.{rank_below, rank_small}
 
 -- a text of UTF-8 that is short or one of the book

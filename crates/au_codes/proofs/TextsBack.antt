@@ -11,7 +11,7 @@ use Rattle.au_value.specs.declared.value.Value.TheVariants.{Int, Text, Flag}
 use Rattle.au_value.specs.Order.{kind_of}
 use Rattle.au_codes.specs.Codes.{code, coded_row, Knows, KnowsRow}
 use Rattle.au_codes.specs.Books.{Book, rank, IsCodebook}
-use Rattle.au_codes.specs.TextCodes.{is_short, packed, tag, text_number, text_code}
+use Rattle.au_codes.specs.TextCodes.{is_short, packed, tag, text_code}
 use Rattle.au_codes.specs.Decoding.{decoded, decoded_row, decoded_text, text_of, text_or_none, unpacked}
 use Rattle.au_codes.proofs.BookPlaces.{place_is_rank}
 use Rattle.au_codes.proofs.Fronts.{text_bytes, text_back}

@@ -1,12 +1,11 @@
 -- The value of a kind that a number stands for.
-use Rattle.std.specs.Prelude.{ℕ, zero, suc, ◌-◌, ◌/◌, ◌%◌, ◌^◌, not, List, [], ◌∷◌, map, take, ℤ, pos, negsuc, unwrap_or, slice_get, nat_le, if◌then◌else◌}
+use Rattle.std.specs.Prelude.{ℕ, zero, suc, ◌-◌, ◌/◌, ◌%◌, ◌^◌, List, [], ◌∷◌, take, ℤ, pos, negsuc, unwrap_or, slice_get, nat_le, if◌then◌else◌}
 use Rattle.std.specs.Str.{is_utf8}
 use Rattle.au_value.specs.declared.kinds.Kind.{Kind}
 use Rattle.au_value.specs.declared.kinds.Kind.TheVariants as kind
 use Rattle.au_value.specs.declared.value.Value.{Value}
 use Rattle.au_value.specs.declared.value.Value.TheVariants.{Int, Text, Flag}
-use Rattle.au_algebra.specs.Ordinary.{Rows}
-use Rattle.au_codes.specs.Codes.{Cells, CellRows}
+use Rattle.au_codes.specs.Codes.{Cells}
 use Rattle.au_codes.specs.CellMeaning.{truth}
 use Rattle.au_codes.specs.Books.{Book}
 

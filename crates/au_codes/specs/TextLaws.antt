@@ -1,6 +1,5 @@
 -- What holds of the code of texts.
 use Rattle.std.specs.Prelude.{◌≡◌, ℕ, List, [], map, slice_get, Some, true}
-use Rattle.au_value.specs.declared.kinds.Kind.{Kind}
 use Rattle.au_value.specs.declared.value.Value.{Value}
 use Rattle.au_value.specs.Order.{kind_of}
 use Rattle.au_algebra.specs.Ordinary.{Rows}

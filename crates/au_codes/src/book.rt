@@ -1,5 +1,5 @@
 //! Codebooks, which tell the rank of a long text and the text of a rank.
-ghost use Rattle.std.specs.Prelude.{◌≡◌, ◌<◌, ◌+◌, ◌^◌, IfOk, ℕ, List, length, option_copied, slice_get, bytes_eq};
+ghost use Rattle.std.specs.Prelude.{◌≡◌, ◌<◌, ◌+◌, ◌^◌, IfOk, ℕ, List, option_copied, slice_get, bytes_eq};
 ghost use Rattle.std.specs.HashSet.{IsUnique};
 ghost use Rattle.std.specs.List.{AllByRecursion};
 ghost use Rattle.std.specs.List.Sorted.{IsSortedBy};

@@ -25,7 +25,10 @@ fn tag(book: &Codebook, word: &Word) -> usize
     ensures small { result < 2 ^ 31 }
 {
     let length = word.as_str().len();
-    if length <= 12 { length } else { 13 + book.below(word) }
+    if length <= 12 {
+        return length;
+    }
+    13 + book.below(word)
 }
 
 // Bytes and a tag as one number.

@@ -1,6 +1,6 @@
 -- What is read so far is no greater than the front.
-use Rattle.std.proofs.Common.{◌<◌, ◌^◌, arith}
-use Rattle.au_codes.proofs.Fronts.{AreBytes, bytes_from, next_byte, packed_small, packed_within}
+use Rattle.std.proofs.Common.{arith}
+use Rattle.au_codes.proofs.Fronts.{bytes_from, next_byte, packed_within}
 use Rattle.au_codes.proofs.packing.pack.Goals as goal
 
 pub overflow_mul-number : goal.overflow_mul-number

@@ -1,5 +1,5 @@
 -- A rank is at most the number of texts.
-use Rattle.std.proofs.Common.{◌∙◌, ◌<◌, ◌+◌, ◌^◌, ap, sym, arith, length}
+use Rattle.std.proofs.Common.{◌∙◌, ap, sym, arith, length}
 use Rattle.au_codes.specs.Books.{IsCodebook}
 use Rattle.au_codes.proofs.Ranks.{rank_small, some_few}
 use Rattle.au_codes.proofs.book.Codebook.below.Goals as goal

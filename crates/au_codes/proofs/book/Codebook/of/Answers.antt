@@ -1,8 +1,6 @@
 -- Texts in order, of which none is twice, and not too many, are a book.
-use Rattle.std.proofs.Common.{◌≡◌, ◌<◌, ◌≤◌, ◌+◌, ◌^◌, arith, length, List, ℕ}
+use Rattle.std.proofs.Common.{◌≡◌, ◌<◌, ◌+◌, ◌^◌, arith, length}
 use Rattle.std.specs.Str.{IsUtf8}
-use Rattle.std.specs.List.{AllByRecursion}
-use Rattle.au_codes.specs.Books.{Book, IsCodebook}
 use Rattle.au_codes.proofs.BookPlaces.{rising_from, same_texts}
 use Rattle.au_codes.proofs.book.Codebook.of.Goals as goal
 
