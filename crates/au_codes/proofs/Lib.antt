@@ -7,6 +7,7 @@ mod GroupRows
 mod JoinedRows
 mod KeptOrder
 mod Lists
+mod NormalCells
 mod PlanNumbers
 mod PlanRows
 mod Ranks

@@ -5,6 +5,7 @@ pub mod CellMeaning
 pub mod CellNumbers
 pub mod Careful
 pub mod Laws
+pub mod CellNormal
 pub mod Books
 pub mod TextCodes
 pub mod Decoding

@@ -5,8 +5,8 @@
 //! which is gathered from tables and a plan. So numbers are ordered as values are, and each number tells its value.
 //!
 //! What plans mean over rows of such numbers, over cells, is a definition in specs/. Its laws are stated for every code that
-//! keeps the order of texts: the rows of a typed plan over cells are the cells of its rows, and its numbers leave 128 bits
-//! exactly where the plan's do.
+//! keeps the order of texts: the rows of a typed plan over cells are the cells of its rows, its numbers leave 128 bits
+//! exactly where the plan's do, and the normal form over cells is the cells of the normal form.
 //!
 //! ```text
 //! let mut texts = LongTexts::new(alloc);
@@ -37,7 +37,7 @@ pub use gathering::{add_expr, add_plan};
 pub use long_texts::LongTexts;
 pub use text_codes::{code_text, decode_text};
 pub use theorems::{
-    careful_is_exact, cells_keep_numbers, cells_keep_rows, cells_keep_values, cells_stand,
-    codes_keep_order, gathered_are_known, plans_worked, ranks_are_places, text_codes_keep_order,
-    texts_worked,
+    careful_is_exact, cells_keep_normal, cells_keep_numbers, cells_keep_rows, cells_keep_values,
+    cells_stand, codes_keep_order, gathered_are_known, plans_worked, ranks_are_places,
+    text_codes_keep_order, texts_worked,
 };

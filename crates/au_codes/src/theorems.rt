@@ -1,5 +1,6 @@
 //! Laws of codes. Each is the contract of a function that does nothing.
 ghost use Rattle.au_codes.specs.Careful.{CarefulIsExact};
+ghost use Rattle.au_codes.specs.CellNormal.{CellsKeepNormal};
 ghost use Rattle.au_codes.specs.Laws.{CellsKeepNumbers, CellsKeepRows, CellsKeepValues, CodesKeepOrder};
 ghost use Rattle.au_codes.specs.TextLaws.{CellsStand, GatheredAreKnown, RanksArePlaces, TextCodesKeepOrder};
 ghost use Rattle.au_codes.specs.Worked.{PlansWorked, TextsWorked};
@@ -22,6 +23,11 @@ pub fn cells_keep_rows()
 /// The numbers of typed plans over cells fit 128 bits exactly where those of the plans do.
 pub fn cells_keep_numbers()
     ensures { CellsKeepNumbers }
+{}
+
+/// The normal form over cells is the cells of the normal form.
+pub fn cells_keep_normal()
+    ensures { CellsKeepNormal }
 {}
 
 /// The careful value of an expression is its value, exactly where its numbers fit 128 bits.
