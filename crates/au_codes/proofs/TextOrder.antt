@@ -1,5 +1,5 @@
 -- The code of texts keeps their order.
-use Rattle.std.specs.Prelude.{◌≡◌, ◌<◌, ◌≤◌, ◌+◌, ◌*◌, ◌-◌, ◌^◌, ℕ, Bool, true, false, cond, ◌&&◌, ◌||◌, List, length, pos, nat_abs, nat_le}
+use Rattle.std.specs.Prelude.{◌≡◌, ◌<◌, ◌≤◌, ◌+◌, ◌*◌, ◌-◌, ◌^◌, ℕ, Bool, true, false, cond, ◌&&◌, ◌||◌, List, length, pos, nat_abs, nat_le, Some, None}
 use Rattle.std.specs.Str.{IsUtf8, is_utf8}
 use Rattle.std.specs.declared.cmp.Ordering.{Ordering}
 use Rattle.std.specs.declared.cmp.Ordering.TheVariants.{Less, Equal, Greater}
@@ -13,7 +13,7 @@ use Rattle.std.proofs.lemmas.Str.{IsUtf8-from_is_utf8}
 use Rattle.au_value.specs.Numeral.{is_i128}
 use Rattle.au_codes.specs.Codes.{KeepsOrder, number_at_most}
 use Rattle.au_codes.specs.Books.{Book, has, rank, IsCodebook}
-use Rattle.au_codes.specs.TextCodes.{is_short, packed, tag, text_number, knows_text, text_code}
+use Rattle.au_codes.specs.TextCodes.{is_short, packed, short_number, tag, text_number, knows_text, text_code}
 use Rattle.au_codes.proofs.BookPlaces.{all_has}
 use Rattle.au_codes.proofs.Fronts.{text_bytes, packed_small, Lower, apart, shorter, longer, lower_text}
 use Rattle.au_codes.proofs.Ranks.{rank_below, rank_small}
@@ -57,6 +57,12 @@ tag_small book w is =
 tag_rises : (b : Bool) (l m r : ℕ) → nat_le m 12 ≡ b → l < m → l ≤ 12 → l < cond b m (13 + r)
 tag_rises true l m r e h k = h
 tag_rises false l m r e h k = omega (arith, k)
+
+-- a short text needs no book
+pub needs_no_book : (book : Book) (w : List ℕ) → is_short w ≡ true → short_number w ≡ Some (pos (text_number book w))
+needs_no_book book w h =
+    ap (λ b. cond b (Some (pos (packed 12 0 w * 2 ^ 31 + length w))) None) h
+    ∙ ap (λ b. Some (pos (packed 12 0 w * 2 ^ 31 + cond b (length w) (13 + rank book w)))) (sym h)
 
 -- ---- numbers
 

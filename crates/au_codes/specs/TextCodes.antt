@@ -1,6 +1,6 @@
 -- The code of texts. A short text, of at most 12 bytes, is a number by itself: its bytes, zeros behind them, and its
 -- length. A long one has its first 12 bytes, and then 13 and its rank among the long texts of a book.
-use Rattle.std.specs.Prelude.{ℕ, zero, suc, ◌+◌, ◌*◌, ◌^◌, Bool, ◌&&◌, ◌||◌, List, [], ◌∷◌, length, pos, nat_le, if◌then◌else◌}
+use Rattle.std.specs.Prelude.{ℕ, zero, suc, ◌+◌, ◌*◌, ◌^◌, Bool, ◌&&◌, ◌||◌, List, [], ◌∷◌, length, ℤ, pos, nat_le, Option, Some, None, if◌then◌else◌}
 use Rattle.std.specs.Str.{is_utf8}
 use Rattle.au_codes.specs.Codes.{Code}
 use Rattle.au_codes.specs.Books.{Book, rank, has}
@@ -22,6 +22,10 @@ tag book w = if is_short w then length w else 13 + rank book w
 -- the number of a text: 96 bits of bytes, and 31 bits of tag, so that none is negative, and the empty text is 0
 abbrev pub text_number : Book → List ℕ → ℕ
 text_number book w = packed 12 0 w * 2 ^ 31 + tag book w
+
+-- that of a short text, for which no book is needed
+abbrev pub short_number : List ℕ → Option ℤ
+short_number w = if is_short w then Some (pos (packed 12 0 w * 2 ^ 31 + length w)) else None
 
 -- whether a text is short, or one of the book
 abbrev pub knows_text : Book → List ℕ → Bool

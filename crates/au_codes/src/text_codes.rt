@@ -1,7 +1,7 @@
 //! The number of a text, and the text of a number.
 ghost use Rattle.std.specs.Prelude.{◌≡◌, ◌<◌, ◌≤◌, ◌+◌, ◌*◌, ◌^◌, [], IfOk, pos, take};
 ghost use Rattle.au_codes.specs.Decoding.{decoded_text, text_of as text_by_tag, text_or_none, unpacked};
-ghost use Rattle.au_codes.specs.TextCodes.{tag as tag_in, text_number};
+ghost use Rattle.au_codes.specs.TextCodes.{short_number, tag as tag_in, text_number};
 
 use crate::book::Codebook;
 use crate::packing::{pack, unpack};
@@ -17,6 +17,16 @@ pub fn code_text(book: &Codebook, word: &Word) -> i128
     ensures { result ≡ pos (text_number book.now word.now) }
 {
     joined(pack(word.as_str().as_bytes()), tag(book, word))
+}
+
+/// The number of a text of at most 12 bytes, for which no book is needed.
+pub fn code_short(text: &[u8]) -> Option<i128>
+    ensures { result ≡ short_number text.now }
+{
+    if text.len() > 12 {
+        return None;
+    }
+    Some(joined(pack(text), text.len()))
 }
 
 // What tells apart the texts whose first 12 bytes are alike.

@@ -2,7 +2,7 @@
 ghost use Rattle.au_codes.specs.Careful.{CarefulIsExact};
 ghost use Rattle.au_codes.specs.CellNormal.{CellsKeepNormal};
 ghost use Rattle.au_codes.specs.Laws.{CellsKeepNumbers, CellsKeepRows, CellsKeepValues, CodesKeepOrder};
-ghost use Rattle.au_codes.specs.TextLaws.{CellsStand, GatheredAreKnown, RanksArePlaces, TextCodesKeepOrder};
+ghost use Rattle.au_codes.specs.TextLaws.{CellsStand, GatheredAreKnown, RanksArePlaces, ShortNeedNoBook, TextCodesKeepOrder};
 ghost use Rattle.au_codes.specs.Worked.{PlansWorked, TextsWorked};
 
 /// Values and rows are ordered as their codes are.
@@ -38,6 +38,11 @@ pub fn careful_is_exact()
 /// The code of texts keeps their order.
 pub fn text_codes_keep_order()
     ensures { TextCodesKeepOrder }
+{}
+
+/// The number of a short text needs no book.
+pub fn short_need_no_book()
+    ensures { ShortNeedNoBook }
 {}
 
 /// A text of a book stands at the place of its rank.
