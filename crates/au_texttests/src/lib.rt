@@ -1,5 +1,5 @@
-//! Tests of the calls that read and write texts: values, records, table files, tokens, statements, types, words and
-//! generated tables.
+//! Tests of the calls that read and write texts: values, codes, records, table files, tokens, statements, types, words
+//! and generated tables.
 //!
 //! It has no code of its own. A test is a table of cases, `GIVEN -> WANTED` on a line each: what a call is given, and its
 //! result as a text. In what is given `~` is an LF, `^` a CR, `#` a byte that begins no character, and `«33 (»` thirty-three
@@ -15,6 +15,8 @@
 
 #[cfg(test)]
 mod cases;
+#[cfg(test)]
+mod code_tests;
 #[cfg(test)]
 mod csv_tests;
 #[cfg(test)]

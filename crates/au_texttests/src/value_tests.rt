@@ -45,8 +45,8 @@ impl Call for Totals {
     }
 }
 
-// The values of a text, which stand apart by ` | `.
-fn values(alloc: Global, text: &str) -> Result<Vec<Value>, AllocError> {
+/// The values of a text, which stand apart by ` | `.
+pub(crate) fn values(alloc: Global, text: &str) -> Result<Vec<Value>, AllocError> {
     let mut values = Vec::new(alloc);
     for word in text.split(" | ") {
         values.push(value(alloc, word)?)?;
