@@ -10,7 +10,7 @@ use au_value::{NoMemory, Word};
 use indexmap::IndexSet;
 use std::marker::Model;
 
-/// How many texts a book may have: so many that a tag, 13 and a rank, takes 31 bits.
+// How many texts a book may have: so many that a tag, 13 and a rank, takes 31 bits.
 const MOST_TEXTS: usize = 2147483634;
 
 /// Texts in order, each once. Contracts see their list.
@@ -30,7 +30,7 @@ impl Model for Codebook {
 }
 
 impl Codebook {
-    // The book of some texts. More than a book may have are no memory.
+    // The book of some texts. More than a book may have are want of memory.
     pub(crate) fn of(texts: IndexSet<Word>) -> Result<Codebook, NoMemory>
         requires { AllByRecursion IsUtf8 texts.keys }
         ensures { IfOk result (λ book. IsBookOf texts.keys book) }
@@ -49,7 +49,7 @@ impl Codebook {
         self.texts.get_index_of(word)
     }
 
-    /// How many texts are below this one. Of a text that the book has it is the rank.
+    /// How many texts are below this one. Of a text that the book has it is the rank. With 13 it takes at most 31 bits.
     pub fn below(&self, word: &Word) -> usize
         ensures is { result ≡ rank self.now word.now }
         ensures few { result + 13 < 2 ^ 31 }

@@ -80,7 +80,7 @@ impl LongTexts {
         Ok(())
     }
 
-    /// The book of the texts.
+    /// The book of the texts. More than 2^31 - 14 of them are want of memory.
     pub fn book(self) -> Result<Codebook, NoMemory>
         ensures { IfOk result (λ book. IsBookOf self book) }
     {

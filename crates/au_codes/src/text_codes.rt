@@ -9,7 +9,7 @@ use au_value::{NoMemory, Word};
 use std::alloc::Global;
 use std::str;
 
-/// How many tags there are.
+// How many tags there are.
 const TAGS: u128 = 2147483648;
 
 /// The number of a text. Of a long one that the book doesn't have it says nothing.
