@@ -76,17 +76,13 @@ first_picked tk js k kept es p e el boxed =
       ),
     ))
 
--- The first grouping has the kinds of its keys and of a triple, and then those of the further aggregates.
-pub first_kinds : (tk : List (List Kind)) (ks js : List Kind) (k : ℕ) (kept : List PAgg) (es : List Kind) (p : PlanTree) → length js ≡ k → length es ≡ length kept → EndsOfAll own own own (encoded_kinds ks) 0 js → all_kinds (map (plain_agg_kind (encoded_kinds ks ++ four)) kept) ≡ Some es → HasKinds tk p ks → plan_kinds tk (first_grouping (length ks) k kept p) ≡ Some (triple_kinds js ++ (Int ∷ Int ∷ Int ∷ es))
-first_kinds tk ks js k kept es p e el keys more h =
+-- The rows with what they add to the triple of their group have four numbers more.
+pub wide_kinds : (tk : List (List Kind)) (ks js : List Kind) (k : ℕ) (p : PlanTree) → length js ≡ k → EndsOfAll own own own (encoded_kinds ks) 0 js → HasKinds tk p ks → plan_kinds tk (extend_all (group_columns (length ks) k) p) ≡ Some (encoded_kinds ks ++ four)
+wide_kinds tk ks js k p e keys h =
     let c = length ks in
     let t = 3 * c in
-    let n = 3 * c + 3 in
-    let w = 3 * k in
     let row = encoded_kinds ks in
-    let wide = row ++ four in
     let counts = coded_triple own own own own own own c ks Int refl in
-    let long = coded_long own own own own own own c ks Int refl in
     let sure = sure_kind row 0 k js e keys in
     let l = column_kind row t Int counts.lo in
     let g = column_kind row (t + 1) Int counts.sg in
@@ -100,8 +96,18 @@ first_kinds tk ks js k kept es p e el keys more h =
         (case_kind row zero_term (hi t) Int (all_sure 0 k) sure z m, (case_kind row one_term zero_term Int (all_sure 0 k) sure o z, tt)),
       ),
     ) in
+    kinds-extend_all tk (group_columns c k) p row (row ++ four) h grown
+
+-- The first grouping has the kinds of its keys and of a triple, and then those of the further aggregates.
+pub first_kinds : (tk : List (List Kind)) (ks js : List Kind) (k : ℕ) (kept : List PAgg) (es : List Kind) (p : PlanTree) → length js ≡ k → length es ≡ length kept → EndsOfAll own own own (encoded_kinds ks) 0 js → all_kinds (map (plain_agg_kind (encoded_kinds ks ++ four)) kept) ≡ Some es → HasKinds tk p ks → plan_kinds tk (first_grouping (length ks) k kept p) ≡ Some (triple_kinds js ++ (Int ∷ Int ∷ Int ∷ es))
+first_kinds tk ks js k kept es p e el keys more h =
+    let c = length ks in
+    let n = 3 * c + 3 in
+    let row = encoded_kinds ks in
+    let wide = row ++ four in
+    let long = coded_long own own own own own own c ks Int refl in
     let inner = extend_all (group_columns c k) p in
-    let first = kinds-extend_all tk (group_columns c k) p row wide h grown in
+    let first = wide_kinds tk ks js k p e keys h in
     let at0 : At wide n Int = at_past row four 0 n Int (omega (arith, long)) refl in
     let at1 : At wide (n + 1) Int = at_past row four 1 (n + 1) Int (omega (arith, long)) refl in
     let at2 : At wide (n + 2) Int = at_past row four 2 (n + 2) Int (omega (arith, long)) refl in

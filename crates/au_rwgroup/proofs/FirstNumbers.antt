@@ -9,6 +9,7 @@ use Rattle.au_value.specs.Ranges.{Span, IsRangeOf, all_certain, guesses}
 use Rattle.au_expr.specs.Figures.{Fit}
 use Rattle.au_expr.proofs.Fits.{fit_both, fit_parts}
 use Rattle.au_algebra.specs.declared.query.Agg.{Agg}
+use Rattle.au_algebra.specs.declared.query.Agg.TheVariants as agg
 use Rattle.au_algebra.specs.Fits.{triple_numbers}
 use Rattle.au_algebra.specs.Lists.{same_row, copies}
 use Rattle.au_algebra.specs.Ordinary.{Rows}
@@ -45,6 +46,7 @@ use Rattle.au_combine.proofs.CombineNumbers.{box_magnitudes, sum_magnitudes}
 use Rattle.au_combine.proofs.Grouping.{all_occur, some_with, numbers_made}
 use Rattle.au_rwexpr.proofs.Flags.{counted, sum_failing}
 use Rattle.au_rwgroup.specs.Groups.{sure, all_sure, group_columns, first_aggs, first_grouping, distinct_plan}
+use Rattle.au_rwgroup.specs.GroupPlan.{kept_for}
 use Rattle.au_rwgroup.proofs.FirstGroup as group
 use Rattle.au_rwgroup.proofs.FirstRows as rows_of
 use Rattle.au_rwgroup.proofs.KeyReading.{KeyReading, all_cells}
@@ -80,6 +82,13 @@ ends_numbers rows (Max c ∷ more) h = ends_numbers rows more h.1
 of_made : {A B : Type 0} (Q : B → Type 0) (g : A → B) (xs : List A) → AllByRecursion Q (map g xs) → AllByRecursion (λ x. Q (g x)) xs
 of_made Q g [] h = tt
 of_made Q g (x ∷ xs) h = (h.0, of_made Q g xs h.1)
+
+-- what the first grouping keeps are ends
+pub kept_ends : (aggs : List Agg) → AllByRecursion IsEnd (flat_map kept_for aggs)
+kept_ends [] = tt
+kept_ends (agg.Sum d ∷ aggs) = kept_ends aggs
+kept_ends (agg.Min d ∷ aggs) = (tt, (tt, kept_ends aggs))
+kept_ends (agg.Max d ∷ aggs) = (tt, (tt, kept_ends aggs))
 
 left_le : (a b : ℕ) → a ≤ a + b
 left_le a b = omega arith
@@ -196,6 +205,14 @@ module _ (by : KeyReading) where
       (λ t. subst (λ row. Fit (term_numbers sum row)) (sym (rows_of.parts_are by more g gs all))
       (parts_fit more (g ∷ gs) (hull_long (λ r. by.keys r.cells) by.k g gs (all_from (IsRangeRow by.ks) (λ r. length (by.keys r.cells) ≡ by.k) (g ∷ gs) by.long all)) t)) q.1))
 
+  -- what is added to the rows makes no number that does not fit
+  pub wider_fits : (ts : List Rows) (p : PlanTree) (rows : Bounded) → IsRelation by.ks rows → GivesEncoded ts p rows → AllByRecursion Held rows → Fit (plan_numbers p ts) → Fit (plan_numbers (extend_all (group_columns c by.k) p) ts)
+  wider_fits ts p rows ok g held np =
+      let columns = group_columns c by.k in
+      numbers-extend_all ts columns p np
+      (subst (λ rs. AllByRecursion (λ row. Fit (grow_numbers columns row)) rs) (sym g)
+      (all_made (λ r. IsRangeRow by.ks r × Held r) (λ row. Fit (grow_numbers columns row)) encode_row rows (all_both (IsRangeRow by.ks) Held rows ok held) (λ r q. added_fit r q.0 q.1)))
+
   -- The first grouping adds no number that does not fit.
   pub first_fits : (ts : List Rows) (p : PlanTree) (more : List PAgg) (rows : Bounded) → IsRelation by.ks rows → GivesEncoded ts p rows → AllByRecursion Held rows → AllByRecursion (λ key. Fit (counts_of (members key rows))) (guessed_keys by.keys rows) → AllByRecursion (λ key. Fit (kept_numbers more (members key rows))) (guessed_keys by.keys rows) → Fit (plan_numbers p ts) → Fit (plan_numbers (first_grouping c by.k more p) ts)
   first_fits ts p more rows ok g held counts kept np =
@@ -204,10 +221,6 @@ module _ (by : KeyReading) where
       let aggs = box_aggs 0 by.k ++ first_aggs n more in
       let groups = boxes by.k (first_aggs n more) inner in
       let all = guessed_keys by.keys rows in
-      let wider : Fit (plan_numbers inner ts) =
-      numbers-extend_all ts columns p np
-      (subst (λ rs. AllByRecursion (λ row. Fit (grow_numbers columns row)) rs) (sym g)
-      (all_made (λ r. IsRangeRow by.ks r × Held r) (λ row. Fit (grow_numbers columns row)) encode_row rows (all_both (IsRangeRow by.ks) Held rows ok held) (λ r q. added_fit r q.0 q.1))) in
       let each : AllByRecursion (λ key. Fit (flat_map (magnitudes (map wide (members key rows))) aggs)) all =
       all_from (λ key. Fit (counts_of (members key rows)) × Fit (kept_numbers more (members key rows))) (λ key. Fit (flat_map (magnitudes (map wide (members key rows))) aggs)) all
       (λ key q. one_fits more (members key rows) (all_filter (IsRangeRow by.ks) (λ r. same_row key (guesses (by.keys r.cells))) rows ok) q.0 q.1)
@@ -217,7 +230,7 @@ module _ (by : KeyReading) where
       let numbers : Fit (group_numbers (sg_places 0 by.k) aggs (plain_rows inner ts)) =
       subst (λ rs. Fit (group_numbers (sg_places 0 by.k) aggs rs)) (sym (rows_of.wide_rows by ts p rows ok g))
       (subst (λ ns. Fit ns) (sym made) (fit_all (λ key. flat_map (magnitudes (map wide (members key rows))) aggs) all each)) in
-      fit_both (plan_numbers groups ts) (flat_map (term_numbers sum) (plain_rows groups ts)) (fit_both (plan_numbers inner ts) (group_numbers (sg_places 0 by.k) aggs (plain_rows inner ts)) wider numbers)
+      fit_both (plan_numbers groups ts) (flat_map (term_numbers sum) (plain_rows groups ts)) (fit_both (plan_numbers inner ts) (group_numbers (sg_places 0 by.k) aggs (plain_rows inner ts)) (wider_fits ts p rows ok g held np) numbers)
       (subst (λ rs. Fit (flat_map (term_numbers sum) rs)) (sym (rows_of.boxed_rows by ts p more rows ok g))
       (fit_all (term_numbers sum) (map (rows_of.box_row by more rows) all) (last_fits more rows ok counts)))
 

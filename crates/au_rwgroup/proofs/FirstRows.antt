@@ -1,5 +1,5 @@
 -- The rows of the first grouping, and so of Distinct.
-use Rattle.std.specs.Prelude.{◌≡◌, ◌≤◌, ◌<◌, ℕ, ◌+◌, ◌*◌, Bool, true, false, not, ◌||◌, ◌&&◌, cond, List, [], ◌∷◌, ◌++◌, length, map, filter, pos, nat_le, unwrap_or, sum_by, if◌then◌else◌}
+use Rattle.std.specs.Prelude.{◌≡◌, ◌≤◌, ◌<◌, ℕ, ◌+◌, ◌*◌, Bool, not, ◌&&◌, List, [], ◌∷◌, ◌++◌, length, map, filter, pos, nat_le, unwrap_or, sum_by, if◌then◌else◌}
 use Rattle.std.specs.List.{AllByRecursion, list_any}
 use Rattle.std.proofs.Common.{arith, refl, sym, ◌∙◌, ap, subst, append_assoc}
 use Rattle.std.proofs.lemmas.List.{length-append, length-map, append-nil}
@@ -14,7 +14,6 @@ use Rattle.au_algebra.specs.Ordinary.{Rows}
 use Rattle.au_algebra.specs.Bounded as bounded
 use Rattle.au_algebra.specs.Bounded.{RangeRow, Bounded, hull_of, group_counts, some_of, most_of, output, guessed_keys}
 use Rattle.au_algebra.specs.Laws.{IsRangeRow, IsRelation}
-use Rattle.au_algebra.proofs.Choices.{sum_if}
 use Rattle.au_algebra.proofs.Each.{all_filter, all_from}
 use Rattle.au_plain.specs.declared.plan.PAgg.{PAgg}
 use Rattle.au_plain.specs.declared.plan.PAgg.TheVariants.{Max}
@@ -39,7 +38,7 @@ use Rattle.au_rwexpr.proofs.Present.{present_map}
 use Rattle.au_rwexpr.proofs.Flags.{counted, greatest_counted, sum_failing}
 use Rattle.au_rwgroup.proofs.FirstGroup as group
 use Rattle.au_rwexpr.proofs.Coded.{rl, rs, rh, cl, cg, cm}
-use Rattle.au_rwgroup.proofs.KeyReading.{KeyReading, all_cells}
+use Rattle.au_rwgroup.proofs.KeyReading.{KeyReading, all_cells, hull_most}
 
 -- the last steps on a row: the most is the sum of two columns
 finish : {B : Type 0} (k : ℕ) (box : List Span) (a b : Value) (u o : ℕ) (g : B → Value) (xs : List B) → length box ≡ k → kept (cell_places 0 k ++ (3 * k ∷ (3 * k + 1) ∷ (3 * k + 4 + length xs) ∷ run (3 * k + 4) (length xs))) (extended (Add (Column (3 * k + 2)) (Column (3 * k + 3))) (encode_cells box ++ (a ∷ b ∷ value.Int (pos u) ∷ value.Int (pos o) ∷ map g xs))) ≡ encode_cells box ++ (a ∷ b ∷ value.Int (pos (u + o)) ∷ map g xs)
@@ -101,7 +100,7 @@ module _ (by : KeyReading) where
       )
 
   -- the greatest of a column of flags
-  max_flag : (m : ℕ) (t : RangeRow → Bool) → ((r : RangeRow) → IsRangeRow by.ks r → At (wide r) m (counted (t r))) → (g : RangeRow) (gs : Bounded) → IsRelation by.ks (g ∷ gs) → plain_aggregate (map wide (g ∷ gs)) (Max m) ≡ counted (list_any t (g ∷ gs))
+  pub max_flag : (m : ℕ) (t : RangeRow → Bool) → ((r : RangeRow) → IsRangeRow by.ks r → At (wide r) m (counted (t r))) → (g : RangeRow) (gs : Bounded) → IsRelation by.ks (g ∷ gs) → plain_aggregate (map wide (g ∷ gs)) (Max m) ≡ counted (list_any t (g ∷ gs))
   max_flag m t at g gs v =
       ap greatest (map-map wide (λ row. value_at row m) (g ∷ gs) ∙ map_valid (IsRangeRow by.ks) (λ r. value_at (wide r) m) (λ r. counted (t r)) (g ∷ gs) v (λ r p. ap (λ o. unwrap_or o (value.Int (pos 0))) (at r p)))
       ∙ greatest_counted t g gs
@@ -175,14 +174,6 @@ module _ (by : KeyReading) where
       subst (λ ss. kept places (extended sum (encode_cells (hull_of (map (λ r. by.keys r.cells) ss)) ++ map (plain_aggregate (map wide ss)) (first_aggs n more))) ≡ first_row more ss) (sym some.is)
       (each_first more some.first some.others all)))
 
-  -- each group may have a row
-  pub most_there : (g : RangeRow) (gs : Bounded) → IsRelation by.ks (g ∷ gs) → 1 ≤ (group_counts by.keys (g ∷ gs)).most
-  most_there g gs v = subst (λ m. 1 ≤ m + some_of surely (g ∷ gs)) (sym (sum_if (λ r. r.annot.most) (not (surely g)) g (filter (λ r. not (surely r)) gs))) (by_test (surely g))
-    where
-      by_test : (b : Bool) → 1 ≤ cond (not b) g.annot.most 0 + sum_by (λ r. r.annot.most) (filter (λ r. not (surely r)) gs) + (if b || list_any surely gs then 1 else 0)
-      by_test true = omega arith
-      by_test false = omega (arith, v.0.present)
-
   -- each list of guessed keys gives a row
   pub all_present : (aggs : List Agg) (rows : Bounded) → IsRelation by.ks rows → bounded.group_by by.keys aggs rows ≡ map (output by.keys aggs rows) (guessed_keys by.keys rows)
   all_present aggs rows ok =
@@ -191,7 +182,7 @@ module _ (by : KeyReading) where
       (λ key o.
       (let some = some_with keys_of key rows o in
       let all = subst (λ ss. AllByRecursion (IsRangeRow by.ks) ss) some.is (all_filter (IsRangeRow by.ks) (λ r. same_row key (guesses (by.keys r.cells))) rows ok) in
-      subst (λ ss. 1 ≤ (group_counts by.keys ss).most) (sym some.is) (most_there some.first some.others all)))
+      subst (λ ss. 1 ≤ (group_counts by.keys ss).most) (sym some.is) (hull_most by.keys by.ks some.first some.others all)))
 
 -- Distinct's plan gives the rows of the bounded operator.
 pub distinct_gives : (ks : List Kind) (ts : List Rows) (p : PlanTree) (rows : Bounded) → IsRelation ks rows → GivesEncoded ts p rows → GivesEncoded ts (plans.distinct_plan (length ks) p) (bounded.distinct_rows rows)

@@ -14,7 +14,7 @@ use Rattle.au_expr.proofs.Fits.{fit_both, fit_parts}
 use Rattle.au_expr.proofs.Within.{numbers_in_order}
 use Rattle.au_algebra.specs.declared.query.Agg.{Agg}
 use Rattle.au_algebra.specs.declared.query.Agg.TheVariants as agg
-use Rattle.au_algebra.specs.Bounded.{RangeRow, Bounded, Grouped, lower_term, upper_term, guess_term, grouped, range_at, guessed_keys}
+use Rattle.au_algebra.specs.Bounded.{RangeRow, Bounded, Grouped, lower_term, upper_term, guess_term, range_at, guessed_keys}
 use Rattle.au_algebra.specs.Fits.{agg_numbers}
 use Rattle.au_algebra.specs.Laws.{IsRangeRow, IsRelation}
 use Rattle.au_algebra.specs.Lists.{same_row, value_at}
@@ -49,7 +49,7 @@ use Rattle.au_rwgroup.proofs.FitTerms.{Safe, reads_safe, weighs_safe, safe_colum
 use Rattle.au_rwgroup.proofs.FoldRows as folds_of
 use Rattle.au_rwgroup.proofs.FoldRows.{low_term, high_term, sure_low_term, sure_high_term, term_values, all_term_values, FivesAt}
 use Rattle.au_rwgroup.proofs.FoldTerms.{low_within, high_within, sure_low_within, sure_high_within}
-use Rattle.au_rwgroup.proofs.KeyReading.{KeyReading}
+use Rattle.au_rwgroup.proofs.KeyReading.{KeyReading, grouped_in}
 use Rattle.au_rwgroup.proofs.MemberNumbers as numbers
 use Rattle.au_rwgroup.proofs.Partition.{every_key, made_from, from_shares}
 use Rattle.au_rwgroup.proofs.SecondRows as second
@@ -102,7 +102,7 @@ module _ (by : KeyReading) (aggs : List Agg) (on : AllByRecursion (OnColumn by.k
   shared = sharing by rows ok folding.EqualKeys
 
   abbrev group_at : List Value → Grouped
-  group_at key = grouped by.keys rows key
+  group_at key = grouped_in by rows key
 
   abbrev IsKey : List Value → Type 0
   IsKey key = second.IsKey by (flat_map kept_for aggs) aggs rows ok key

@@ -31,7 +31,7 @@ use Rattle.au_rwgroup.specs.declared.folding.Folding.{Folding}
 use Rattle.au_rwgroup.specs.Folds.{fold_width, folds}
 use Rattle.au_rwgroup.specs.Groups.{all_sure, first_grouping}
 use Rattle.au_rwgroup.specs.GroupPlan as plans
-use Rattle.au_rwgroup.specs.GroupPlan.{Places, kept_for, all_member_columns, each_member_columns, all_member_aggs, all_result_columns, second_grouping, result_places, group_plan}
+use Rattle.au_rwgroup.specs.GroupPlan.{Places, kept_for, all_member_columns, each_member_columns, all_member_aggs, all_result_columns, second_grouping, result_places, group_over, group_plan}
 use Rattle.au_rwgroup.proofs.AggregatesOn.{kind_on, OnColumn}
 use Rattle.au_rwgroup.proofs.FoldKinds.{fold_kinds, folds_typed, fives, fives_long, FiveAt, five_at, five_more}
 use Rattle.au_rwgroup.proofs.FirstKinds.{first_kinds, sure_kind, four}
@@ -100,13 +100,13 @@ module _ (ks js : List Kind) (k : ℕ) (long : length js ≡ k) (part : (row : L
   kept = flat_map kept_for aggs
 
   -- the kinds of those for which something is kept
-  abbrev ends_of : List Agg → List Kind
+  abbrev pub ends_of : List Agg → List Kind
   ends_of [] = []
   ends_of (agg.Sum d ∷ bs) = ends_of bs
   ends_of (agg.Min d ∷ bs) = kind_on ks (agg.Min d) ∷ ends_of bs
   ends_of (agg.Max d ∷ bs) = kind_on ks (agg.Max d) ∷ ends_of bs
 
-  kept_long : (bs : List Agg) → length (twice (ends_of bs)) ≡ length (flat_map kept_for bs)
+  pub kept_long : (bs : List Agg) → length (twice (ends_of bs)) ≡ length (flat_map kept_for bs)
   kept_long [] = refl
   kept_long (agg.Sum d ∷ bs) = kept_long bs
   kept_long (agg.Min d ∷ bs) = ap (λ n. suc (suc n)) (kept_long bs)
@@ -116,7 +116,7 @@ module _ (ks js : List Kind) (k : ℕ) (long : length js ≡ k) (part : (row : L
   pair rest a b = a ∷ b ∷ rest
 
   -- the kinds of what the first grouping keeps
-  kept_kinds_are : (row : List Kind) → EndsOfAll own own own row 0 ks → (bs : List Agg) → AllByRecursion (OnColumn ks) bs → all_kinds (map (plain_agg_kind row) (flat_map kept_for bs)) ≡ Some (twice (ends_of bs))
+  pub kept_kinds_are : (row : List Kind) → EndsOfAll own own own row 0 ks → (bs : List Agg) → AllByRecursion (OnColumn ks) bs → all_kinds (map (plain_agg_kind row) (flat_map kept_for bs)) ≡ Some (twice (ends_of bs))
   kept_kinds_are row at [] h = refl
   kept_kinds_are row at (agg.Sum d ∷ bs) h = kept_kinds_are row at bs h.1
   kept_kinds_are row at (agg.Min d ∷ bs) h =
@@ -422,5 +422,9 @@ module _ (ks js : List Kind) (k : ℕ) (long : length js ≡ k) (part : (row : L
     pub folds_there : (how : Folding) → plan_kinds tk (folds how c k aggs p) ≡ Some folded
     folds_there how = folds_typed ks js k long part aggs on tk p typed how
 
+    -- with any boxes of these kinds
+    pub over_typed : (boxes : PlanTree) → plan_kinds tk boxes ≡ Some box_kinds → (how : Folding) → HasKinds tk (group_over how c k aggs boxes p) (js ++ es)
+    over_typed boxes boxed how = shown_kinds tk boxes (folds how c k aggs p) boxed (folds_there how)
+
     pub group_typed : (how : Folding) → HasKinds tk (group_plan how c k aggs p) (js ++ es)
-    group_typed how = shown_kinds tk (first_grouping c k kept p) (folds how c k aggs p) boxes_typed (folds_there how)
+    group_typed how = over_typed (first_grouping c k kept p) boxes_typed how

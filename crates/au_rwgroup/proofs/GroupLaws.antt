@@ -35,26 +35,28 @@ use Rattle.au_rwgroup.specs.declared.folding.Folding.{Folding}
 use Rattle.au_rwgroup.specs.declared.folding.Folding.TheVariants as folding
 use Rattle.au_rwgroup.specs.Folds.{fold_columns, fold_width, folds}
 use Rattle.au_rwgroup.specs.Groups.{group_columns, first_grouping}
-use Rattle.au_rwgroup.specs.GroupPlan.{kept_for, places, all_member_columns, all_member_aggs, all_result_columns, second_grouping, group_plan}
+use Rattle.au_rwgroup.specs.GroupPlan.{kept_for, places, all_member_columns, all_member_aggs, all_result_columns, second_grouping, group_over, group_plan}
 use Rattle.au_rwgroup.proofs.AggregatesOn.{Typed, typed_on, are_on}
 use Rattle.au_rwgroup.proofs.GroupGives.{first_cells, group_gives, take_there}
-use Rattle.au_rwgroup.proofs.GroupKinds.{group_typed}
-use Rattle.au_rwgroup.proofs.GroupNumbers.{group_fits}
+use Rattle.au_rwgroup.proofs.FirstNumbers.{first_fits_ends, group_triples, held_keys, kept_ends}
+use Rattle.au_rwgroup.proofs.FirstRows.{first_rows}
+use Rattle.au_rwgroup.proofs.GroupKinds.{boxes_typed, group_typed}
+use Rattle.au_rwgroup.proofs.GroupNumbers.{over_fits}
 
 -- the first ranges fit where all do
-first_fit : (m : ℕ) (xs : List Span) → AllFit xs → AllFit (take m xs)
+pub first_fit : (m : ℕ) (xs : List Span) → AllFit xs → AllFit (take m xs)
 first_fit zero xs f = tt
 first_fit (suc m) [] f = tt
 first_fit (suc m) (x ∷ xs) f = (f.0, first_fit m xs f.1)
 
 -- the parts of typed keys and aggregates
-record Parts (m : ℕ) (aggs : List Agg) (ks js : List Kind) : Type 0 where
+pub record Parts (m : ℕ) (aggs : List Agg) (ks js : List Kind) : Type 0 where
   pub enough : m ≤ length ks
   pub others : List Kind
   pub typed : all_kinds (map (agg_kind ks) aggs) ≡ Some others
   pub whole : take m ks ++ others ≡ js
 
-parts : (m : ℕ) (aggs : List Agg) (ks js : List Kind) → group_kinds m aggs ks ≡ Some js → Parts m aggs ks js
+pub parts : (m : ℕ) (aggs : List Agg) (ks js : List Kind) → group_kinds m aggs ks ≡ Some js → Parts m aggs ks js
 parts m aggs ks js h =
     let p = chosen_is (nat_le m (length ks)) (option_and_then (λ more. Some (take m ks ++ more)) (all_kinds (map (agg_kind ks) aggs))) js h in
     let q = and_then_is _ (all_kinds (map (agg_kind ks) aggs)) js p.1 in
@@ -77,9 +79,13 @@ module _ (how : Folding) (kinds : List (List Kind)) (tables : List Rows) (ks : L
   numbers_fit f =
       let p = fit_parts ns own_numbers f in
       let q = fit_parts (grouping_numbers (take m) aggs rows) (triple_numbers (bounded.group m aggs rows)) p.1 in
-      group_fits (first_cells ks m enough) aggs t.on rows g.relation how kinds tables of g.typed tables_fit g.encoded
-      (gives_held kinds tables of ks rows ns g tables_fit p.0) (g.fit p.0) (λ xs h. first_fit m xs h) keys_long kinds_there
-      (all_fit (λ key. flat_map (agg_numbers (grouped (take m) rows key)) aggs) (guessed_keys (take m) rows) q.0) q.1
+      let by = first_cells ks m enough in
+      let kept = flat_map kept_for aggs in
+      let held = gives_held kinds tables of ks rows ns g tables_fit p.0 in
+      over_fits by aggs t.on rows g.relation how kinds tables of g.typed tables_fit g.encoded (g.fit p.0) keys_long kinds_there
+      (all_fit (λ key. flat_map (agg_numbers (grouped (take m) rows key)) aggs) (guessed_keys (take m) rows) q.0) (first_grouping (length ks) m kept of)
+      (first_rows by tables of kept rows g.relation g.encoded) (boxes_typed ks (take m ks) m keys_long kinds_there aggs t.on kinds of g.typed)
+      (first_fits_ends by tables of kept rows (kept_ends aggs) g.relation g.encoded (held_keys by (λ xs h. first_fit m xs h) rows held) (group_triples by aggs rows g.relation q.1) (g.fit p.0))
 
   all_given : GivesRelation kinds tables (group_plan how (length ks) m aggs of) (take m ks ++ others) (bounded.group m aggs rows) (ns ++ own_numbers)
   all_given = record {
@@ -91,24 +97,27 @@ module _ (how : Folding) (kinds : List (List Kind)) (tables : List Rows) (ks : L
     fit = numbers_fit;
   }
 
--- the input's plan twice
+-- the Scans of the boxes and of the input's plan, which Group's own boxes hold, too
 folds_scanned : (how : Folding) (c k : ℕ) (aggs : List Agg) (p : PlanTree) → scans (folds how c k aggs p) ≡ scans p
 folds_scanned folding.EqualKeys c k aggs p = scans-extend_all (fold_columns (3 * c) aggs) p
 folds_scanned folding.Rows c k aggs p = scans-extend_all (fold_columns (3 * c) aggs) p
 
-twice_scanned : (how : Folding) (c k : ℕ) (aggs : List Agg) (p : PlanTree) → scans (group_plan how c k aggs p) ≡ 2 * scans p
-twice_scanned how c k aggs p =
-    let kept = flat_map kept_for aggs in
-    let b = 3 * k + 3 + length kept in
+pub over_scanned : (how : Folding) (c k : ℕ) (aggs : List Agg) (boxes p : PlanTree) → scans (group_over how c k aggs boxes p) ≡ scans boxes + scans p
+over_scanned how c k aggs boxes p =
+    let b = 3 * k + 3 + length (flat_map kept_for aggs) in
     let t = b + fold_width k (length aggs) in
     let columns = all_member_columns (places k b t) (3 * k + 3) aggs in
-    let boxes = first_grouping c k kept p in
     let folded = folds how c k aggs p in
     let second = second_grouping k b columns (all_member_aggs (t + 4) aggs) boxes folded in
     let finish = all_result_columns (positive (Column (b + 4 * length aggs))) (positive (sg (3 * k))) b aggs in
     scans-extend_all finish second
     ∙ scans-extend_all columns (Join (meets_term b 0 k) boxes folded)
-    ∙ (let e : scans boxes + scans folded ≡ 2 * scans p = omega (arith, scans-extend_all (group_columns c k) p, folds_scanned how c k aggs p) in e)
+    ∙ ap (λ n. scans boxes + n) (folds_scanned how c k aggs p)
+
+twice_scanned : (how : Folding) (c k : ℕ) (aggs : List Agg) (p : PlanTree) → scans (group_plan how c k aggs p) ≡ 2 * scans p
+twice_scanned how c k aggs p =
+    let boxes = first_grouping c k (flat_map kept_for aggs) p in
+    over_scanned how c k aggs boxes p ∙ (let e : scans boxes + scans p ≡ 2 * scans p = omega (arith, scans-extend_all (group_columns c k) p) in e)
 
 module _ (how : Folding) (c m : ℕ) (aggs : List Agg) (of p : PlanTree) (is : p ≡ group_plan how c m aggs of) where
   group_as_is : Groups c m aggs of (group_plan how c m aggs of)

@@ -1,16 +1,15 @@
--- The numbers of Group's plan fit where those of the rows, of the aggregates and of the triples do.
+-- The numbers of Group's plan fit where those of its boxes, of the rows and of the aggregates do.
 use Rattle.std.specs.Prelude.{◌≡◌, ℕ, ◌+◌, ◌*◌, List, [], ◌∷◌, ◌++◌, length, map, flat_map, Some, ℤ}
 use Rattle.std.specs.List.{AllByRecursion}
 use Rattle.std.proofs.Common.{refl, sym, subst}
 use Rattle.au_value.specs.declared.kinds.Kind.{Kind}
 use Rattle.au_value.specs.declared.value.Value.{Value}
-use Rattle.au_value.specs.Ranges.{Span}
 use Rattle.au_expr.specs.Figures.{Fit}
 use Rattle.au_expr.proofs.Fits.{fit_both}
 use Rattle.au_algebra.specs.declared.query.Agg.{Agg}
 use Rattle.au_algebra.specs.declared.query.Agg.TheVariants as agg
-use Rattle.au_algebra.specs.Bounded.{Bounded, group_by, grouped}
-use Rattle.au_algebra.specs.Fits.{agg_numbers, triple_numbers}
+use Rattle.au_algebra.specs.Bounded.{Bounded}
+use Rattle.au_algebra.specs.Fits.{agg_numbers}
 use Rattle.au_algebra.specs.Laws.{IsRelation}
 use Rattle.au_algebra.specs.Ordinary.{Rows}
 use Rattle.au_algebra.proofs.Each.{all_append, all_filter, all_from}
@@ -23,7 +22,6 @@ use Rattle.au_plain.specs.PlanNumbers.{plan_numbers, term_numbers, magnitudes}
 use Rattle.au_plain.specs.PlanNumbers as plain
 use Rattle.au_plain.proofs.Held.{RowFits, rows_fit, joined_fits}
 use Rattle.au_encode.specs.Encode.{encoded_kinds}
-use Rattle.au_encode.proofs.HeldCells.{AllFit, AllFitRows}
 use Rattle.au_rwexpr.specs.Adding.{grow_numbers}
 use Rattle.au_rwexpr.specs.Cells.{run}
 use Rattle.au_rwexpr.specs.Counts.{positive}
@@ -39,13 +37,9 @@ use Rattle.au_rwexpr.proofs.PlanNumbersOf.{fit_all, all_made, numbers-extend_all
 use Rattle.au_combine.proofs.JoinGroups.{pairs, with_left}
 use Rattle.au_rwgroup.specs.declared.folding.Folding.{Folding}
 use Rattle.au_rwgroup.specs.Folds.{fold_width, folds}
-use Rattle.au_rwgroup.specs.Groups.{first_grouping}
 use Rattle.au_rwgroup.specs.GroupPlan as plans
-use Rattle.au_rwgroup.specs.GroupPlan.{Places, kept_for, all_member_columns, all_member_aggs, all_result_columns, second_grouping, group_plan}
+use Rattle.au_rwgroup.specs.GroupPlan.{Places, kept_for, all_member_columns, all_member_aggs, all_result_columns, second_grouping, group_over}
 use Rattle.au_rwgroup.proofs.AggregatesOn.{OnColumn, are_on}
-use Rattle.au_rwgroup.proofs.FirstNumbers as first
-use Rattle.au_rwgroup.proofs.FirstNumbers.{IsEnd}
-use Rattle.au_rwgroup.proofs.FirstRows.{first_rows}
 use Rattle.au_rwgroup.proofs.FoldNumbers.{folds_fit}
 use Rattle.au_rwgroup.proofs.FitTerms.{Reads, reads_fit, reading_columns, meets_reads}
 use Rattle.au_rwgroup.proofs.GroupKinds as kinds_of
@@ -55,14 +49,7 @@ use Rattle.au_rwgroup.proofs.ColumnsThere.{IsOn}
 use Rattle.au_rwgroup.proofs.MemberNumbers as numbers
 use Rattle.au_rwgroup.proofs.SecondRows as second
 use Rattle.au_rwgroup.proofs.Sharing.{Fold, Sharing, fold_row, fold_rows, sharing}
-use Rattle.au_rwgroup.proofs.KeyReading.{KeyReading}
-
--- what the first grouping keeps are ends
-kept_ends : (aggs : List Agg) → AllByRecursion IsEnd (flat_map kept_for aggs)
-kept_ends [] = tt
-kept_ends (agg.Sum d ∷ aggs) = kept_ends aggs
-kept_ends (agg.Min d ∷ aggs) = (tt, (tt, kept_ends aggs))
-kept_ends (agg.Max d ∷ aggs) = (tt, (tt, kept_ends aggs))
+use Rattle.au_rwgroup.proofs.KeyReading.{KeyReading, grouped_in}
 
 -- the ranges of the results are read
 results_read : (there has_guess : PTerm) (z : ℕ) (aggs : List Agg) → Reads there → Reads has_guess → AllByRecursion Reads (all_result_columns there has_guess z aggs)
@@ -144,7 +131,7 @@ module _ (by : KeyReading) (aggs : List Agg) (on : AllByRecursion (OnColumn by.k
   over = all_member_aggs n aggs
 
   abbrev numbers_at : List Value → List ℤ
-  numbers_at key = flat_map (agg_numbers (grouped by.keys rows key)) aggs
+  numbers_at key = flat_map (agg_numbers (grouped_in by rows key)) aggs
 
   pair_terms : (js : Rows) → AllByRecursion IsKey js → AllByRecursion (λ key. Fit (numbers_at key)) js → AllByRecursion TermsFit (pairs box_row folds_at js)
   pair_terms [] v f = tt
@@ -153,20 +140,9 @@ module _ (by : KeyReading) (aggs : List Agg) (on : AllByRecursion (OnColumn by.k
       (all_made (λ fold. TermsFit (j, fold)) TermsFit (λ fold. (j, fold)) (folds_at j) (numbers.key_terms by aggs are_there rows ok shared j v.0 aggs f.0) (λ fold h. h))
       (pair_terms js v.1 f.1)
 
-  module _ (tk : List (List Kind)) (ts : List Rows) (p : PlanTree) (typed : HasKinds tk p by.ks) (tables : FitTables ts) (g : GivesEncoded ts p rows) (held : AllFitRows rows) (np : Fit (plan_numbers p ts)) (part : (xs : List Span) → AllFit xs → AllFit (by.keys xs)) (kks_long : length by.kks ≡ by.k) (kind_part : (row : List Kind) (i : ℕ) → EndsOfAll own own own row i by.ks → EndsOfAll own own own row i by.kks) (sums : AllByRecursion (λ key. Fit (numbers_at key)) keys_list) (triples : Fit (triple_numbers (group_by by.keys aggs rows))) where
-    abbrev boxes : PlanTree
-    boxes = first_grouping c by.k more p
-
-    boxes_fit : Fit (plan_numbers boxes ts)
-    boxes_fit =
-        first.first_fits_ends by ts p more rows (kept_ends aggs) ok g (first.held_keys by part rows held)
-        (first.group_triples by aggs rows ok triples) np
-
-    boxes_are : plain_rows boxes ts ≡ map box_row keys_list
-    boxes_are = first_rows by ts p more rows ok g
-
+  module _ (tk : List (List Kind)) (ts : List Rows) (p : PlanTree) (typed : HasKinds tk p by.ks) (tables : FitTables ts) (g : GivesEncoded ts p rows) (np : Fit (plan_numbers p ts)) (kks_long : length by.kks ≡ by.k) (kind_part : (row : List Kind) (i : ℕ) → EndsOfAll own own own row i by.ks → EndsOfAll own own own row i by.kks) (sums : AllByRecursion (λ key. Fit (numbers_at key)) keys_list) (boxes : PlanTree) (boxes_are : plain_rows boxes ts ≡ map box_row keys_list) (boxes_typed : plan_kinds tk boxes ≡ Some (kinds_of.box_kinds by.ks by.kks by.k kks_long kind_part aggs on)) (boxes_fit : Fit (plan_numbers boxes ts)) where
     box_rows_fit : FitRows (plain_rows boxes ts)
-    box_rows_fit = rows_fit tk (kinds_of.box_kinds by.ks by.kks by.k kks_long kind_part aggs on) boxes ts (kinds_of.boxes_typed by.ks by.kks by.k kks_long kind_part aggs on tk p typed) tables boxes_fit
+    box_rows_fit = rows_fit tk (kinds_of.box_kinds by.ks by.kks by.k kks_long kind_part aggs on) boxes ts boxes_typed tables boxes_fit
 
     abbrev folded : PlanTree
     folded = folds how c by.k aggs p
@@ -249,11 +225,11 @@ module _ (by : KeyReading) (aggs : List Agg) (on : AllByRecursion (OnColumn by.k
     grouped_rows_fit : FitRows (plain_rows grouped_plan ts)
     grouped_rows_fit =
         rows_fit tk (kinds_of.grouped_kinds by.ks by.kks by.k kks_long kind_part aggs on) grouped_plan ts
-        (kinds_of.second_kinds by.ks by.kks by.k kks_long kind_part aggs on tk boxes folded (kinds_of.boxes_typed by.ks by.kks by.k kks_long kind_part aggs on tk p typed) folded_typed) tables grouped_fit
+        (kinds_of.second_kinds by.ks by.kks by.k kks_long kind_part aggs on tk boxes folded boxes_typed folded_typed) tables grouped_fit
 
-    -- Group's plan adds no number that does not fit.
-    pub group_fits : Fit (plan_numbers (group_plan how c by.k aggs p) ts)
-    group_fits =
+    -- The plan over the boxes adds no number that does not fit.
+    pub over_fits : Fit (plan_numbers (group_over how c by.k aggs boxes p) ts)
+    over_fits =
         let finish = all_result_columns (positive (Column (b + 4 * length aggs))) (positive (sg (3 * by.k))) b aggs in
         let reads = results_read (positive (Column (b + 4 * length aggs))) (positive (sg (3 * by.k))) b aggs (refl, tt) (refl, tt) in
         numbers-extend_all ts finish grouped_plan grouped_fit

@@ -1,5 +1,5 @@
--- Group's plan gives the rows of the bounded operator.
-use Rattle.std.specs.Prelude.{◌≡◌, ℕ, ◌+◌, ◌*◌, ◌≤◌, ◌<◌, Bool, true, false, List, [], ◌∷◌, ◌++◌, length, map, filter, flat_map, ◌&&◌, ℤ, pos, nat_le, Some, unwrap_or, if◌then◌else◌}
+-- Group's plan over any boxes gives the outputs with these.
+use Rattle.std.specs.Prelude.{◌≡◌, ℕ, ◌+◌, ◌*◌, ◌<◌, Bool, true, false, List, [], ◌∷◌, ◌++◌, length, map, filter, flat_map, ◌&&◌, ℤ, pos, nat_le, Some, unwrap_or, if◌then◌else◌}
 use Rattle.std.specs.List.{AllByRecursion, list_any}
 use Rattle.std.proofs.Common.{arith, refl, sym, ◌∙◌, ap, subst, append_assoc}
 use Rattle.std.proofs.lemmas.Bool.{and_parts}
@@ -15,8 +15,7 @@ use Rattle.au_algebra.specs.declared.query.Agg.{Agg}
 use Rattle.au_algebra.specs.declared.query.Agg.TheVariants as agg
 use Rattle.au_algebra.specs.Lists.{same_row, int_sum, least, greatest, value_at}
 use Rattle.au_algebra.specs.Ordinary.{Rows}
-use Rattle.au_algebra.specs.Bounded as bounded
-use Rattle.au_algebra.specs.Bounded.{RangeRow, Bounded, Grouped, lower_term, upper_term, guess_term, guess_if, group_counts, output, aggregate, hull_of, range_at, or_else, surely_there, guessed_there}
+use Rattle.au_algebra.specs.Bounded.{RangeRow, Bounded, Grouped, lower_term, upper_term, guess_term, guess_if, guessed_keys, aggregate, range_at, or_else, surely_there, guessed_there}
 use Rattle.au_algebra.specs.Laws.{IsRangeRow, IsRelation}
 use Rattle.au_algebra.proofs.Copies.{same_row_refl}
 use Rattle.au_algebra.proofs.Each.{all_filter, all_from, passing}
@@ -26,10 +25,9 @@ use Rattle.au_plain.specs.declared.plan.PAgg.TheVariants.{Sum, Min, Max}
 use Rattle.au_plain.specs.PTerms.{PTerm, Column}
 use Rattle.au_plain.specs.Plans.{PlanTree}
 use Rattle.au_plain.specs.Meaning.{plain_rows, kept, plain_aggregate}
-use Rattle.au_encode.specs.Encode.{encode, encode_row, encode_cells, encode_counts}
+use Rattle.au_encode.specs.Encode.{encode_row, encode_cells, encode_counts}
 use Rattle.au_rwexpr.specs.Flatten.{sg}
 use Rattle.au_rwexpr.specs.Cells.{cell_places, three_places}
-use Rattle.au_rwgroup.specs.Groups.{first_grouping}
 use Rattle.au_rwexpr.specs.Counts.{positive}
 use Rattle.au_rwgroup.specs.GroupPlan as plans
 use Rattle.au_rwgroup.specs.GroupPlan.{Places, kept_for, all_member_columns, all_member_aggs, all_result_columns, second_grouping}
@@ -40,8 +38,6 @@ use Rattle.au_rwexpr.proofs.OnValues.{reading, Has, column_has}
 use Rattle.au_rwexpr.proofs.Picks.{kept_are, picks_more, pick_cells, pick_three, ends_past, all_ends_long, all_ends-append}
 use Rattle.au_rwexpr.proofs.Gives.{GivesEncoded, grow_is, rows-extend_all, map-map, map_valid}
 use Rattle.au_rwexpr.specs.Adding.{grow}
-use Rattle.au_rwexpr.proofs.Present.{present_map}
-use Rattle.au_rwgroup.proofs.FirstRows.{first_rows, most_there}
 use Rattle.au_rwgroup.proofs.FirstGroup as group
 use Rattle.au_rwexpr.proofs.Flags.{counted, greatest_counted, below_zero}
 use Rattle.au_combine.proofs.JoinGroups.{with_left}
@@ -58,7 +54,7 @@ use Rattle.au_rwgroup.proofs.Defaults.{nonempty, any_filter, or_else_is, least_i
 use Rattle.au_rwgroup.proofs.Narrowed.{from_filter, narrowed}
 use Rattle.au_rwexpr.proofs.Allowed.{all_both}
 use Rattle.au_rwexpr.proofs.Coded.{rl, rs, rh, cl, cg, cm}
-use Rattle.au_rwgroup.proofs.KeyReading.{KeyReading}
+use Rattle.au_rwgroup.proofs.KeyReading.{KeyReading, counts_in, grouped_in, output_in}
 
 -- four columns for each aggregate, and one for the sure members
 member_aggs_long : (m : ℕ) (bs : List Agg) → length (all_member_aggs m bs) ≡ 4 * length bs + 1
@@ -148,7 +144,7 @@ module _ (by : KeyReading) (aggs : List Agg) (ok_aggs : AllByRecursion (IsOn (le
   wide s = joined s ++ added s
 
   abbrev g : List Value → Grouped
-  g key = bounded.grouped by.keys rows key
+  g key = grouped_in by rows key
 
   abbrev belongs : List Value → RangeRow → Bool
   belongs key r = same_row key (guesses (by.keys r.cells))
@@ -488,10 +484,10 @@ module _ (by : KeyReading) (aggs : List Agg) (ok_aggs : AllByRecursion (IsOn (le
   belonging key = filter (belongs key) rows
 
   abbrev box : List Value → List Span
-  box key = hull_of (map (λ r. by.keys r.cells) (belonging key))
+  box key = by.box key (belonging key)
 
   abbrev triple : List Value → Counts
-  triple key = group_counts by.keys (belonging key)
+  triple key = counts_in by (belonging key)
 
   abbrev kept_values : List Value → List Value
   kept_values key = map (plain_aggregate (map (group.wide by) (belonging key))) more
@@ -519,7 +515,7 @@ module _ (by : KeyReading) (aggs : List Agg) (ok_aggs : AllByRecursion (IsOn (le
   final_places = cell_places 0 by.k ++ (cell_places z (length aggs) ++ three_places (3 * by.k))
 
   abbrev out : List Value → RangeRow
-  out key = output by.keys aggs rows key
+  out key = output_in by aggs rows key
 
   -- the row of one box: its parts by their places, and the row of its output
   module _ (key : List Value) (some : IsKey key) where
@@ -594,11 +590,10 @@ module _ (by : KeyReading) (aggs : List Agg) (ok_aggs : AllByRecursion (IsOn (le
       subst (λ r. member.KeptAt by more aggs rows ok (r ++ row_of s.1) (3 * by.k + 3) s.0 aggs) (append_assoc cells three (kept_values s.0))
       (member.kept_at by more aggs rows ok (cells ++ three) (row_of s.1) (3 * by.k + 3) s.0 aggs (omega (arith, cells_long, length-append cells three)))
 
-  -- Group's plan gives the rows of the bounded operator.
-  pub group_by_gives : (how : Folding) (ts : List Rows) (p : PlanTree) → GivesEncoded ts p rows → plain_rows (plans_of.folds how c by.k aggs p) ts ≡ map row_of shared.parts → GivesEncoded ts (plans.group_plan how c by.k aggs p) (bounded.group_by by.keys aggs rows)
-  group_by_gives how ts p h folded_are =
+  -- The plan over the boxes gives the outputs.
+  pub outputs_given : (how : Folding) (ts : List Rows) (boxes p : PlanTree) → plain_rows boxes ts ≡ map box_row (guessed_keys by.keys rows) → plain_rows (plans_of.folds how c by.k aggs p) ts ≡ map row_of shared.parts → GivesEncoded ts (plans.group_over how c by.k aggs boxes p) (map out (guessed_keys by.keys rows))
+  outputs_given how ts boxes p boxes_are folded_are =
       let columns = all_member_columns places (3 * by.k + 3) aggs in
-      let boxes = first_grouping c by.k more p in
       let folded = plans_of.folds how c by.k aggs p in
       let grouped = second_grouping by.k b columns (all_member_aggs n aggs) boxes folded in
       let keys_list = second.keys_list by more aggs rows ok in
@@ -606,12 +601,8 @@ module _ (by : KeyReading) (aggs : List Agg) (ok_aggs : AllByRecursion (IsOn (le
       let rows_are : plain_rows grouped ts ≡ map grouped_row keys_list =
       second.second_rows by more aggs rows ok shared columns added
       (λ s v. member.members_added by more aggs rows ok s v (3 * by.k + 3) (kept_there s v)) (all_member_aggs n aggs) ts boxes folded
-      (first_rows by ts p more rows ok h) folded_are in
+      boxes_are folded_are in
       ap (map (kept final_places)) (rows-extend_all final_columns grouped ts ∙ ap (map (grow final_columns)) rows_are ∙ map-map grouped_row (grow final_columns) keys_list)
       ∙ map-map (λ key. grow final_columns (grouped_row key)) (kept final_places) keys_list
       ∙ map_valid IsKey (λ key. kept final_places (grow final_columns (grouped_row key))) (λ key. encode_row (out key)) keys_list all_keys each_output
       ∙ sym (map-map out encode_row keys_list)
-      ∙ ap encode (sym (present_map IsKey out keys_list all_keys
-      (λ key some.
-      (let all = subst (λ ss. AllByRecursion (IsRangeRow by.ks) ss) some.is (all_filter (IsRangeRow by.ks) (belongs key) rows ok) in
-      subst (λ ss. 1 ≤ (group_counts by.keys ss).most) (sym some.is) (most_there by some.first some.others all)))))

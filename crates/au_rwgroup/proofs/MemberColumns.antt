@@ -13,7 +13,7 @@ use Rattle.au_expr.specs.Ordinary.{is_true}
 use Rattle.au_algebra.specs.declared.query.Agg.{Agg}
 use Rattle.au_algebra.specs.declared.query.Agg.TheVariants as agg
 use Rattle.au_algebra.specs.Lists.{same_row, int_sum, least, greatest, value_at}
-use Rattle.au_algebra.specs.Bounded.{RangeRow, Bounded, Grouped, lower_term, upper_term, guess_term, grouped, range_at}
+use Rattle.au_algebra.specs.Bounded.{RangeRow, Bounded, Grouped, lower_term, upper_term, guess_term, range_at}
 use Rattle.au_algebra.specs.Laws.{IsRangeRow, IsRelation}
 use Rattle.au_algebra.proofs.Each.{all_filter, all_from}
 use Rattle.au_plain.specs.declared.plan.PAgg.{PAgg}
@@ -44,7 +44,7 @@ use Rattle.au_rwgroup.proofs.Sharing.{Fold, fold_row, key_long, spans_long}
 use Rattle.au_rwexpr.proofs.Gives.{map-map, map_valid}
 use Rattle.au_rwgroup.proofs.FirstGroup as group
 use Rattle.au_rwexpr.proofs.Coded.{rl, rs, rh}
-use Rattle.au_rwgroup.proofs.KeyReading.{KeyReading}
+use Rattle.au_rwgroup.proofs.KeyReading.{KeyReading, grouped_in}
 
 int_by : (V : RangeRow → Type 0) (meet same : RangeRow → Bool) (t : RangeRow → ℤ) (a b : Bool) (r : RangeRow) (xs ys : Bounded) → same r ≡ b → (b ≡ true → a ≡ true) → int_sum (map (λ s. if same s then t s else pos 0) xs) ≡ int_sum (map t ys) → int_sum (map (λ s. if same s then t s else pos 0) (cond a (r ∷ xs) xs)) ≡ int_sum (map t (cond b (r ∷ ys) ys))
 int_by V meet same t true true r xs ys e h ih = λ i. (if e i then t r else pos 0) +ℤ ih i
@@ -78,7 +78,7 @@ module _ (by : KeyReading) (more : List PAgg) (folded : List Agg) (rows : Bounde
   IsPair s = second.IsPair by more folded rows ok s
 
   abbrev pub group_at : List Value → Grouped
-  group_at key = grouped by.keys rows key
+  group_at key = grouped_in by rows key
 
   abbrev pub is_sure : List Value × RangeRow → Bool
   is_sure s = (group_at s.0).is_certain_member s.1

@@ -9,10 +9,9 @@ use Rattle.au_expr.specs.Ordinary.{is_true}
 use Rattle.au_algebra.specs.declared.query.Agg.{Agg}
 use Rattle.au_algebra.specs.Lists.{same_row, copies}
 use Rattle.au_algebra.specs.Ordinary.{Rows}
-use Rattle.au_algebra.specs.Bounded.{RangeRow, Bounded, hull_of, group_counts, guessed_keys}
+use Rattle.au_algebra.specs.Bounded.{RangeRow, Bounded, guessed_keys}
 use Rattle.au_algebra.specs.Laws.{IsRangeRow, IsRelation}
 use Rattle.au_algebra.proofs.Copies.{same_row_is, same_row_refl}
-use Rattle.au_algebra.proofs.Hulls.{hull_of_ranges}
 use Rattle.au_algebra.proofs.Each.{all_filter, all_from, all_append}
 use Rattle.au_plain.specs.declared.plan.PAgg.{PAgg}
 use Rattle.au_plain.specs.PTerms.{PTerm, plain_value}
@@ -31,21 +30,21 @@ use Rattle.au_rwexpr.proofs.Gives.{grow_is, rows-extend_all, map-map, map_valid}
 use Rattle.au_rwexpr.specs.Adding.{grow}
 use Rattle.au_combine.proofs.Grouping as grouping
 use Rattle.au_combine.proofs.Grouping.{all_occur, some_with}
-use Rattle.au_combine.proofs.BoxRows.{hull_long}
-use Rattle.au_combine.proofs.JoinGroups.{Apart, Met, pairs, with_left, join_groups, join_numbers}
+use Rattle.au_combine.specs.Boxes.{sg_places}
+use Rattle.au_combine.proofs.BoxRows.{keys_are}
+use Rattle.au_combine.proofs.JoinGroups.{Apart, Met, pairs, with_left, distinct_apart, join_groups, join_numbers}
 use Rattle.au_combine.proofs.JoinRows.{join_rows}
 use Rattle.au_rwexpr.proofs.Meeting.{meets_has, guesses_meet}
 use Rattle.au_combine.proofs.BoxPlaces.{first_picks}
-use Rattle.au_combine.proofs.RowsApart.{boxes_apart, guesses-hull}
+use Rattle.au_combine.proofs.RowsApart.{apart_from}
 use Rattle.au_rwgroup.proofs.FirstGroup as group
 use Rattle.au_rwgroup.proofs.FoldRows as folds_of
 use Rattle.au_rwgroup.proofs.Found.{Found, found_from}
 use Rattle.au_rwgroup.proofs.Narrowed.{filter_valid}
 use Rattle.au_rwgroup.proofs.Sharing.{Fold, IsFold, Sharing, fold_row, folds_with, key_parts, rows_with, spans_long}
 use Rattle.au_rwexpr.proofs.PlanNumbersOf.{all_made}
-use Rattle.au_rwgroup.proofs.FirstRows.{first_row}
 use Rattle.au_rwexpr.proofs.Coded.{rl, rs, rh}
-use Rattle.au_rwgroup.proofs.KeyReading.{KeyReading}
+use Rattle.au_rwgroup.proofs.KeyReading.{KeyReading, counts_in}
 
 -- the first columns of a row
 run_first : (xs more : List Value) (w : ℕ) → length xs ≡ w → kept (run 0 w) (xs ++ more) ≡ xs
@@ -62,11 +61,15 @@ module _ (by : KeyReading) (more : List PAgg) (folded : List Agg) (rows : Bounde
   group_of key = filter (λ r. same_row key (guess r)) rows
 
   abbrev pub box : List Value → List Span
-  box key = hull_of (map (λ r. by.keys r.cells) (group_of key))
+  box key = by.box key (group_of key)
+
+  -- what stands behind a box: its triple and what is kept
+  abbrev tail : List Value → List Value
+  tail key = encode_counts (counts_in by (group_of key)) ++ map (plain_aggregate (map (group.wide by) (group_of key))) more
 
   -- a box with its triple and what is kept
   abbrev pub box_row : List Value → List Value
-  box_row key = first_row by more (group_of key)
+  box_row key = encode_cells (box key) ++ tail key
 
   abbrev pub overlaps : List Value → RangeRow → Bool
   overlaps key r = all_overlap (by.keys r.cells) (box key)
@@ -78,35 +81,29 @@ module _ (by : KeyReading) (more : List PAgg) (folded : List Agg) (rows : Bounde
   abbrev pub IsKey : List Value → Type 0
   IsKey key = grouping.Some guess key rows
 
+  all_in : (key : List Value) (some : IsKey key) → IsRelation by.ks (some.first ∷ some.others)
+  all_in key some = subst (λ ss. AllByRecursion (IsRangeRow by.ks) ss) some.is (all_filter (IsRangeRow by.ks) (λ r. same_row key (guess r)) rows ok)
+
+  key_of_first : (key : List Value) (some : IsKey key) → key ≡ guess some.first
+  key_of_first key some = same_row_is key (guess some.first) some.key_is
+
   pub box_long : (key : List Value) → IsKey key → length (box key) ≡ by.k
   box_long key some =
-      let all = subst (λ ss. AllByRecursion (IsRangeRow by.ks) ss) some.is (all_filter (IsRangeRow by.ks) (λ r. same_row key (guess r)) rows ok) in
-      subst (λ ss. length (hull_of (map (λ r. by.keys r.cells) ss)) ≡ by.k) (sym some.is)
-      (hull_long (λ r. by.keys r.cells) by.k some.first some.others (all_from (IsRangeRow by.ks) (λ r. length (by.keys r.cells) ≡ by.k) (some.first ∷ some.others) by.long all))
-
-  abbrev tail : List Value → List Value
-  tail key = encode_counts (group_counts by.keys (group_of key)) ++ map (plain_aggregate (map (group.wide by) (group_of key))) more
+      subst (λ ss. length (by.box key ss) ≡ by.k) (sym some.is) (by.box_long key some.first some.others (all_in key some) (key_of_first key some))
 
   pub box_row_long : (key : List Value) → IsKey key → length (box_row key) ≡ b
   box_row_long key some =
       let cells_long : length (encode_cells (box key)) ≡ 3 * by.k = all_ends_long rl rs rh (box key) ∙ ap (λ m. 3 * m) (box_long key some) in
       omega (arith, length-append (encode_cells (box key)) (tail key), cells_long, length-map more (plain_aggregate (map (group.wide by) (group_of key))))
 
-  all_in : (key : List Value) (some : IsKey key) → IsRelation by.ks (some.first ∷ some.others)
-  all_in key some = subst (λ ss. AllByRecursion (IsRangeRow by.ks) ss) some.is (all_filter (IsRangeRow by.ks) (λ r. same_row key (guess r)) rows ok)
-
   -- the box is made of ranges, with the key as guess
   pub box_ranges : (key : List Value) → IsKey key → AllZip IsRangeOf by.kks (box key)
   box_ranges key some =
-      let all = all_from (IsRangeRow by.ks) (λ r. AllZip IsRangeOf by.kks (by.keys r.cells)) (some.first ∷ some.others) by.kinded (all_in key some) in
-      subst (λ ss. AllZip IsRangeOf by.kks (hull_of (map (λ r. by.keys r.cells) ss))) (sym some.is)
-      (hull_of_ranges by.keys by.kks (some.first ∷ some.others) all (omega arith))
+      subst (λ ss. AllZip IsRangeOf by.kks (by.box key ss)) (sym some.is) (by.box_kinded key some.first some.others (all_in key some) (key_of_first key some))
 
   pub box_guess : (key : List Value) → IsKey key → guesses (box key) ≡ key
   box_guess key some =
-      ap (λ ss. guesses (hull_of (map (λ r. by.keys r.cells) ss))) some.is
-      ∙ guesses-hull (λ r. by.keys r.cells) by.k some.first some.others (all_from (IsRangeRow by.ks) (λ r. length (by.keys r.cells) ≡ by.k) (some.first ∷ some.others) by.long (all_in key some))
-      ∙ sym (same_row_is key (guess some.first) some.key_is)
+      ap (λ ss. guesses (by.box key ss)) some.is ∙ by.box_guess key some.first some.others (all_in key some) (key_of_first key some)
 
   -- a row that belongs to a box overlaps it
   pub belongs_overlaps : (key : List Value) → IsKey key → (r : RangeRow) → IsRangeRow by.ks r → same_row key (guess r) ≡ true → overlaps key r ≡ true
@@ -218,7 +215,11 @@ module _ (by : KeyReading) (more : List PAgg) (folded : List Agg) (rows : Bounde
       same_key s v = ap (kept (run 0 b)) (append_assoc (box_row s.0) (fold_row by folded s.1) (values s)) ∙ run_first (box_row s.0) (fold_row by folded s.1 ++ values s) b (box_row_long s.0 v.0)
 
       apart : Apart box_row keys_list
-      apart = boxes_apart (IsRangeRow by.ks) (λ r. by.keys r.cells) by.k by.long rows ok tail
+      apart =
+          apart_from box_row (kept (sg_places 0 by.k)) keys_list
+          (all_from IsKey (λ key. kept (sg_places 0 by.k) (box_row key) ≡ key) keys_list
+          (λ key some. keys_are IsKey box_row box by.k (λ u v. all_ends_at rl rs rh [] (tail u) 0 (box u) refl) box_long key some ∙ box_guess key some) all_keys)
+          (distinct_apart (map guess rows))
 
       all_met : AllByRecursion (Met box_row folds) keys_list
       all_met = all_from IsKey (Met box_row folds) keys_list has_member all_keys

@@ -118,13 +118,17 @@ second_grouping k b columns aggs boxes folds = Group (run 0 b) aggs (extend_all 
 abbrev pub result_places : ℕ → ℕ → ℕ → List ℕ
 result_places k results n = cell_places 0 k ++ (cell_places results n ++ three_places (3 * k))
 
-abbrev pub group_plan : Folding → ℕ → ℕ → List Agg → PlanTree → PlanTree
-group_plan how c k aggs p =
-    let kept = flat_map kept_for aggs in
-    let b = 3 * k + 3 + length kept in
+-- the outputs of boxes with their triples and what is kept for the aggregates
+abbrev pub group_over : Folding → ℕ → ℕ → List Agg → PlanTree → PlanTree → PlanTree
+group_over how c k aggs boxes p =
+    let b = 3 * k + 3 + length (flat_map kept_for aggs) in
     let joined = places k b (b + fold_width k (length aggs)) in
     let there = b + 4 * length aggs in
     Keep (result_places k (there + 1) (length aggs))
     (extend_all (all_result_columns (positive (Column there)) (positive (sg (3 * k))) b aggs)
     (second_grouping k b (all_member_columns joined (3 * k + 3) aggs) (all_member_aggs (joined.tests + 4) aggs)
-    (first_grouping c k kept p) (folds how c k aggs p)))
+    boxes (folds how c k aggs p)))
+
+-- Group's boxes are the hulls of keys
+abbrev pub group_plan : Folding → ℕ → ℕ → List Agg → PlanTree → PlanTree
+group_plan how c k aggs p = group_over how c k aggs (first_grouping c k (flat_map kept_for aggs) p) p

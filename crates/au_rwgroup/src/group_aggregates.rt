@@ -10,10 +10,10 @@ use au_rwexpr::RangeColumns;
 use au_value::NoMemory;
 use std::alloc::Global;
 
-/// What the first grouping keeps for the aggregates, two columns for each MIN and MAX.
+/// What is kept of the rows that belong to a box for the aggregates, two columns for each MIN and MAX.
 ///
 /// `NoMemory` comes also where a row cannot have so many columns.
-pub(crate) fn kept_aggregates(alloc: Global, aggs: &[Agg]) -> Result<Vec<PAgg>, NoMemory>
+pub fn kept_aggregates(alloc: Global, aggs: &[Agg]) -> Result<Vec<PAgg>, NoMemory>
     ensures { IfOk result (λ v. v.items ≡ flat_map kept_for aggs.now) }
 {
     let mut kept = Vec::new(alloc);

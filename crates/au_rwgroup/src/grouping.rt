@@ -64,54 +64,83 @@ fn group_plan(
     ensures plan { IfOk result (λ p. plan_tree p ≡ plan.group_plan how layout.now.columns keys aggs.now (plan_tree of)) }
     ensures columns { OnOk result (keys + length aggs.now < 2 ^ 64) }
 {
-    let (kept, of) = beside(kept_aggregates(alloc, aggs), of)?;
-    let places = GroupPlaces::of(keys, kept.len(), aggs.len());
-    let (places, (kept, of)) = beside(places, (kept, of))?;
+    let (boxes, rows) = hulls_and_rows(alloc, of, keys, aggs, layout)?;
+    let plan = group_over(alloc, boxes, rows, keys, aggs, how, layout)?;
+    Ok(plan)
+}
+
+// The hulls of the keys of a plan's rows, with their triples and what is kept for the aggregates, and the plan.
+fn hulls_and_rows(
+    alloc: Global,
+    of: Plan,
+    keys: usize,
+    aggs: &[Agg],
+    layout: &Layout,
+) -> Result<(Plan, Plan), NoMemory>
+    ensures hulls { IfOk result (λ r. plan_tree r.0 ≡ first.first_grouping layout.now.columns keys (flat_map plan.kept_for aggs.now) (plan_tree of)) }
+    ensures rows { IfOk result (λ r. plan_tree r.1 ≡ plan_tree of) }
+{
+    let (rows, of) = beside(copy_plan(alloc, &of), of)?;
+    let (kept, (rows, of)) = beside(kept_aggregates(alloc, aggs), (rows, of))?;
+    let hulls = first_grouping(alloc, of, layout.columns, keys, kept);
+    let (hulls, rows) = beside(hulls, rows)?;
+    Ok((hulls, rows))
+}
+
+/// The outputs of boxes over the rows of a plan that overlap them.
+///
+/// The boxes have the ranges of so many keys, their triples, and the aggregates of [`kept_aggregates`] over the rows that
+/// belong to them. The layout is that of the plan's rows. `NoMemory` comes also where a row cannot have so many columns.
+pub fn group_over(
+    alloc: Global,
+    boxes: Plan,
+    of: Plan,
+    keys: usize,
+    aggs: &[Agg],
+    how: Folding,
+    layout: &Layout,
+) -> Result<Plan, NoMemory>
+    ensures plan { IfOk result (λ p. plan_tree p ≡ plan.group_over how layout.now.columns keys aggs.now (plan_tree boxes) (plan_tree of)) }
+    ensures columns { OnOk result (keys + length aggs.now < 2 ^ 64) }
+{
+    let (kept, (boxes, of)) = beside(kept_columns(alloc, aggs), (boxes, of))?;
+    let places = GroupPlaces::of(keys, kept, aggs.len());
+    let (places, (boxes, of)) = beside(places, (boxes, of))?;
     let columns = all_result_columns(alloc, places.tests(), places.joined.fold, aggs);
     let shown = result_places(alloc, places.triple, keys, places.there + 1, places.aggs);
-    let groups = with_members(alloc, how, of, layout.columns, kept, places, aggs);
+    let groups = with_members(alloc, how, boxes, of, layout.columns, places, aggs);
     let (shown, (columns, groups)) = both(shown, both(columns, groups))?;
     let (made, shown) = beside(extend_all(alloc, columns, groups), shown)?;
     keep(alloc, shown, made)
+}
+
+// How many columns are kept for the aggregates.
+fn kept_columns(alloc: Global, aggs: &[Agg]) -> Result<usize, NoMemory>
+    ensures { IfOk result (λ n. n ≡ length (flat_map plan.kept_for aggs.now)) }
+{
+    let kept = kept_aggregates(alloc, aggs)?;
+    Ok(kept.len())
 }
 
 // Each box with the results over the folds that overlap it.
 fn with_members(
     alloc: Global,
     how: Folding,
+    boxes: Plan,
     of: Plan,
     columns: usize,
-    kept: Vec<PAgg>,
     places: GroupPlaces,
     aggs: &[Agg],
 ) -> Result<Plan, NoMemory>
     requires aggs { places.aggs ≡ length aggs.now }
     requires kept { places.triple.first + 3 + 2 * length aggs.now < 2 ^ 64 }
-    ensures { IfOk result (λ p. plan_tree p ≡ plan.second_grouping places.joined.keys places.joined.fold (plan.all_member_columns (places_of places.joined) (places.triple.first + 3) aggs.now) (plan.all_member_aggs (places.joined.tests + 4) aggs.now) (first.first_grouping columns places.joined.keys kept.items (plan_tree of)) (folded how columns places.joined.keys aggs.now (plan_tree of))) }
+    ensures { IfOk result (λ p. plan_tree p ≡ plan.second_grouping places.joined.keys places.joined.fold (plan.all_member_columns (places_of places.joined) (places.triple.first + 3) aggs.now) (plan.all_member_aggs (places.joined.tests + 4) aggs.now) (plan_tree boxes) (folded how columns places.joined.keys aggs.now (plan_tree of))) }
 {
     let joined = places.joined;
-    let plans = boxes_and_folds(alloc, how, of, columns, joined.keys, kept, aggs);
-    let ((added, over), (boxes, folds)) = both(member_parts(alloc, places, aggs), plans)?;
-    second_grouping(alloc, joined, added, over, boxes, folds)
-}
-
-// The boxes of a plan's rows, and their folds.
-fn boxes_and_folds(
-    alloc: Global,
-    how: Folding,
-    of: Plan,
-    columns: usize,
-    keys: usize,
-    kept: Vec<PAgg>,
-    aggs: &[Agg],
-) -> Result<(Plan, Plan), NoMemory>
-    ensures boxes { IfOk result (λ r. plan_tree r.0 ≡ first.first_grouping columns keys kept.items (plan_tree of)) }
-    ensures folds { IfOk result (λ r. plan_tree r.1 ≡ folded how columns keys aggs.now (plan_tree of)) }
-{
-    let (rows, (of, kept)) = beside(copy_plan(alloc, &of), (of, kept))?;
-    let boxes = first_grouping(alloc, of, columns, keys, kept);
-    let (boxes, folds) = both(boxes, folds(alloc, how, rows, columns, keys, aggs))?;
-    Ok((boxes, folds))
+    let rows = folds(alloc, how, of, columns, joined.keys, aggs);
+    let parts = both(member_parts(alloc, places, aggs), rows);
+    let (((added, over), rows), boxes) = beside(parts, boxes)?;
+    second_grouping(alloc, joined, added, over, boxes, rows)
 }
 
 // The columns that are added to each pair, and the aggregates over them.

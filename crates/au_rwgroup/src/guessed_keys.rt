@@ -56,8 +56,10 @@ fn counted_boxes(
     boxes(alloc, wide, keys, aggs)
 }
 
-// What a row adds to the triple of its group.
-fn group_columns(alloc: Global, columns: usize, keys: usize) -> Result<Vec<PExpr>, NoMemory>
+/// What a row adds to the triple of its group, for so many columns and keys.
+///
+/// `NoMemory` comes also where a row cannot have so many columns.
+pub fn group_columns(alloc: Global, columns: usize, keys: usize) -> Result<Vec<PExpr>, NoMemory>
     ensures { IfOk result (λ v. map pterm v.items ≡ counting columns keys) }
 {
     let triple = RangeColumns::of(columns)?;
@@ -145,7 +147,7 @@ fn group_aggregates(alloc: Global, columns: usize, kept: Vec<PAgg>) -> Result<Ve
 }
 
 /// Adds further aggregates.
-pub(crate) fn push_all(aggs: &mut Vec<PAgg>, more: Vec<PAgg>) -> Result<(), NoMemory>
+pub fn push_all(aggs: &mut Vec<PAgg>, more: Vec<PAgg>) -> Result<(), NoMemory>
     ensures { OnOk result (aggs.new.items ≡ aggs.old.items ++ more.items) }
 {
     for agg in more {

@@ -2,7 +2,8 @@
 //!
 //! Each call puts the plan of one operator over the bounded relation of its input on top of a plan: [`group`],
 //! [`distinct`] and [`total`]. What the plan gives is said for whatever tables and relation the input stands for, so
-//! that the calls can be nested with the other operators.
+//! that the calls can be nested with the other operators. [`group_over`] is Group's plan over boxes that are not the hulls
+//! of keys, for which [`group_columns`] and [`kept_aggregates`] say what is asked of the rows that belong to each.
 //!
 //! ```text
 //! let layout = Layout { columns: 2 };
@@ -30,5 +31,7 @@ mod totals;
 
 pub use distinct_rows::distinct;
 pub use folding::Folding;
-pub use grouping::group;
+pub use group_aggregates::kept_aggregates;
+pub use grouping::{group, group_over};
+pub use guessed_keys::{group_columns, push_all};
 pub use totals::total;
