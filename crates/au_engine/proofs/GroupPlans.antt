@@ -1,29 +1,17 @@
 -- The plans of groups and of distinct rows by points, over rows that were put behind others.
-use Rattle.std.specs.Prelude.{◌≡◌, ℕ, ◌+◌, ◌≤◌, Bool, List, ◌++◌, length, take}
-use Rattle.std.proofs.Common.{sym, ◌∙◌, subst}
-use Rattle.au_expr.proofs.Fits.{fit_both, fit_parts}
+use Rattle.std.specs.Prelude.{◌≡◌, ℕ, ◌+◌, Bool, List, ◌++◌, length}
+use Rattle.std.proofs.Common.{sym, ◌∙◌}
 use Rattle.au_algebra.specs.declared.query.Agg.{Agg}
 use Rattle.au_algebra.specs.Fits.{triple_numbers}
 use Rattle.au_algebra.specs.Ordinary.{Rows}
-use Rattle.au_points.specs.Points.{distinct_points, group_points, numbers_by_points}
+use Rattle.au_points.specs.Points.{distinct_points}
 use Rattle.au_plain.specs.Plans.{PlanTree}
-use Rattle.au_rwpoints.specs.Gives.{DistinctByPoints, GroupsByPoints, Members}
+use Rattle.au_rwpoints.specs.Gives.{DistinctByPoints}
 use Rattle.au_engine.specs.Rules.{grouping_by}
-use Rattle.au_engine.specs.Stages.{AddsDistinct, AddsGroups, GroupsByMembers, Materializes}
-use Rattle.au_engine.proofs.Operators.{GroupsBy, more_numbers}
+use Rattle.au_engine.specs.Stages.{AddsDistinct, AddsGroups, Materializes}
+use Rattle.au_engine.proofs.Operators.{GroupsBy}
 use Rattle.au_engine.proofs.StageSteps.{one_adds}
-use Rattle.au_engine.proofs.TreeKinds.{group_length, keys_within}
-
--- the members' own numbers are those of the input
-pub by_members :
-    (c keys : ℕ) (aggs : List Agg) (of with_members made : PlanTree) → Members c keys of with_members → GroupsByPoints c keys aggs of with_members made →
-    GroupsByMembers c keys aggs of made
-by_members c keys aggs of with_members made first second kinds tables ks js rows ns fits long typed g =
-    let within : keys ≤ c = subst (λ n. keys ≤ n) long (keys_within keys aggs ks js typed) in
-    let own = numbers_by_points (take keys) aggs rows in
-    more_numbers kinds tables made js (group_points keys aggs rows) (ns ++ (ns ++ own)) (ns ++ own)
-    (λ f. fit_both ns (ns ++ own) (fit_parts ns own f).0 f)
-    (second kinds tables ks js rows ns ns fits long typed (first kinds tables ks rows ns fits long within g) g)
+use Rattle.au_engine.proofs.TreeKinds.{group_length}
 
 module _ (held : List Rows) (p : PlanTree) (c : ℕ) (old new : List Rows) (of made : PlanTree) (b d : ℕ) (moves : Materializes held p c old new of b) where
   pub groups_added : (points : Bool) (keys : ℕ) (aggs : List Agg) → d ≡ keys + length aggs → GroupsBy points b keys aggs of made → AddsGroups points keys aggs held p c old new made d

@@ -20,7 +20,7 @@ all_length (o ∷ os) ks h =
     ap length (sym (some_is (p.0 ∷ q.0) ks q.2)) ∙ ap suc (all_length os q.0 q.1)
 
 -- the keys of a group are among the columns
-pub keys_within : (keys : ℕ) (aggs : List Agg) (ks js : List Kind) → group_kinds keys aggs ks ≡ Some js → keys ≤ length ks
+keys_within : (keys : ℕ) (aggs : List Agg) (ks js : List Kind) → group_kinds keys aggs ks ≡ Some js → keys ≤ length ks
 keys_within keys aggs ks js h = leb-true keys (length ks) (chosen_is (nat_le keys (length ks)) _ js h).0
 
 -- the kinds of a group are the keys' and the aggregates'

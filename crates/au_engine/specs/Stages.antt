@@ -1,5 +1,5 @@
 -- A plan that is run in stages: of some operators the input is run first, and its rows stand as a table for the rest.
-use Rattle.std.specs.Prelude.{◌≡◌, ℕ, Bool, true, false, List, [], ◌++◌, length, map, take, Some, ℤ, if◌then◌else◌}
+use Rattle.std.specs.Prelude.{◌≡◌, ℕ, Bool, true, false, List, [], ◌++◌, length, map, Some, ℤ, if◌then◌else◌}
 use Rattle.std.specs.List.{AllZip}
 use Rattle.au_value.specs.declared.kinds.Kind.{Kind}
 use Rattle.au_expr.specs.Figures.{Fit}
@@ -15,7 +15,7 @@ use Rattle.au_blocks.specs.Tables.{BlockTable, column_kinds}
 use Rattle.au_translate.specs.Translate.{bounded_table}
 use Rattle.au_compress.specs.CompressedFits.{product_numbers}
 use Rattle.au_compress.specs.Splitting.{compressed_product}
-use Rattle.au_points.specs.Points.{distinct_points, group_points, numbers_by_points}
+use Rattle.au_points.specs.Points.{distinct_points}
 use Rattle.au_plain.specs.PlanKinds.{FitTables, HaveKinds}
 use Rattle.au_plain.specs.Plans.{PlanTree}
 use Rattle.au_combine.specs.Gives.{Combines}
@@ -88,13 +88,6 @@ LeavesRangeCombined held p c =
     (ks : List Kind) (rows : Bounded) (ns : List ℤ) → Adds [] held p c ks rows ns → ¬ (Fit (ns ++ triple_numbers (combine rows)))
 
 -- ---- groups and distinct rows
-
--- where the input gives a relation of `c` columns, the plan gives its groups by points, and makes no other numbers
-abbrev pub GroupsByMembers : ℕ → ℕ → List Agg → PlanTree → PlanTree → Type 0
-GroupsByMembers c keys aggs of p =
-    (kinds : List (List Kind)) (tables : List Rows) (ks js : List Kind) (rows : Bounded) (ns : List ℤ) →
-    FitTables tables → length ks ≡ c → group_kinds keys aggs ks ≡ Some js → GivesRelation kinds tables of ks rows ns →
-    GivesRelation kinds tables p js (group_points keys aggs rows) (ns ++ numbers_by_points (take keys) aggs rows)
 
 -- a plan over tables of its own gives a relation, and another plan its groups
 abbrev pub AddsGroups : Bool → ℕ → List Agg → List Rows → PlanTree → ℕ → List Rows → List Rows → PlanTree → ℕ → Type 0

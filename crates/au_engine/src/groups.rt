@@ -1,7 +1,7 @@
 //! Groups, and distinct rows by points, of what a plan gives over inputs of its own: this plan is run first, and its rows
 //! stand as a table, since the plan above holds them more than once.
 //!
-//! How a grouping by the hulls of keys folds its rows is chosen by a look at them.
+//! How a grouping folds its rows is chosen by a look at them.
 ghost use Rattle.std.specs.Prelude.{◌≡◌, ◌+◌, IfOk, length};
 ghost use Rattle.au_plain.specs.Plans.{plan_tree};
 ghost use Rattle.au_engine.specs.Stages.{AddsDistinct, AddsGroups, CanRunPlan, LeavesRange};
@@ -35,10 +35,10 @@ pub(crate) fn grouped<R: Threads + Sync, G: Gate + Sync>(
     ensures overflow { result ≡ Err EvalFault.Overflow → LeavesRange of.entry.1.items (plan_tree of.entry.0.plan) of.entry.0.layout.columns }
 {
     let of = materialized(runner, alloc, of.0, of.1, inputs)?;
-    if points {
-        return Ok(group_by_points_of(alloc, keys, aggs, of)?);
-    }
     let how = folding_for(inputs, keys);
+    if points {
+        return Ok(group_by_points_of(alloc, keys, aggs, how, of)?);
+    }
     Ok(group_of(alloc, keys, aggs, how, of)?)
 }
 

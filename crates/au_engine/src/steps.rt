@@ -8,19 +8,18 @@ ghost use Rattle.au_rwcore.specs.Gives.{Multiplies, Projects, Selects, Unites};
 ghost use Rattle.au_combine.specs.Gives.{Combines};
 ghost use Rattle.au_rwdiff.specs.Gives.{Subtracts};
 ghost use Rattle.au_rwgroup.specs.Gives.{Distincts, Groups, Totals};
-ghost use Rattle.au_rwpoints.specs.Gives.{DistinctByPoints, Members};
-ghost use Rattle.au_engine.specs.Stages.{GroupsByMembers};
+ghost use Rattle.au_rwpoints.specs.Gives.{DistinctByPoints, GroupsByPoints};
 
 use au_algebra::Agg;
 use au_combine::combine;
 use au_expr::Expr;
-use au_plain::{Layout, Plan, copy_plan};
+use au_plain::{Layout, Plan};
 use au_rwcore::{product, project, select, union};
 use au_rwdiff::difference;
 use au_rwexpr::width_of;
 use au_rwgroup::{Folding, distinct, group, total};
-use au_rwpoints::{distinct as distinct_by_points, group as group_by_points, members};
-use au_value::{NoMemory, beside};
+use au_rwpoints::{distinct as distinct_by_points, group as group_by_points};
+use au_value::NoMemory;
 use std::alloc::Global;
 
 /// A plan over encoded tables, with the layout of its rows.
@@ -147,33 +146,23 @@ pub(crate) fn group_of(
     })
 }
 
-/// The same by points. The plan holds its input six times.
+/// The same by points. The plan holds its input four times.
 pub(crate) fn group_by_points_of(
     alloc: Global,
     keys: usize,
     aggs: &[Agg],
+    how: Folding,
     of: Planned,
 ) -> Result<Planned, NoMemory>
     ensures columns { IfOk result (λ p. p.layout.columns ≡ keys + length aggs.now) }
-    ensures plan { IfOk result (λ p. GroupsByMembers of.layout.columns keys aggs.now (plan_tree of.plan) (plan_tree p.plan)) }
+    ensures plan { IfOk result (λ p. GroupsByPoints of.layout.columns keys aggs.now (plan_tree of.plan) (plan_tree p.plan)) }
 {
-    let with_members = members_of(alloc, keys, &of);
-    let (with_members, of) = beside(with_members, of)?;
-    let plan = group_by_points(alloc, with_members, of.plan, keys, aggs, &of.layout)?;
+    let plan = group_by_points(alloc, of.plan, keys, aggs, how, &of.layout)?;
     let columns = keys + aggs.len();
     Ok(Planned {
         plan,
         layout: Layout { columns },
     })
-}
-
-// The members of the points.
-fn members_of(alloc: Global, keys: usize, of: &Planned) -> Result<Plan, NoMemory>
-    ensures { IfOk result (λ p. Members of.now.layout.columns keys (plan_tree of.now.plan) (plan_tree p)) }
-{
-    let copy = copy_plan(alloc, &of.plan)?;
-    let plan = members(alloc, copy, keys, &of.layout)?;
-    Ok(plan)
 }
 
 /// Each row once, by points. The plan holds its input twice.

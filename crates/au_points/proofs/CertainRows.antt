@@ -1,12 +1,11 @@
 -- The distinct rows of rows whose ranges are the guesses of others' keys.
-use Rattle.std.specs.Prelude.{◌≡◌, ℕ, ◌+◌, ◌≤◌, ◌<◌, Bool, true, false, not, ◌&&◌, ◌||◌, cond, nat_le, List, [], ◌∷◌, ◌++◌, length, map, filter, take}
+use Rattle.std.specs.Prelude.{◌≡◌, ℕ, ◌+◌, ◌≤◌, ◌<◌, Bool, true, false, not, ◌&&◌, ◌||◌, cond, nat_le, List, [], ◌∷◌, ◌++◌, length, map, filter}
 use Rattle.std.specs.List.{AllByRecursion, list_any}
 use Rattle.std.proofs.Common.{arith, refl, sym, ◌∙◌, ap}
-use Rattle.std.proofs.lemmas.List.{append-nil}
 use Rattle.au_value.specs.declared.value.Value.{Value}
 use Rattle.au_value.specs.Ranges.{Span, certain, all_certain, guesses}
 use Rattle.au_value.specs.Lists.{distinct}
-use Rattle.au_annot.specs.Triples.{Counts, counts, one}
+use Rattle.au_annot.specs.Triples.{Counts, counts}
 use Rattle.au_algebra.specs.Entries.{entry}
 use Rattle.au_algebra.specs.Lists.{same_row, copies}
 use Rattle.au_algebra.specs.Bounded.{RangeRow, Bounded, distinct_rows, hull_of, most_of, output, present, some_of}
@@ -15,20 +14,19 @@ use Rattle.au_algebra.proofs.DistinctKeys.{Keys, Occurs, occurs_distinct}
 use Rattle.au_algebra.proofs.Each as each
 use Rattle.au_algebra.proofs.Filters.{filter_none}
 use Rattle.au_points.specs.Points.{point_counts, points_of}
-use Rattle.au_points.specs.Members.{point_rows, guess_row, PointsAreDistinct}
-use Rattle.au_points.proofs.PointBasics.{certain_guesses, points_certain}
-use Rattle.au_points.proofs.PointGroups.{hull_of_point, le_if}
+use Rattle.au_points.specs.GuessRows.{guess_row, PointsAreDistinct}
+use Rattle.au_points.proofs.PointBasics.{certain_guesses, hull_of_point, points_certain}
 use Rattle.au_points.proofs.PointsWithin.{all_present}
 
 -- ---- tests of rows
 
-pub any_same : (f g : RangeRow → Bool) → ((r : RangeRow) → f r ≡ g r) → (q : Bounded) → list_any f q ≡ list_any g q
+any_same : (f g : RangeRow → Bool) → ((r : RangeRow) → f r ≡ g r) → (q : Bounded) → list_any f q ≡ list_any g q
 any_same f g h [] = refl
 any_same f g h (r ∷ q) = λ i. h r i || any_same f g h q i
 
-any_true : (q : Bounded) → 0 < length q → list_any (λ r. true) q ≡ true
-any_true [] some = let never : ⊥ = omega (arith, some) in absurd never
-any_true (r ∷ q) some = refl
+le_if : (c : Bool) (n : ℕ) → nat_le 1 (cond c n 0) ≡ (c && nat_le 1 n)
+le_if true n = refl
+le_if false n = refl
 
 own_if : (b : Bool) (r : RangeRow) (xs : Bounded) (n : ℕ) → (0 < n → 0 < length xs) → 0 < cond b 1 0 + n → 0 < length (cond b (r ∷ xs) xs)
 own_if true r xs n ih h = omega arith
@@ -127,22 +125,6 @@ module _ (key : List Span → List Span) (n : RangeRow → Counts) where
       ap (λ ks. present (map (output (λ cells. cells) [] (map made rows)) (distinct same_row ks))) (keys_same rows)
       ∙ ap present (outputs_are rows (points_of key rows) (occurs_distinct (map (λ r. guesses (key r.cells)) rows)))
       ∙ all_present (map (point_of rows) (points_of key rows)) (possible rows (points_of key rows))
-
--- ---- the points of keys
-
-abbrev pub point_row : List Value → RangeRow
-point_row p = entry (map certain p) one
-
-rows_are : (key : List Span → List Span) (rows : Bounded) (ps : Keys) → Occurs (map (λ r. guesses (key r.cells)) rows) ps → map (point_of key (λ r. one) rows) ps ≡ map point_row ps
-rows_are key rows [] o = refl
-rows_are key rows (p ∷ ps) o =
-    let some = any_true (filter (λ r. same_row p (guesses (key r.cells))) rows) (own_some key p rows o.0) in
-    λ i. entry (append-nil (map certain p) i) (counts (cond (some i) 1 0) (cond (some i) 1 0) 1) ∷ rows_are key rows ps o.1 i
-
-pub points_are : (k : ℕ) (rows : Bounded) → point_rows k rows ≡ map point_row (points_of (take k) rows)
-points_are k rows =
-    distinct_are (take k) (λ r. one) rows
-    ∙ rows_are (take k) rows (points_of (take k) rows) (occurs_distinct (map (λ r. guesses (take k r.cells)) rows))
 
 -- ---- the distinct rows
 

@@ -8,11 +8,7 @@ pub mod AnyGrouping
 pub mod Laws
 pub mod Narrower
 pub mod PointsWithin
-pub mod Blocks
-pub mod PointGroups
 pub mod CertainRows
-pub mod JoinedPoints
-pub mod MemberLaws
 pub mod SureKeys
 pub mod OthersPossible
 pub mod HullsAreGroup

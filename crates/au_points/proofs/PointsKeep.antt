@@ -1,7 +1,7 @@
 -- Grouping by points, where it is typed, gives rows of ranges and keeps a distribution and the counted guesses.
-use Rattle.std.specs.Prelude.{◌≡◌, ℕ, not, nat_le, List, [], ◌++◌, length, map, take, Some}
+use Rattle.std.specs.Prelude.{◌≡◌, ◌≤◌, ℕ, not, nat_le, List, [], ◌∷◌, ◌++◌, length, map, take, Some}
 use Rattle.std.specs.List.{AllByRecursion}
-use Rattle.std.proofs.Common.{refl, sym, ◌∙◌, ap, subst}
+use Rattle.std.proofs.Common.{arith, refl, sym, ◌∙◌, ap, subst}
 use Rattle.std.proofs.lemmas.List.{append-nil, map-id, take-map}
 use Rattle.au_value.specs.declared.kinds.Kind.{Kind}
 use Rattle.au_value.specs.declared.value.Value.{Value}
@@ -10,13 +10,13 @@ use Rattle.au_value.specs.Lists.{distinct}
 use Rattle.au_algebra.specs.declared.query.Agg.{Agg}
 use Rattle.au_algebra.specs.Typing.{agg_kind, all_kinds, group_kinds}
 use Rattle.au_algebra.specs.Lists.{same_row}
-use Rattle.au_algebra.specs.Bounded.{Bounded, group, distinct_rows}
+use Rattle.au_algebra.specs.Bounded.{RangeRow, Bounded, group, distinct_rows}
 use Rattle.au_algebra.specs.Ordinary as ordinary
 use Rattle.au_algebra.specs.Ordinary.{Rows}
 use Rattle.au_algebra.specs.Distribution.{Bounds, guess_count}
 use Rattle.au_algebra.specs.Laws.{IsRangeRow, IsRelation}
 use Rattle.au_algebra.proofs.AggregateKinds.{typed_fitting}
-use Rattle.au_algebra.proofs.DistinctKeys.{occurs_distinct}
+use Rattle.au_algebra.proofs.DistinctKeys.{Keys, occurs_distinct}
 use Rattle.au_algebra.proofs.Each.{all_append, all_filter}
 use Rattle.au_algebra.proofs.GroupRelation.{group_relation, distinct_relation, keys_ranges}
 use Rattle.au_algebra.proofs.GuessedByGroup.{group_guesses, distinct_guesses}
@@ -25,10 +25,10 @@ use Rattle.au_algebra.proofs.KeptByGroup.{take_holds, keys_wide, keys_valid, row
 use Rattle.au_algebra.proofs.Outputs.{row_of}
 use Rattle.au_algebra.proofs.Places.{row_keys}
 use Rattle.au_algebra.proofs.PositiveRelation.{present_relation}
-use Rattle.au_algebra.proofs.RelationRows.{IsLooseRow, relation_loose, relation_triples, relation_wide, relation_holds, relation_ranges}
+use Rattle.au_algebra.proofs.RelationRows.{IsLoose, IsLooseRow, relation_loose, relation_triples, relation_wide, relation_holds, relation_ranges}
 use Rattle.au_points.specs.BesideGroup.{PointsGuessAlike}
 use Rattle.au_points.specs.Groupings.{KeepsRows, KeepsGroups}
-use Rattle.au_points.specs.Points.{point_output, points_of, unsure_rows, other_rows, group_points, distinct_points, by_points}
+use Rattle.au_points.specs.Points.{point_output, point_outputs, points_of, unsure_rows, other_rows, group_points, distinct_points, by_points}
 use Rattle.au_points.proofs.PointsBound.{group_by_points_bounds}
 use Rattle.au_points.proofs.PointsGuess.{guessed_alike}
 use Rattle.au_points.proofs.PointsRelation.{points_loose}
@@ -42,6 +42,11 @@ loose_relation ks keys rows ok =
 own_loose : (ks : List Kind) (rows : Bounded) → IsRelation ks rows → IsRelation ks (other_rows (λ cells. cells) rows)
 own_loose ks rows ok =
     possible_relation ks (unsure_rows (λ cells. cells) rows) (all_filter (IsRangeRow ks) (λ r. not (all_certain r.cells)) rows ok)
+
+-- rows of ranges of which each may be there are a relation
+once : (ks : List Kind) (f : List Value → RangeRow) → ((g : List Value) → 1 ≤ (f g).annot.most) → (gs : Keys) → IsLoose ks (map f gs) → IsRelation ks (map f gs)
+once ks f h [] l = tt
+once ks f h (g ∷ gs) l = (record { cells = l.0.cells; triple = l.0.triple; present = h g }, once ks f h gs l.1)
 
 -- ---- the groups by the leading columns
 
@@ -58,15 +63,20 @@ module _ (ks js : List Kind) (keys : ℕ) (aggs : List Agg) (typed : all_kinds (
       guessed_alike (take keys) aggs (take keys) (λ cells. sym (take-map (λ r. r.sg) keys cells)) (length (take keys ks)) rows (keys_wide keys ks rows ok) (relation_triples ks rows ok)
       (relation_triples (take keys ks ++ js) (group keys aggs (other_rows (take keys) rows)) other_relation) nothing v
 
+  loose_points : IsLoose (take keys ks ++ js) (point_outputs (take keys) aggs rows)
+  loose_points =
+      points_loose (take keys) (take keys) (take_holds keys) (λ cells. sym (take-map (λ r. r.sg) keys cells)) ks (take keys ks) js aggs typed (length (take keys ks)) rows ok (keys_wide keys ks rows ok) (keys_valid keys ks rows ok) (keys_ranges keys ks rows ok) (points_of (take keys) rows) (occurs_distinct (row_keys (take keys) rows))
+
+  -- the rows of the points alone
+  pub points_relation : IsRelation (take keys ks ++ js) (point_outputs (take keys) aggs rows)
+  points_relation = once (take keys ks ++ js) (point_output (take keys) aggs rows) (λ g. omega arith) (points_of (take keys) rows) loose_points
+
   relation : IsRelation (take keys ks ++ js) (group_points keys aggs rows)
   relation =
       let kinds = take keys ks ++ js in
-      let points = map (point_output (take keys) aggs rows) (points_of (take keys) rows) in
+      let points = point_outputs (take keys) aggs rows in
       let others = group keys aggs (other_rows (take keys) rows) in
-      present_relation kinds (points ++ others)
-      (all_append (IsLooseRow kinds) points others
-      (points_loose (take keys) (take keys) (take_holds keys) (λ cells. sym (take-map (λ r. r.sg) keys cells)) ks (take keys ks) js aggs typed (length (take keys ks)) rows ok (keys_wide keys ks rows ok) (keys_valid keys ks rows ok) (keys_ranges keys ks rows ok) (points_of (take keys) rows) (occurs_distinct (row_keys (take keys) rows)))
-      (relation_loose kinds others other_relation))
+      present_relation kinds (points ++ others) (all_append (IsLooseRow kinds) points others loose_points (relation_loose kinds others other_relation))
 
   bounds : (w : Rows) → Bounds rows w → Bounds (group_points keys aggs rows) (ordinary.group keys aggs w)
   bounds w b =

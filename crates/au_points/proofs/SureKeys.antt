@@ -23,8 +23,7 @@ use Rattle.au_algebra.proofs.GroupRelation.{keys_ranges}
 use Rattle.au_points.specs.BesideGroup.{SameWhereCertain, SameWhereAllCertain}
 use Rattle.au_points.specs.Points.{at_point, point_output, points_of, possible_row, other_outputs}
 use Rattle.au_points.proofs.CertainRows.{own_some}
-use Rattle.au_points.proofs.PointBasics.{certain_beside}
-use Rattle.au_points.proofs.PointGroups.{hull_of_point}
+use Rattle.au_points.proofs.PointBasics.{certain_beside, hull_of_point}
 
 -- a range that is certain is its guess alone
 certain_is : (k : Kind) (r : Span) → IsRangeOf k r → is_certain r ≡ true → r ≡ certain r.sg

@@ -5,5 +5,5 @@ pub mod PointLaws
 pub mod BesideGroup
 pub mod GroupingFits
 pub mod Worked
--- What the plan is made of.
-pub mod Members
+-- What the plan of distinct rows is made of.
+pub mod GuessRows

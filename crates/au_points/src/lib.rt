@@ -11,6 +11,6 @@ mod theorems;
 
 pub use theorems::{
     any_grouping, any_product_by_points, bounded_by_points_answers, hulls_are_group,
-    others_are_possible, points_are_distinct, points_are_groups, points_guess_alike,
-    points_keep_groups, points_lie_within, same_where_all_certain, same_where_certain, worked_rows,
+    others_are_possible, points_are_distinct, points_guess_alike, points_keep_groups,
+    points_lie_within, same_where_all_certain, same_where_certain, worked_rows,
 };

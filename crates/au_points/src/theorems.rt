@@ -2,7 +2,7 @@
 ghost use Rattle.au_points.specs.BesideGroup.{OthersArePossible, PointsGuessAlike, PointsLieWithin, SameWhereAllCertain, SameWhereCertain};
 ghost use Rattle.au_points.specs.GroupingFits.{HullsAreGroup};
 ghost use Rattle.au_points.specs.Groupings.{AnyGrouping};
-ghost use Rattle.au_points.specs.Members.{PointsAreDistinct, PointsAreGroups};
+ghost use Rattle.au_points.specs.GuessRows.{PointsAreDistinct};
 ghost use Rattle.au_points.specs.PointLaws.{AnyProductByPoints, BoundedByPointsAnswers, PointsKeepGroups};
 ghost use Rattle.au_points.specs.Worked.{WorkedRows};
 
@@ -55,11 +55,6 @@ pub fn others_are_possible()
 /// With Product, Group and Distinct themselves the relation, the answer and the test of its numbers are the bounded ones.
 pub fn hulls_are_group()
     ensures { HullsAreGroup }
-{}
-
-/// The rows of the points are the groups of their members, which make no other numbers.
-pub fn points_are_groups()
-    ensures { PointsAreGroups }
 {}
 
 /// Without aggregates the rows of the points are distinct rows of guesses.

@@ -1,22 +1,17 @@
 -- The plans of Group and Distinct by points.
-use Rattle.std.specs.Prelude.{◌≡◌, ◌≤◌, ℕ, zero, suc, ◌+◌, Bool, true, not, cond, List, [], ◌∷◌, ◌++◌, filter, length, map, nat_le, take, Some, option_and_then, None, pos, slice_get, if◌then◌else◌}
+use Rattle.std.specs.Prelude.{◌≡◌, ℕ, zero, suc, Bool, not, cond, List, [], ◌∷◌, ◌++◌, filter, length, map, nat_le, take, pos}
 use Rattle.std.specs.List.{AllByRecursion}
-use Rattle.std.proofs.Common.{arith, refl, sym, ◌∙◌, ap, subst}
-use Rattle.std.proofs.lemmas.Bool.{leb-true, le-leb}
+use Rattle.std.proofs.Common.{arith, refl, ◌∙◌, ap, subst}
+use Rattle.std.proofs.lemmas.Bool.{leb-true}
 use Rattle.std.proofs.lemmas.Grind.{flat_map-append}
-use Rattle.std.proofs.lemmas.List.{length-append, length-take-le}
 use Rattle.au_value.specs.declared.kinds.Kind.{Kind}
-use Rattle.au_value.specs.declared.kinds.Kind.TheVariants.{Int}
 use Rattle.au_value.specs.Ranges.{IsRangeOf, all_certain}
 use Rattle.au_expr.specs.Figures.{Fit}
-use Rattle.au_expr.specs.Kinds.{is_kind}
 use Rattle.au_expr.proofs.Fits.{fit_both, fit_parts}
 use Rattle.au_algebra.specs.declared.query.Agg.{Agg}
-use Rattle.au_algebra.specs.declared.query.Agg.TheVariants.{Sum, Min, Max}
-use Rattle.au_algebra.specs.Bounded.{RangeRow, Bounded, distinct_rows, group, union}
+use Rattle.au_algebra.specs.Bounded.{RangeRow, Bounded, distinct_rows, union}
 use Rattle.au_algebra.specs.Fits.{grouping_numbers, triple_numbers}
 use Rattle.au_algebra.specs.Laws.{IsRangeRow, IsRelation}
-use Rattle.au_algebra.specs.Typing.{agg_kind, all_kinds, group_kinds}
 use Rattle.au_algebra.proofs.Each.{all_append}
 use Rattle.au_algebra.proofs.Items.{chosen_is}
 use Rattle.au_plain.specs.Plans.{PlanTree}
@@ -25,47 +20,12 @@ use Rattle.au_encode.proofs.Decoded.{cells_length}
 use Rattle.au_rwexpr.proofs.Present.{present_all}
 use Rattle.au_rwcore.specs.Gives.{Unites}
 use Rattle.au_rwgroup.specs.Gives.{Distincts, Groups}
-use Rattle.au_points.specs.Members.{behind, guess_row, members}
+use Rattle.au_points.specs.GuessRows.{guess_row}
 use Rattle.au_points.specs.Points.{distinct_points, group_points, numbers_by_points, other_outputs, other_rows, point_numbers, point_outputs, possible_row}
 use Rattle.au_points.proofs.CertainRows.{points_are_distinct}
-use Rattle.au_points.proofs.MemberLaws.{points_are_groups}
-use Rattle.au_rwpoints.specs.Gives.{DistinctByPoints, GroupsByPoints}
+use Rattle.au_rwpoints.specs.Gives.{DistinctByPoints, GroupsByPoints, PointOutputs}
 use Rattle.au_rwpoints.specs.RowPlans.{guess_plan, other_plan}
 use Rattle.au_rwpoints.proofs.RowPlans.{guess_gives, other_gives}
-
--- ---- kinds behind others
-
-take_front : {A : Type 0} (n : ℕ) (xs ys : List A) → length xs ≡ n → take n (xs ++ ys) ≡ xs
-take_front zero [] ys e = refl
-take_front zero (x ∷ xs) ys e = let never : ⊥ = omega (arith, e) in absurd never
-take_front (suc n) [] ys e = let never : ⊥ = omega (arith, e) in absurd never
-take_front (suc n) (x ∷ xs) ys e = ap (λ q. x ∷ q) (take_front n xs ys (omega (arith, e)))
-
-column_behind : {A : Type 0} (n c : ℕ) (xs ys : List A) → length xs ≡ n → slice_get (xs ++ ys) (n + c) ≡ slice_get ys c
-column_behind zero c [] ys e = ap (slice_get ys) (let h : 0 + c ≡ c = omega arith in h)
-column_behind zero c (x ∷ xs) ys e = let never : ⊥ = omega (arith, e) in absurd never
-column_behind (suc n) c [] ys e = let never : ⊥ = omega (arith, e) in absurd never
-column_behind (suc n) c (x ∷ xs) ys e =
-    ap (slice_get (x ∷ xs ++ ys)) (let h : suc n + c ≡ suc (n + c) = omega arith in h) ∙ column_behind n c xs ys (omega (arith, e))
-
-agg_behind : (k : ℕ) (keys ks : List Kind) → length keys ≡ k → (agg : Agg) → agg_kind (keys ++ ks) (behind k agg) ≡ agg_kind ks agg
-agg_behind k keys ks e (Sum c) = ap (λ o. if is_kind Int o then Some Int else None) (column_behind k c keys ks e)
-agg_behind k keys ks e (Min c) = column_behind k c keys ks e
-agg_behind k keys ks e (Max c) = column_behind k c keys ks e
-
-aggs_behind : (k : ℕ) (keys ks : List Kind) → length keys ≡ k → (aggs : List Agg) → map (agg_kind (keys ++ ks)) (map (behind k) aggs) ≡ map (agg_kind ks) aggs
-aggs_behind k keys ks e [] = refl
-aggs_behind k keys ks e (agg ∷ aggs) = λ i. agg_behind k keys ks e agg i ∷ aggs_behind k keys ks e aggs i
-
--- the members have the kinds of the groups
-behind_kinds : (k : ℕ) (ks js : List Kind) (aggs : List Agg) → k ≤ length ks → group_kinds k aggs ks ≡ Some js → group_kinds k (map (behind k) aggs) (take k ks ++ ks) ≡ Some js
-behind_kinds k ks js aggs within typed =
-    let keys = take k ks in
-    let long = length-take-le k ks within in
-    let enough : nat_le k (length (keys ++ ks)) ≡ true = le-leb k (length (keys ++ ks)) (let e = length-append keys ks in omega (arith, e, within)) in
-    ap (λ b. if b then option_and_then (λ more. Some (take k (keys ++ ks) ++ more)) (all_kinds (map (agg_kind (keys ++ ks)) (map (behind k) aggs))) else None) enough
-    ∙ (λ i. option_and_then (λ more. Some (take_front k keys ks long i ++ more)) (all_kinds (aggs_behind k keys ks long aggs i)))
-    ∙ (chosen_is (nat_le k (length ks)) (option_and_then (λ more. Some (keys ++ more)) (all_kinds (map (agg_kind ks) aggs))) js typed).1
 
 -- ---- both parts
 
@@ -78,40 +38,32 @@ both_parts ks xs ys a b f =
 
 -- ---- Group
 
-module _ (c k : ℕ) (aggs : List Agg) (of with_members first second p : PlanTree) where
-  pub group_gives : Groups (k + c) k (map (behind k) aggs) with_members first → Groups c k aggs (other_plan c k of) second → Unites first second p → GroupsByPoints c k aggs of with_members p
-  group_gives of_first of_second of_plan kinds tables ks js rows ms ns fits long typed h g =
-      let keys = take k ks in
+module _ (c k : ℕ) (aggs : List Agg) (of first second p : PlanTree) where
+  pub group_gives : PointOutputs c k aggs of first → Groups c k aggs (other_plan c k of) second → Unites first second p → GroupsByPoints c k aggs of p
+  group_gives of_first of_second of_plan kinds tables ks js rows ns fits long typed g =
       let within = leb-true k (length ks) (chosen_is (nat_le k (length ks)) _ js typed).0 in
-      let long_keys : length keys ≡ k = length-take-le k ks within in
-      let wide : length (keys ++ ks) ≡ k + c = length-append keys ks ∙ (λ i. long_keys i + long i) in
-      let moved = map (behind k) aggs in
       let points = point_outputs (take k) aggs rows in
       let others = other_outputs (take k) aggs rows in
-      let are : group k moved (members k rows) ≡ points = points_are_groups.rows ks js k aggs rows typed g.relation in
-      let a = of_first kinds tables (keys ++ ks) js (members k rows) ms fits wide (behind_kinds k ks js aggs within typed) h in
-      let a_own = grouping_numbers (take k) moved (members k rows) ++ triple_numbers (group k moved (members k rows)) in
+      let a = of_first kinds tables ks js rows ns fits long typed g in
+      let a_own = point_numbers (take k) aggs rows in
       let b_rows : GivesRelation kinds tables (other_plan c k of) ks (other_rows (take k) rows) ns = subst (λ q. GivesRelation kinds tables q ks (other_rows (take k) rows) ns) (ap (λ n. other_plan n k of) long) (other_gives ks k within kinds tables of rows ns fits g) in
       let b = of_second kinds tables ks js (other_rows (take k) rows) ns fits long typed b_rows in
-      let b_own = grouping_numbers (take k) aggs (other_rows (take k) rows) ++ triple_numbers others in
-      let a_points : GivesRelation kinds tables first js points (ms ++ a_own) = subst (λ q. GivesRelation kinds tables first js q (ms ++ a_own)) are a in
-      let whole = of_plan kinds tables js points others (ms ++ a_own) (ns ++ b_own) a_points b in
-      let own = numbers_by_points (take k) aggs rows in
-      let rest = grouping_numbers (take k) aggs (other_rows (take k) rows) ++ triple_numbers (group_points k aggs rows) in
+      let b_sums = grouping_numbers (take k) aggs (other_rows (take k) rows) in
+      let b_own = b_sums ++ triple_numbers others in
+      let whole = of_plan kinds tables js points others (ns ++ a_own) (ns ++ b_own) a b in
+      let triples = triple_numbers (group_points k aggs rows) in
       record {
         typed = whole.typed;
         relation = whole.relation;
         encoded = whole.encoded;
         fit = λ f.
-            (let m = fit_parts ms (ns ++ own) f in
-            let n = fit_parts ns own m.1 in
-            let q = fit_parts (point_numbers (take k) aggs rows) rest n.1 in
-            let r = fit_parts (grouping_numbers (take k) aggs (other_rows (take k) rows)) (triple_numbers (group_points k aggs rows)) q.1 in
-            let t = both_parts js points others a_points.relation b.relation r.1 in
-            let in_first = fit_both (grouping_numbers (take k) moved (members k rows)) (triple_numbers (group k moved (members k rows))) (points_are_groups.numbers ks js k aggs rows typed g.relation q.0)
-            (subst (λ z. Fit (triple_numbers z)) (sym are) t.0) in
-            let in_second = fit_both (grouping_numbers (take k) aggs (other_rows (take k) rows)) (triple_numbers others) r.0 t.1 in
-            whole.fit (fit_both (ms ++ a_own) (ns ++ b_own) (fit_both ms a_own m.0 in_first) (fit_both ns b_own n.0 in_second)));
+            (let n = fit_parts ns (numbers_by_points (take k) aggs rows) f in
+            let q = fit_parts a_own (b_sums ++ triples) n.1 in
+            let r = fit_parts b_sums triples q.1 in
+            let t = both_parts js points others a.relation b.relation r.1 in
+            whole.fit
+            (fit_both (ns ++ a_own) (ns ++ b_own) (fit_both ns a_own n.0 q.0)
+            (fit_both ns b_own n.0 (fit_both b_sums (triple_numbers others) r.0 t.1))));
       }
 
 -- ---- Distinct

@@ -1,8 +1,7 @@
 pub mod RowMaps
 pub mod RowPlans
 pub mod Unsure
-pub mod EqualColumns
-pub mod MemberNumbers
-pub mod PointLaws
+pub mod PointBoxes
+pub mod PointGroups
 pub mod GroupLaws
 pub mod Steps

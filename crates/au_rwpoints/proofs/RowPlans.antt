@@ -1,7 +1,6 @@
 -- The plans of changed rows give the rows that they stand for.
 use Rattle.std.specs.Prelude.{◌≡◌, ◌≤◌, ℕ, zero, suc, ◌+◌, ◌*◌, Bool, true, false, cond, List, [], ◌∷◌, ◌++◌, length, map, pos, take, Some, ℤ}
 use Rattle.std.proofs.Common.{arith, refl, sym, ◌∙◌, ap, subst}
-use Rattle.std.proofs.lemmas.List.{length-take-le}
 use Rattle.au_value.specs.declared.kinds.Kind.{Kind}
 use Rattle.au_value.specs.declared.kinds.Kind.TheVariants as kind
 use Rattle.au_value.specs.declared.value.Value.{Value}
@@ -11,8 +10,6 @@ use Rattle.au_expr.specs.Ordinary as on_values
 use Rattle.au_algebra.specs.Bounded.{RangeRow, Bounded}
 use Rattle.au_algebra.specs.Laws.{IsRangeRow}
 use Rattle.au_algebra.specs.Ordinary.{Rows}
-use Rattle.au_algebra.proofs.KeptByGroup.{take_ranges}
-use Rattle.au_plain.specs.PTerms.{PTerm}
 use Rattle.au_plain.specs.PlanKinds.{FitTables, plain_kind}
 use Rattle.au_plain.specs.Plans.{PlanTree, Filter}
 use Rattle.au_plain.specs.PTerms as term
@@ -22,7 +19,7 @@ use Rattle.au_encode.proofs.Decoded.{cells_length}
 use Rattle.au_encode.proofs.HeldCells.{FitRow}
 use Rattle.au_expr.proofs.Fits.{fit_parts}
 use Rattle.au_rwexpr.specs.Cells.{cell_places}
-use Rattle.au_rwexpr.specs.Counts.{one_term, zero_term}
+use Rattle.au_rwexpr.specs.Counts.{zero_term}
 use Rattle.au_rwexpr.specs.Flatten.{lo}
 use Rattle.au_rwexpr.proofs.Careful.{Fits, case_fits, column_fits}
 use Rattle.au_rwexpr.proofs.Coded.{cg, cl, cm, own, rh, rl, rs}
@@ -32,11 +29,10 @@ use Rattle.au_rwexpr.proofs.OnValues.{Has, column_has}
 use Rattle.au_rwexpr.proofs.Picks.{Picks, coded, coded_cells, coded_long, coded_triple, pick_cells, picks_more}
 use Rattle.au_rwexpr.proofs.Places.{At, Ends, EndsOfAll, all_ends, all_ends_more, at_past, ends_more}
 use Rattle.au_rwgroup.specs.Groups.{all_sure}
-use Rattle.au_rwgroup.proofs.GroupGives.{take_there}
-use Rattle.au_points.specs.Members.{guess_row, key_row}
+use Rattle.au_points.specs.GuessRows.{guess_row}
 use Rattle.au_points.specs.Points.{other_rows, possible_row, unsure_rows}
 use Rattle.au_points.proofs.PointBasics.{certain_ranges}
-use Rattle.au_rwpoints.specs.RowPlans.{guess_places, guess_plan, key_plan, other_plan, sure_least}
+use Rattle.au_rwpoints.specs.RowPlans.{guess_places, guess_plan, other_plan, sure_least}
 use Rattle.au_rwpoints.proofs.RowMaps.{map_gives}
 use Rattle.au_rwpoints.proofs.Unsure.{fit_sure, kind_sure, row_sure, unsure_gives}
 
@@ -50,11 +46,11 @@ pick_guesses l s h row i zero (x ∷ xs) n e = let never : ⊥ = omega (arith, n
 pick_guesses l s h row i (suc c) (x ∷ xs) n e = (e.0.sg, (e.0.sg, (e.0.sg, pick_guesses l s h row (i + 3) c xs (omega (arith, n)) e.1)))
 
 -- these are the cells of the guesses
-guess_cells : (xs : List Span) → all_ends rs rs rs xs ≡ encode_cells (map certain (guesses xs))
+pub guess_cells : (xs : List Span) → all_ends rs rs rs xs ≡ encode_cells (map certain (guesses xs))
 guess_cells [] = refl
 guess_cells (x ∷ xs) = λ i. x.sg ∷ x.sg ∷ x.sg ∷ guess_cells xs i
 
-guess_kinds : (ks : List Kind) → all_ends own own own ks ≡ triple_kinds ks
+pub guess_kinds : (ks : List Kind) → all_ends own own own ks ≡ triple_kinds ks
 guess_kinds [] = refl
 guess_kinds (k ∷ ks) = λ i. k ∷ k ∷ k ∷ guess_kinds ks i
 
@@ -71,12 +67,6 @@ module _ {A X T : Type 0} (l s h : X → A) (tl ts th : T → A) (c : ℕ) (xs :
 
   pub added_at : At row (3 * c + 3) y
   added_at = at_past (coded l s h tl ts th xs t) (y ∷ []) 0 (3 * c + 3) y (let e = coded_long l s h tl ts th c xs t long in omega (arith, e)) refl
-
-  pub key_picks : (k : ℕ) → length (take k xs) ≡ k → Picks row (guess_places 0 k ++ ((3 * c + 3) ∷ (3 * c + 3) ∷ (3 * c + 3) ∷ [])) (all_ends s s s (take k xs) ++ (y ∷ y ∷ y ∷ []))
-  key_picks k enough =
-      picks_more row (guess_places 0 k) ((3 * c + 3) ∷ (3 * c + 3) ∷ (3 * c + 3) ∷ []) (all_ends s s s (take k xs)) (y ∷ y ∷ y ∷ [])
-      (pick_guesses l s h row 0 k (take k xs) enough (take_there l s h row 0 k xs cells_at))
-      (added_at, (added_at, (added_at, tt)))
 
   pub guess_picks : Picks row (guess_places 0 c ++ ((3 * c + 3) ∷ (3 * c + 1) ∷ (3 * c + 2) ∷ [])) (all_ends s s s xs ++ (y ∷ ts t ∷ th t ∷ []))
   guess_picks =
@@ -110,34 +100,7 @@ module _ (ks : List Kind) where
   literal_has : (values : List Value) (n : ℕ) → Has values (term.Literal (Int (pos n))) (Int (pos n))
   literal_has values n = λ more. refl
 
-  -- ---- the guesses of the keys
-
   module _ (k : ℕ) (within : k ≤ length ks) where
-    key_valid : (r : RangeRow) → IsRangeRow ks r → IsRangeRow (take k ks) (key_row k r)
-    key_valid r v = record {
-      cells = certain_ranges (take k ks) (take k r.cells) (take_ranges k ks r.cells v.cells);
-      triple = record { least_guess = omega arith; guess_most = omega arith };
-      present = omega arith;
-    }
-
-    key_encoded : (r : RangeRow) → IsRangeRow ks r → Picks (encode_row r ++ (Int (pos 1) ∷ [])) (guess_places 0 k ++ ((3 * c + 3) ∷ (3 * c + 3) ∷ (3 * c + 3) ∷ [])) (encode_row (key_row k r))
-    key_encoded r v =
-        let enough = length-take-le k r.cells (let e = long r v in omega (arith, e, within)) in
-        subst (λ q. Picks (encode_row r ++ (Int (pos 1) ∷ [])) (guess_places 0 k ++ ((3 * c + 3) ∷ (3 * c + 3) ∷ (3 * c + 3) ∷ [])) (q ++ (Int (pos 1) ∷ Int (pos 1) ∷ Int (pos 1) ∷ [])))
-        (guess_cells (take k r.cells)) (key_picks rl rs rh cl cg cm c r.cells r.annot (long r v) (Int (pos 1)) k enough)
-
-    key_kinds : Picks (encoded_kinds ks ++ (kind.Int ∷ [])) (guess_places 0 k ++ ((3 * c + 3) ∷ (3 * c + 3) ∷ (3 * c + 3) ∷ [])) (encoded_kinds (take k ks))
-    key_kinds =
-        subst (λ q. Picks (encoded_kinds ks ++ (kind.Int ∷ [])) (guess_places 0 k ++ ((3 * c + 3) ∷ (3 * c + 3) ∷ (3 * c + 3) ∷ [])) (q ++ (kind.Int ∷ kind.Int ∷ kind.Int ∷ [])))
-        (guess_kinds (take k ks)) (key_picks own own own own own own c ks kind.Int refl kind.Int k (length-take-le k ks within))
-
-    pub key_gives :
-        (kinds : List (List Kind)) (tables : List Rows) (p : PlanTree) (rows : Bounded) (ns : List ℤ) →
-        FitTables tables → GivesRelation kinds tables p ks rows ns → GivesRelation kinds tables (key_plan c k p) (take k ks) (map (key_row k) rows) ns
-    key_gives =
-        map_gives ks (take k ks) (key_row k) one_term (λ r. 1) (guess_places 0 k ++ ((3 * c + 3) ∷ (3 * c + 3) ∷ (3 * c + 3) ∷ []))
-        key_valid (λ r v. literal_has (encode_row r) 1) key_encoded refl key_kinds (λ r v h more. refl)
-
     -- ---- the rows with unsure keys
 
     other_valid : (r : RangeRow) → IsRangeRow ks r → IsRangeRow ks (possible_row r)

@@ -1,9 +1,9 @@
--- Plans that change each row of their input: the guesses of keys, those of whole rows, and the rows with unsure keys.
+-- Plans that change each row of their input: the guesses of rows, and the rows with unsure keys.
 use Rattle.std.specs.Prelude.{ℕ, zero, suc, ◌+◌, ◌*◌, List, [], ◌∷◌, ◌++◌}
 use Rattle.au_plain.specs.PTerms.{PTerm, Not, Case}
 use Rattle.au_plain.specs.Plans.{PlanTree, Extend, Keep, Filter}
 use Rattle.au_rwexpr.specs.Cells.{cell_places}
-use Rattle.au_rwexpr.specs.Counts.{one_term, zero_term}
+use Rattle.au_rwexpr.specs.Counts.{zero_term}
 use Rattle.au_rwexpr.specs.Flatten.{lo}
 use Rattle.au_rwgroup.specs.Groups.{all_sure}
 
@@ -11,11 +11,6 @@ use Rattle.au_rwgroup.specs.Groups.{all_sure}
 abbrev pub guess_places : ℕ → ℕ → List ℕ
 guess_places i zero = []
 guess_places i (suc n) = (i + 1) ∷ (i + 1) ∷ (i + 1) ∷ guess_places (i + 3) n
-
--- the guesses of the first k of c ranges, once
-abbrev pub key_plan : ℕ → ℕ → PlanTree → PlanTree
-key_plan c k p =
-    let w = 3 * c + 3 in Keep (guess_places 0 k ++ (w ∷ w ∷ w ∷ [])) (Extend one_term p)
 
 -- the least of a row that has only certain ranges, and else 0
 abbrev pub sure_least : ℕ → PTerm

@@ -1,23 +1,33 @@
 //! The places that the plans of rows keep.
 ghost use Rattle.std.specs.Prelude.{◌≡◌, ◌+◌, ◌*◌, ◌<◌, ◌^◌, ◌++◌, ◌∷◌, [], IfOk, OnOk};
 ghost use Rattle.au_rwexpr.specs.Cells.{cell_places};
+ghost use Rattle.au_rwpoints.specs.PointPlan.{point_places as placed};
 ghost use Rattle.au_rwpoints.specs.RowPlans.{guess_places};
 
+use au_combine::push_run;
 use au_rwexpr::{RangeColumns, behind, push_cells};
 use au_value::NoMemory;
 use std::alloc::Global;
 
-/// The guesses of so many keys, and three times the column behind the row.
+/// The guesses of so many keys, the two counts behind them, the column behind so many further ones, and these.
 ///
 /// `NoMemory` comes also where a row cannot have so many columns.
-pub(crate) fn key_places(alloc: Global, columns: usize, keys: usize) -> Result<Vec<usize>, NoMemory>
-    ensures { IfOk result (λ v. v.items ≡ guess_places 0 keys ++ ((3 * columns + 3) ∷ (3 * columns + 3) ∷ (3 * columns + 3) ∷ [])) }
+pub(crate) fn point_places(
+    alloc: Global,
+    keys: usize,
+    further: usize,
+) -> Result<Vec<usize>, NoMemory>
+    ensures { IfOk result (λ v. v.items ≡ placed keys further) }
 {
-    let added = behind(RangeColumns::of(columns)?)?;
+    let counts = RangeColumns::of(keys)?;
+    let Some(last) = (counts.first + 2).checked_add(further) else {
+        return Err(NoMemory);
+    };
     let mut places = guesses(alloc, keys)?;
-    places.push(added.first)?;
-    places.push(added.first)?;
-    places.push(added.first)?;
+    places.push(counts.first)?;
+    places.push(counts.first + 1)?;
+    places.push(last)?;
+    push_run(&mut places, counts.first + 2, further)?;
     Ok(places)
 }
 

@@ -4,33 +4,19 @@ ghost use Rattle.au_plain.specs.PTerms.{pterm};
 ghost use Rattle.au_plain.specs.PTerms as term;
 ghost use Rattle.au_plain.specs.Plans.{plan_tree};
 ghost use Rattle.au_plain.specs.Plans as tree;
-ghost use Rattle.au_rwexpr.specs.Counts.{one_term, zero_term};
+ghost use Rattle.au_rwexpr.specs.Counts.{zero_term};
 ghost use Rattle.au_rwgroup.specs.Groups.{all_sure as are_sure, sure as sure_term};
 ghost use Rattle.au_rwpoints.specs.RowPlans as plan;
 
-use crate::row_places::{guess_row_places, key_places, possible_places};
+use crate::row_places::{guess_row_places, possible_places};
 use au_plain::{Comparison2, PExpr, Plan, and, case, compare, extend, filter, keep, not};
 use au_rwexpr::{RangeColumns, behind};
 use au_value::{NoMemory, Value, beside, both};
 use std::alloc::Global;
 
-/// The guesses of the first so many columns of each row, once.
+/// The guesses of each row, of which a copy is certain where all its ranges are.
 ///
 /// `NoMemory` comes also where a row cannot have so many columns, here and below.
-pub(crate) fn key_rows(
-    alloc: Global,
-    of: Plan,
-    columns: usize,
-    keys: usize,
-) -> Result<Plan, NoMemory>
-    ensures { IfOk result (λ p. plan_tree p ≡ plan.key_plan columns keys (plan_tree of)) }
-{
-    let places = key_places(alloc, columns, keys);
-    let (places, wide) = both(places, extend(alloc, one(), of))?;
-    keep(alloc, places, wide)
-}
-
-/// The guesses of each row, of which a copy is certain where all its ranges are.
 pub(crate) fn guess_rows(alloc: Global, of: Plan, columns: usize) -> Result<Plan, NoMemory>
     ensures { IfOk result (λ p. plan_tree p ≡ plan.guess_plan columns (plan_tree of)) }
 {
@@ -106,12 +92,6 @@ fn is_sure(alloc: Global, cell: RangeColumns) -> Result<PExpr, NoMemory>
     ensures { IfOk result (λ e. pterm e ≡ sure_term cell.first) }
 {
     compare(alloc, Comparison2::Equal, cell.lo(), cell.hi())
-}
-
-fn one() -> PExpr
-    ensures { pterm result ≡ one_term }
-{
-    PExpr::Literal(Value::Int(1))
 }
 
 fn zero() -> PExpr

@@ -1,22 +1,29 @@
--- The layout and the aggregates are those of the members.
-use Rattle.std.proofs.Common.{◌∙◌, ◌+◌, map, subst}
-use Rattle.std.proofs.lemmas.Result.{IfOk-at_ok}
+-- The boxes are the points.
+use Rattle.std.proofs.Common.{◌≡◌, ◌∙◌}
 use Rattle.au_plain.specs.Plans.{plan_tree}
-use Rattle.au_points.specs.Members as points
-use Rattle.au_rwgroup.specs.Gives.{Groups}
+use Rattle.au_rwgroup.specs.GroupPlan.{group_over}
+use Rattle.au_rwpoints.specs.PointPlan.{points_plan}
+use Rattle.au_rwpoints.proofs.PointGroups.{outputs_give, outputs_scans}
 use Rattle.au_rwpoints.proofs.grouping.point_groups.Goals as goal
 
 pub returns-clause-gives : goal.returns-clause-gives
 returns-clause-gives c =
-    let wide = c.in_ok-wide in
-    let moved = c.in_ok-moved in
+    let n = c.args.layout.now.columns in
     let k = c.args.keys in
-    let n = k + c.args.layout.now.columns in
-    let aggs = map (points.behind k) c.args.aggs.now in
+    let aggs = c.args.aggs.now in
+    let of = plan_tree c.args.of.now in
+    let parts = c.in_ok-boxes.ensures in
     let plan = plan_tree c.in_ok-plan.plan in
-    let columns = IfOk-at_ok _ wide.ensures.values.0 c.joined_layout.ensures in
-    let are = c.as_slice.ensures.value ∙ IfOk-at_ok _ moved.ensures.values.0 c.behind.ensures in
-    let same = moved.ensures.values.1 ∙ wide.ensures.values.1 in
-    subst (λ q. Groups n k aggs (plan_tree q) plan) same
-    (subst (λ a. Groups n k a (plan_tree moved.with_members) plan) are
-    (subst (λ m. Groups m k c.as_slice.result.now (plan_tree moved.with_members) plan) columns c.in_ok-plan.ensures.gives))
+    let is : plan ≡ points_plan c.args.how n k aggs of = c.in_ok-plan.ensures.plan ∙ (λ i. group_over c.args.how n k aggs (parts.boxes i) (parts.rows i)) in
+    outputs_give c.args.how n k aggs of plan is
+
+pub returns-clause-scans : goal.returns-clause-scans
+returns-clause-scans c =
+    let n = c.args.layout.now.columns in
+    let k = c.args.keys in
+    let aggs = c.args.aggs.now in
+    let of = plan_tree c.args.of.now in
+    let parts = c.in_ok-boxes.ensures in
+    let plan = plan_tree c.in_ok-plan.plan in
+    let is : plan ≡ points_plan c.args.how n k aggs of = c.in_ok-plan.ensures.plan ∙ (λ i. group_over c.args.how n k aggs (parts.boxes i) (parts.rows i)) in
+    outputs_scans c.args.how n k aggs of plan is

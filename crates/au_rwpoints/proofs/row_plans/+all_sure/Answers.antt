@@ -1,5 +1,5 @@
 -- The first range's test, and then the others'.
-use Rattle.std.proofs.Common.{◌≡◌, ◌∙◌, ◌-◌, arith}
+use Rattle.std.proofs.Common.{◌≡◌, ◌∙◌, arith}
 use Rattle.std.proofs.lemmas.Result.{IfOk-weaker}
 use Rattle.au_plain.specs.PTerms.{And, pterm}
 use Rattle.au_rwgroup.specs.Groups as tests
