@@ -11,6 +11,7 @@ pub mod Members
 pub mod NarrowSteps
 pub mod ChainSteps
 pub mod Overlays
+pub mod ChainPlans
 pub mod Pulling
 pub mod RangeOrder
 pub mod Rises

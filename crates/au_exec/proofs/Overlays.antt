@@ -43,18 +43,18 @@ and_assoc : (a b c : Bool) → (a && b) && c ≡ a && (b && c)
 and_assoc true b c = refl
 and_assoc false b c = refl
 
-over_rows : (os : List Operator) (p : PhysicalTree) (ts : List Rows) → physical_rows (over os p) ts ≡ chain_rows os (physical_rows p ts)
+pub over_rows : (os : List Operator) (p : PhysicalTree) (ts : List Rows) → physical_rows (over os p) ts ≡ chain_rows os (physical_rows p ts)
 over_rows [] p ts = refl
 over_rows (o ∷ os) p ts = over_rows os (atop o p) ts ∙ ap (chain_rows os) (atop_rows o p ts)
 
-over_fit : (os : List Operator) (p : PhysicalTree) (ts : List Rows) → fit (physical_numbers (over os p) ts) ≡ fit (physical_numbers p ts) && chain_fit os (physical_rows p ts)
+pub over_fit : (os : List Operator) (p : PhysicalTree) (ts : List Rows) → fit (physical_numbers (over os p) ts) ≡ fit (physical_numbers p ts) && chain_fit os (physical_rows p ts)
 over_fit [] p ts = with_true (fit (physical_numbers p ts))
 over_fit (o ∷ os) p ts =
     over_fit os (atop o p) ts
     ∙ (λ i. atop_fit o p ts i && chain_fit os (atop_rows o p ts i))
     ∙ and_assoc (fit (physical_numbers p ts)) (fit (operator_numbers o (physical_rows p ts))) (chain_fit os (operator_rows o (physical_rows p ts)))
 
-over_can : (os : List Operator) (p : PhysicalTree) (ts : List Rows) → CanOpen ts (over os p) → CanOpen ts p × CanChain os (physical_rows p ts)
+pub over_can : (os : List Operator) (p : PhysicalTree) (ts : List Rows) → CanOpen ts (over os p) → CanOpen ts p × CanChain os (physical_rows p ts)
 over_can [] p ts h = (h, tt)
 over_can (o ∷ os) p ts h =
     let rest = over_can os (atop o p) ts h in

@@ -19,6 +19,7 @@ pub mod EndsApart
 pub mod Hashed
 pub mod Rights
 pub mod Chains
+pub mod RowWise
 pub mod Probed
 pub mod ChainLaws
 pub mod Converted

@@ -1,7 +1,8 @@
 //! Runs of operators that work row by row, taken off a plan.
-ghost use Rattle.std.specs.Prelude.{◌≡◌, ◌≤◌, ◌∷◌, [], ◌++◌, IfOk, MatchOption, OnOk};
+ghost use Rattle.std.specs.Prelude.{◌≡◌, ◌≤◌, ◌∷◌, [], ◌++◌, IfOk, MatchOption, OnOk, false};
 ghost use Rattle.au_physical.specs.Physicals.{physical_tree};
 ghost use Rattle.au_exec.specs.Chains.{atop, over, plan_size};
+ghost use Rattle.au_exec.specs.RowWise.{is_topped};
 
 use crate::boxed::taken;
 use crate::operators::{Operator, keeping};
@@ -19,6 +20,7 @@ pub(crate) fn operators_of(
 ) -> Result<Vec<Operator>, NoMemory>
     ensures tree { IfOk result (λ v. over v.items (physical_tree plan.new) ≡ atop last (physical_tree plan.old)) }
     ensures size { OnOk result (plan_size (physical_tree plan.new) ≤ plan_size (physical_tree plan.old)) }
+    ensures bare { OnOk result (is_topped (physical_tree plan.new) ≡ false) }
 {
     let mut operators = Vec::new(alloc);
     push_operator(&mut operators, last)?;
@@ -34,9 +36,9 @@ pub(crate) fn operators_of(
     }
 }
 
-// Takes the topmost operator off, where it works row by row.
-fn take_operator(alloc: Global, plan: &mut Physical) -> Option<Operator>
-    ensures { MatchOption result (physical_tree plan.new ≡ physical_tree plan.old) (λ o. physical_tree plan.old ≡ atop o (physical_tree plan.new)) }
+/// Takes the topmost operator off, where it works row by row.
+pub(crate) fn take_operator(alloc: Global, plan: &mut Physical) -> Option<Operator>
+    ensures { MatchOption result ((physical_tree plan.new ≡ physical_tree plan.old) × (is_topped (physical_tree plan.old) ≡ false)) (λ o. physical_tree plan.old ≡ atop o (physical_tree plan.new)) }
 {
     let (operator, rest) = top(alloc, plan)?;
     *plan = rest;
@@ -45,7 +47,7 @@ fn take_operator(alloc: Global, plan: &mut Physical) -> Option<Operator>
 
 // The operator on top of a plan, and the plan below it, moved, where that operator works row by row.
 fn top(alloc: Global, plan: &mut Physical) -> Option<(Operator, Physical)>
-    ensures { MatchOption result (physical_tree plan.new ≡ physical_tree plan.old) (λ parts. physical_tree plan.old ≡ atop parts.0 (physical_tree parts.1)) }
+    ensures { MatchOption result ((physical_tree plan.new ≡ physical_tree plan.old) × (is_topped (physical_tree plan.old) ≡ false)) (λ parts. physical_tree plan.old ≡ atop parts.0 (physical_tree parts.1)) }
 {
     match plan {
         Physical::Extend(e, of) => Some((Operator::Extend(taken(e)), taken_plan(of))),

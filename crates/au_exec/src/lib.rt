@@ -5,7 +5,8 @@
 //! row are worked one after the other on each row, which moves; a join keeps its right rows, and a grouping a state for
 //! each key. Several workers share the left rows of a join that has a table or an index, the copying of the ends that the
 //! index holds, the rows of a table that are grouped, and many rows of one on which operators work row by row; the plan's
-//! rows are the same for each number of workers.
+//! rows are the same for each number of workers. A [`Chain`] is a plan that works row by row, made ready once for many lists of
+//! rows.
 //!
 //! ```text
 //! let scan = Box::new(alloc, Physical::Scan(0, 2))?;
@@ -21,6 +22,7 @@
 mod advance;
 mod batches;
 mod boxed;
+mod chain;
 mod chains;
 mod collect;
 mod combine;
@@ -71,4 +73,5 @@ mod tally;
 mod view;
 
 pub use batches::{Batch, Run};
+pub use chain::{Chain, is_chain};
 pub use convert::Convert;
