@@ -28,6 +28,7 @@ pub mod TypedPhysical
 pub mod Collected
 pub mod Converting
 pub mod CountedScans
+pub mod PickedPlans
 pub mod Filled
 pub mod Openings
 pub mod Advancing

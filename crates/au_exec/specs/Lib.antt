@@ -43,4 +43,5 @@ pub mod Waiting
 pub mod Opened
 pub mod CanOpen
 pub mod Scans
+pub mod Picking
 pub mod Runs

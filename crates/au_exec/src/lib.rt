@@ -57,6 +57,7 @@ mod operators;
 mod pair_groups;
 mod pair_rows;
 mod partners;
+mod picking;
 mod probe;
 mod pull;
 mod range_ends;

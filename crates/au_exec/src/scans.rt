@@ -1,5 +1,5 @@
 //! The Scans of a plan, with the rows of their tables in their place.
-ghost use Rattle.std.specs.Prelude.{◌≡◌, ◌≤◌, ◌+◌, [], IfOk, OnOk, get_or, length, map, set};
+ghost use Rattle.std.specs.Prelude.{◌≡◌, ◌≤◌, ◌+◌, [], false, Err, IfOk, OnOk, get_or, length, map, set};
 ghost use Rattle.au_expr.specs.Figures.{fit};
 ghost use Rattle.au_physical.specs.PhysicalMeaning.{physical_rows};
 ghost use Rattle.au_physical.specs.PhysicalNumbers.{physical_numbers};
@@ -9,6 +9,8 @@ ghost use Rattle.au_exec.specs.Outcomes.{rows_of};
 ghost use Rattle.au_exec.specs.Scans.{AreThere, HasUses, counted, filled, spent};
 
 use crate::inputs::{Inputs, table_rows};
+use crate::picking::pick;
+use au_expr::EvalFault;
 use au_physical::Physical;
 use au_plain::PRow;
 use au_value::NoMemory;
@@ -17,8 +19,38 @@ use std::snapshot::Snapshot;
 use std::thread::Threads;
 
 /// Puts the rows of its table in place of each Scan: moved where no later Scan reads the table, else copied by the
-/// workers.
+/// workers. Where a Filter is right above a Scan of a table that others read, just the rows that stay are copied.
+///
+/// `Overflow` comes only where a number of such a Filter leaves 128 bits.
 pub(crate) fn read_tables<R: Threads + Sync>(
+    rt: &R,
+    alloc: Global,
+    workers: usize,
+    plan: &mut Physical,
+    tables: Vec<Vec<PRow>>,
+) -> Result<(), EvalFault>
+    requires workers { 1 ≤ workers }
+    requires plan { CanOpen (map rows_of tables.items) (physical_tree plan.old) }
+    ensures rows { OnOk result (physical_rows (physical_tree plan.new) [] ≡ physical_rows (physical_tree plan.old) (map rows_of tables.items)) }
+    ensures fits { OnOk result (fit (physical_numbers (physical_tree plan.new) []) ≡ fit (physical_numbers (physical_tree plan.old) (map rows_of tables.items))) }
+    ensures can { OnOk result (CanOpen [] (physical_tree plan.new)) }
+    ensures overflow { result ≡ Err EvalFault.Overflow → fit (physical_numbers (physical_tree plan.old) (map rows_of tables.items)) ≡ false }
+{
+    let uses = scans_of(alloc, plan, tables.len())?;
+    pick(alloc, &tables, &uses, plan)?;
+    put_tables(rt, alloc, workers, plan, tables)?;
+    Ok(())
+}
+
+// How many Scans each of so many tables has. What is copied depends on it, and no result does.
+fn scans_of(alloc: Global, plan: &Physical, tables: usize) -> Result<Vec<usize>, NoMemory> {
+    let mut uses = zeros(alloc, tables)?;
+    count_scans(plan, &mut uses)?;
+    Ok(uses)
+}
+
+// Puts the rows of its table in place of each Scan.
+fn put_tables<R: Threads + Sync>(
     rt: &R,
     alloc: Global,
     workers: usize,

@@ -8,7 +8,7 @@ use Rattle.au_exec.specs.Outcomes.{rows_of}
 use Rattle.au_exec.specs.Scans.{AreThere}
 use Rattle.au_exec.proofs.CountedScans.{counted_there, counted_uses}
 use Rattle.au_exec.proofs.Filled.{read_can, read_numbers, read_rows}
-use Rattle.au_exec.proofs.scans.read_tables.Goals as goal
+use Rattle.au_exec.proofs.scans.put_tables.Goals as goal
 
 abbrev Tables : Type 0
 Tables = Vec (Vec (Vec Value Global) Global) Global
