@@ -12,8 +12,8 @@ use Rattle.au_engine.specs.Answers.{Named}
 use Rattle.au_engine.specs.Exchange.{plain_fits}
 use Rattle.au_engine.specs.declared.faults.LimitFault.{LimitFault}
 use Rattle.au_engine.specs.declared.faults.LimitFault.TheVariants as limit
-use Rattle.au_engine.specs.declared.plain.PlainFault.{PlainFault}
-use Rattle.au_engine.specs.declared.plain.PlainFault.TheVariants as plain
+use Rattle.au_engine.specs.declared.exchange.plain.PlainFault.{PlainFault}
+use Rattle.au_engine.specs.declared.exchange.plain.PlainFault.TheVariants as plain
 use Rattle.au_cli.specs.declared.files.Purpose.TheVariants as purpose
 use Rattle.au_cli.specs.declared.outcome.Outcome.{Outcome}
 use Rattle.au_cli.specs.declared.outcome.Outcome.TheVariants as outcome

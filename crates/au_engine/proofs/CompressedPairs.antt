@@ -30,7 +30,7 @@ use Rattle.au_compress.proofs.AnyOrder.{compressed_same, possible_same}
 use Rattle.au_compress.proofs.Covered.{covered, has_kinds}
 use Rattle.au_compress.proofs.GuessParts.{guess_relation}
 use Rattle.au_compress.proofs.PossibleParts.{compressed_relation}
-use Rattle.au_engine.specs.Stages.{Adds, AddsCompressed, AddsPairs, AddsRelation, AreSides, CanRunPlan, Decodes, FindsRows, HasRows, HaveSides, LeavesCompressed, LeavesMultiplied, LeavesRange, MultipliesCompressed, SameRows}
+use Rattle.au_engine.specs.Stages.{Adds, AddsCompressed, AddsPairs, AddsRelation, AreSides, CanRunPlan, Decodes, FindsRows, HasRows, HaveSides, LeavesCompressed, LeavesMultiplied, MultipliesCompressed, SameRows}
 use Rattle.au_engine.proofs.Reordered.{decoded_same}
 use Rattle.au_engine.proofs.Shown.{have_columns}
 use Rattle.au_engine.proofs.StageRuns.{adds_relation}
@@ -134,13 +134,6 @@ pairs_adds left m right n old mid new p q made b c d first second wide step ks j
     (λ tk tables fits l r. step tk tables ks js xs ys [] [] f.columns g.columns l r)
     old mid new b d c long f g
 
--- relations that are known by other names
-pub pairs_as :
-    (l k : Bounded) (m i : ℕ) (r h : Bounded) (n j : ℕ) (old new : List Rows) (p : PlanTree) (d : ℕ) → l ≡ k → m ≡ i → r ≡ h → n ≡ j → AddsPairs l m r n old new p d → AddsPairs k i h j old new p d
-pairs_as l k m i r h n j old new p d a b e f pairs =
-    subst (λ x. AddsPairs x i h j old new p d) a
-    (subst (λ x. AddsPairs l x h j old new p d) b (subst (λ x. AddsPairs l m x j old new p d) e (subst (λ x. AddsPairs l m r x old new p d) f pairs)))
-
 -- rows of which a copy is possible stay in a union
 kept_if : (b : Bool) (r : RangeRow) (rest more : Bounded) → not (is_none r.annot) ≡ b → present (rest ++ more) ≡ rest ++ present more → present (cond b (r ∷ rest) rest ++ more) ≡ cond b (r ∷ rest) rest ++ present more
 kept_if true r rest more e h = ap (λ t. cond t (r ∷ present (rest ++ more)) (present (rest ++ more))) e ∙ ap (λ l. r ∷ l) h
@@ -233,10 +226,3 @@ module _ (lefts : List Rows) (p : PlanTree) (m : ℕ) (rights : List Rows) (q : 
   pub product_leaves : (size : ℕ) → LeavesCompressed size left m right n → LeavesMultiplied size lefts p m rights q n
   product_leaves size leaves ks js xs ys ms ns a b h =
       leaves ks js xs ys (sides ks js xs ys ms ns a b) (fit_parts ns (product_numbers size xs ys) (fit_parts ms (ns ++ product_numbers size xs ys) h).1).1
-
-module _ (size : ℕ) (lefts : List Rows) (p : PlanTree) (m : ℕ) (rights : List Rows) (q : PlanTree) (n : ℕ) where
-  pub left_side_leaves : LeavesRange lefts p m → LeavesMultiplied size lefts p m rights q n
-  left_side_leaves leaves ks js xs ys ms ns a b h = leaves ks xs ms a (fit_parts ms (ns ++ product_numbers size xs ys) h).0
-
-  pub right_side_leaves : LeavesRange rights q n → LeavesMultiplied size lefts p m rights q n
-  right_side_leaves leaves ks js xs ys ms ns a b h = leaves js ys ns b (fit_parts ns (product_numbers size xs ys) (fit_parts ms (ns ++ product_numbers size xs ys) h).1).0

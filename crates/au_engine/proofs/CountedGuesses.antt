@@ -1,5 +1,5 @@
 -- The rows of the guess world with their numbers of copies: as inputs, and what rows that are found over them stand for.
-use Rattle.std.specs.Prelude.{◌≡◌, ℕ, is_some, List, [], ◌∷◌, length, map, Some}
+use Rattle.std.specs.Prelude.{◌≡◌, is_some, List, [], ◌∷◌, length, map, Some}
 use Rattle.std.specs.List.{AllByRecursion, AllZip}
 use Rattle.std.proofs.Common.{refl, sym, ◌∙◌, ap, subst}
 use Rattle.std.proofs.lemmas.List.{length-map}

@@ -1,6 +1,6 @@
 -- What the run of a tree's plan finds over inputs of rows with counts, by a physical plan that stands for it.
 use Rattle.std.specs.Prelude.{◌≡◌, ℕ, zero, suc, List, [], ◌∷◌, ◌++◌, length, map, Some, is_some}
-use Rattle.std.specs.List.{AllByRecursion, AllZip}
+use Rattle.std.specs.List.{AllZip}
 use Rattle.std.proofs.Common.{arith, refl, sym, ◌∙◌, ap, subst}
 use Rattle.au_value.specs.declared.kinds.Kind.{Kind}
 use Rattle.au_value.specs.declared.kinds.Kind.TheVariants as kind
@@ -18,7 +18,7 @@ use Rattle.au_physical.specs.PhysicalKinds.{IsPhysicalFor}
 use Rattle.au_physical.specs.PhysicalMeaning.{physical_rows}
 use Rattle.au_physical.specs.Physicals.{PhysicalTree}
 use Rattle.au_rwcounted.specs.Answers.{counted_answer}
-use Rattle.au_rwcounted.specs.CountedRows.{AreCountsRows, CountsRow, IsCountsRow, count_kinds, count_value, counts_kinds, counts_row, counts_rows}
+use Rattle.au_rwcounted.specs.CountedRows.{AreCountsRows, CountsRow, count_kinds, count_value, counts_kinds, counts_rows}
 use Rattle.au_engine.specs.CountedPlans.{AreCounted, FindsCounted, FoundRows, GivesCounted, GivesRows, HasCounts}
 use Rattle.au_engine.specs.Inputs.{StandsReady}
 use Rattle.au_engine.proofs.Operators.{typed_kinds}

@@ -1,9 +1,9 @@
 -- The plan of each operator over rows with counts gives the rows of its tree.
-use Rattle.std.specs.Prelude.{◌≡◌, ◌⊎◌, ℕ, zero, suc, ◌+◌, Bool, true, false, ◌&&◌, IsTrue, List, [], ◌∷◌, ◌++◌, length, map, take, Option, Some, None, nat_le, ℤ, unwrap_or, slice_get, option_map, ◌≤◌}
+use Rattle.std.specs.Prelude.{◌≡◌, ◌⊎◌, ℕ, zero, suc, ◌+◌, Bool, false, ◌&&◌, IsTrue, List, [], ◌∷◌, ◌++◌, length, map, Some, ℤ, unwrap_or, slice_get, option_map}
 use Rattle.std.specs.List.{AllZip}
-use Rattle.std.proofs.Common.{arith, refl, sym, ◌∙◌, ap, subst, inl, inr, leb-true}
+use Rattle.std.proofs.Common.{arith, refl, sym, ◌∙◌, ap, subst, inl, inr}
 use Rattle.std.proofs.lemmas.Bool.{and_parts}
-use Rattle.std.proofs.lemmas.List.{length-append, length-map, length-take}
+use Rattle.std.proofs.lemmas.List.{length-append, length-map}
 use Rattle.std.proofs.lemmas.Option.{slice_get-map}
 use Rattle.au_value.specs.declared.kinds.Kind.{Kind}
 use Rattle.au_value.specs.declared.kinds.Kind.TheVariants.{Flag}
@@ -16,13 +16,12 @@ use Rattle.au_algebra.specs.Positive.{is_positive}
 use Rattle.au_algebra.specs.Trees.{Tree, Table, Select, Project, Product, Union, Difference, Distinct, Group, Total}
 use Rattle.au_algebra.specs.Typing.{agg_kind, all_kinds, kinds_of}
 use Rattle.au_algebra.proofs.Items.{and_then_is, chosen_is, some_is}
-use Rattle.au_plain.specs.PlanKinds.{FitTables}
 use Rattle.au_plain.specs.PlanNumbers.{plan_numbers}
 use Rattle.au_plain.specs.Plans.{PlanTree}
 use Rattle.au_rwcounted.specs.Answers.{counted_answer}
 use Rattle.au_rwcounted.specs.CountedRows.{AreCountsRows, CountsRow, counts_kinds, counts_rows}
 use Rattle.au_rwcounted.specs.Gives.{Distincts, GivesCounts, Groups, Multiplies, Projects, Scans, Selects, Subtracts, Totals, Unites}
-use Rattle.au_engine.specs.CountedPlans.{GivesCounted, GivesRows, GivesTables, HasCounts}
+use Rattle.au_engine.specs.CountedPlans.{GivesCounted, GivesRows, GivesTables}
 use Rattle.au_engine.proofs.TreeKinds.{all_length, group_length, left_kinds, product_kinds, right_kinds}
 
 -- ---- rows, with whatever numbers the plan makes

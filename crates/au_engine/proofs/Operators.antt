@@ -16,7 +16,7 @@ use Rattle.au_algebra.specs.Fits.{difference_sums, triple_numbers}
 use Rattle.au_algebra.specs.Laws.{IsRelation}
 use Rattle.au_algebra.specs.Ordinary.{Rows}
 use Rattle.au_algebra.specs.Trees.{Tree, Select, Project, Product, Union, Difference, Distinct, Group, Total}
-use Rattle.au_algebra.specs.Typing.{IsTyped, agg_kind, all_kinds, group_kinds, kinds_of}
+use Rattle.au_algebra.specs.Typing.{IsTyped, agg_kind, all_kinds, kinds_of}
 use Rattle.au_algebra.proofs.Items.{and_then_is, chosen_is, some_is}
 use Rattle.au_plain.specs.PlanKinds.{FitTables}
 use Rattle.au_plain.specs.Plans.{PlanTree}
@@ -25,6 +25,7 @@ use Rattle.au_rwcore.specs.Gives.{Projects, Selects, Unites}
 use Rattle.au_rwdiff.specs.Gives.{Subtracts}
 use Rattle.au_rwgroup.specs.Gives.{Totals}
 use Rattle.au_engine.specs.Rules.{grouping_by, pair_numbers, pairs_by, tree_numbers, tree_rows}
+use Rattle.au_engine.specs.Stages.{GroupsBy}
 use Rattle.au_engine.specs.declared.options.Rules.{Rules}
 use Rattle.au_engine.proofs.TreeKinds.{all_length, group_length, left_kinds, product_kinds, right_kinds}
 
@@ -74,7 +75,7 @@ Two A B C =
     ((tk : List (List Kind)) (tables : List Rows) → FitTables tables → GivesRelation tk tables left ks xs ms → GivesRelation tk tables right js ys ns → GivesRelation tk tables made hs zs os) →
     A left m ks xs ms → B right n js ys ns → C made d hs zs os
 
--- ---- plans of products, distinct rows and groups by the rules that are asked for
+-- ---- plans of products and distinct rows by the rules that are asked for
 
 abbrev pub MultipliesBy : Option ℕ → ℕ → ℕ → PlanTree → PlanTree → PlanTree → Type 0
 MultipliesBy how m n left right made =
@@ -85,12 +86,6 @@ abbrev pub DistinctsBy : Bool → ℕ → PlanTree → PlanTree → Type 0
 DistinctsBy points c of made =
     (tk : List (List Kind)) (tables : List Rows) (ks : List Kind) (rows : Bounded) (ns : List ℤ) → FitTables tables → length ks ≡ c →
     GivesRelation tk tables of ks rows ns → GivesRelation tk tables made ks ((grouping_by points).distinct_of rows) (ns ++ (grouping_by points).distinct_numbers rows)
-
-abbrev pub GroupsBy : Bool → ℕ → ℕ → List Agg → PlanTree → PlanTree → Type 0
-GroupsBy points c keys aggs of made =
-    (tk : List (List Kind)) (tables : List Rows) (ks js : List Kind) (rows : Bounded) (ns : List ℤ) → FitTables tables → length ks ≡ c → group_kinds keys aggs ks ≡ Some js →
-    GivesRelation tk tables of ks rows ns →
-    GivesRelation tk tables made js ((grouping_by points).groups keys aggs rows) (ns ++ (grouping_by points).groups_numbers keys aggs rows)
 
 -- ---- the plan of each operator
 

@@ -1,5 +1,5 @@
 -- The plan of each operator on top of the plans of its parts gives the tree's relation, over tables behind others.
-use Rattle.std.specs.Prelude.{◌≡◌, ℕ, ◌+◌, List, [], ◌++◌, length, map, flat_map, Some, true, is_some, option_map, slice_get, unwrap_or}
+use Rattle.std.specs.Prelude.{◌≡◌, ℕ, ◌+◌, List, [], ◌++◌, length, map, Some, is_some, option_map, slice_get, unwrap_or}
 use Rattle.std.proofs.Common.{sym, ◌∙◌, ap, subst}
 use Rattle.std.proofs.lemmas.Option.{slice_get-map}
 use Rattle.au_value.specs.declared.kinds.Kind.{Kind}
@@ -7,12 +7,11 @@ use Rattle.au_expr.specs.Figures.{Fit}
 use Rattle.au_expr.specs.Terms.{Term}
 use Rattle.au_expr.proofs.Fits.{fit_parts}
 use Rattle.au_algebra.specs.declared.query.Agg.{Agg}
-use Rattle.au_algebra.specs.Bounded.{Bounded, combine}
-use Rattle.au_algebra.specs.Fits.{difference_sums, triple_numbers}
+use Rattle.au_algebra.specs.Bounded.{Bounded}
 use Rattle.au_algebra.specs.Ordinary.{Rows}
 use Rattle.au_algebra.specs.Trees.{Tree, Table, Select, Project, Product, Union, Difference, Distinct, Group, Total}
 use Rattle.au_algebra.specs.Typing.{IsTyped, kinds_of}
-use Rattle.au_algebra.proofs.Items.{and_then_is, some_is}
+use Rattle.au_algebra.proofs.Items.{some_is}
 use Rattle.au_blocks.specs.Tables.{BlockTable, column_kinds}
 use Rattle.au_translate.specs.Translate.{bounded_table}
 use Rattle.au_plain.specs.Plans.{PlanTree}
@@ -20,11 +19,11 @@ use Rattle.au_rwcore.specs.Gives.{Projects, Selects, Unites}
 use Rattle.au_rwdiff.specs.Gives.{Subtracts}
 use Rattle.au_rwgroup.specs.Gives.{Totals}
 use Rattle.au_plan.proofs.Implementing.{before}
-use Rattle.au_engine.specs.Rules.{grouping_by, pair_numbers, pairs_by, tree_numbers, tree_rows}
+use Rattle.au_engine.specs.Rules.{pair_numbers, pairs_by, tree_numbers, tree_rows}
 use Rattle.au_engine.specs.declared.options.Rules.{Rules}
-use Rattle.au_engine.specs.Stages.{Adds, AddsDistinct, AddsGroups, AddsTable, AddsTree, CanRunPlan, LeavesMultiplied, LeavesRange, LeavesRangeCombined, MaterializesCombined, MultipliesCompressed}
-use Rattle.au_engine.proofs.Operators.{Counts, DistinctsBy, MultipliesBy, One, Two, difference_fit, difference_part, distinct_part, product_part, project_part, select_part, total_part, typed_kinds, union_part}
-use Rattle.au_engine.proofs.StageRuns.{adds_relation}
+use Rattle.au_engine.specs.Programs.{AddsCombined}
+use Rattle.au_engine.specs.Stages.{Adds, AddsTable, AddsTree, CanRunPlan, GroupsBy, LeavesMultiplied, MultipliesCompressed}
+use Rattle.au_engine.proofs.Operators.{Counts, DistinctsBy, MultipliesBy, One, Two, difference_part, distinct_part, group_part, product_part, project_part, select_part, total_part, typed_kinds, union_part}
 use Rattle.au_engine.proofs.StageSteps.{more_adds, one_adds, two_adds}
 use Rattle.au_engine.proofs.TreeKinds.{product_kinds}
 
@@ -59,63 +58,6 @@ module _ (rules : Rules) (ts : List BlockTable) where
   pub tree_runs : (q : Tree) (held : List Rows) (p : PlanTree) (c : ℕ) → IsTyped kinds q → AddsTree rules ts q [] held p c → CanRunPlan held p c
   tree_runs q held p c typed part = let k = typed_kinds kinds q typed in (k.0, (tree_rows rules q here, (tree_numbers rules q here, part k.0 k.1)))
 
-  -- the groups of what a plan gives, and its distinct rows by points
-  pub groups_add :
-      (q : Tree) (keys : ℕ) (aggs : List Agg) (held : List Rows) (p : PlanTree) (c : ℕ) (old new : List Rows) (r : PlanTree) (d : ℕ) → AddsTree rules ts q [] held p c →
-      AddsGroups rules.points keys aggs held p c old new r d → AddsTree rules ts (Group keys aggs q) old new r d
-  groups_add q keys aggs held p c old new r d part step ks typed =
-      let k = and_then_is _ (kinds_of kinds q) ks typed in
-      step k.0 ks (tree_rows rules q here) (tree_numbers rules q here) k.2 (part k.0 k.1)
-
-  pub distinct_points_add :
-      rules.points ≡ true → (q : Tree) (held : List Rows) (p : PlanTree) (c : ℕ) (old new : List Rows) (r : PlanTree) (d : ℕ) → AddsTree rules ts q [] held p c →
-      AddsDistinct held p c old new r d → AddsTree rules ts (Distinct q) old new r d
-  distinct_points_add is q held p c old new r d part step ks typed =
-      let rows = tree_rows rules q here in
-      let ns = tree_numbers rules q here in
-      subst (λ points. Adds old new r d ks ((grouping_by points).distinct_of rows) (ns ++ (grouping_by points).distinct_numbers rows)) (sym is) (step ks rows ns (part ks typed))
-
-  -- what is grouped, and the left side of a difference, is typed
-  pub grouped_typed : (keys : ℕ) (aggs : List Agg) (q : Tree) → IsTyped kinds (Group keys aggs q) → IsTyped kinds q
-  grouped_typed keys aggs q h = before _ (kinds_of kinds q) h
-
-  pub distinct_typed : (q : Tree) → IsTyped kinds (Distinct q) → IsTyped kinds q
-  distinct_typed q h = h
-
-  pub left_typed : (a b : Tree) → IsTyped kinds (Difference a b) → IsTyped kinds a
-  left_typed a b h = before _ (kinds_of kinds a) h
-
-  -- where a number that its own plan gives leaves the range, one of the tree does
-  pub grouped_leaves :
-      (keys : ℕ) (aggs : List Agg) (q : Tree) (held : List Rows) (p : PlanTree) (c : ℕ) → IsTyped kinds q → AddsTree rules ts q [] held p c → LeavesRange held p c →
-      ¬ (Fit (tree_numbers rules (Group keys aggs q) here))
-  grouped_leaves keys aggs q held p c typed part leaves f =
-      let k = typed_kinds kinds q typed in
-      let rows = tree_rows rules q here in
-      leaves k.0 rows (tree_numbers rules q here) (part k.0 k.1)
-      (fit_parts (tree_numbers rules q here) ((grouping_by rules.points).groups_numbers keys aggs rows) f).0
-
-  pub distinct_leaves :
-      (q : Tree) (held : List Rows) (p : PlanTree) (c : ℕ) → IsTyped kinds q → AddsTree rules ts q [] held p c → LeavesRange held p c →
-      ¬ (Fit (tree_numbers rules (Distinct q) here))
-  distinct_leaves q held p c typed part leaves f =
-      let k = typed_kinds kinds q typed in
-      let rows = tree_rows rules q here in
-      leaves k.0 rows (tree_numbers rules q here) (part k.0 k.1)
-      (fit_parts (tree_numbers rules q here) ((grouping_by rules.points).distinct_numbers rows) f).0
-
-  pub left_leaves :
-      (a b : Tree) (held : List Rows) (p : PlanTree) (c : ℕ) → IsTyped kinds a → AddsTree rules ts a [] held p c → LeavesRangeCombined held p c →
-      ¬ (Fit (tree_numbers rules (Difference a b) here))
-  left_leaves a b held p c typed part leaves f =
-      let k = typed_kinds kinds a typed in
-      let ms = tree_numbers rules a here in
-      let ns = tree_numbers rules b here in
-      let cs = triple_numbers (combine (tree_rows rules a here)) in
-      let ss = flat_map (difference_sums (tree_rows rules b here)) (combine (tree_rows rules a here)) in
-      leaves k.0 (tree_rows rules a here) ms (part k.0 k.1)
-      (fit_parts (ms ++ cs) (ns ++ (cs ++ ss)) (difference_fit ms ns cs ss (triple_numbers (tree_rows rules (Difference a b) here)) f)).0
-
   module _ (q : Tree) (old new : List Rows) (of made : PlanTree) (c d : ℕ) (part : AddsTree rules ts q old new of c) where
     pub select_adds : (e : Term) → d ≡ c → Selects c e of made → AddsTree rules ts (Select e q) old new made d
     select_adds e wide step = select_part rules kinds here (Adds old new) (counts_adds old new) (one_more old new) q of made c d part e wide step
@@ -126,6 +68,9 @@ module _ (rules : Rules) (ts : List BlockTable) where
     pub distinct_adds : d ≡ c → DistinctsBy rules.points c of made → AddsTree rules ts (Distinct q) old new made d
     distinct_adds wide step = distinct_part rules kinds here (Adds old new) (counts_adds old new) (one_more old new) q of made c d part wide step
 
+    pub group_adds : (keys : ℕ) (aggs : List Agg) → d ≡ keys + length aggs → GroupsBy rules.points c keys aggs of made → AddsTree rules ts (Group keys aggs q) old new made d
+    group_adds keys aggs wide step = group_part rules kinds here (Adds old new) (counts_adds old new) (one_more old new) q of made c d part keys aggs wide step
+
     pub total_adds : (aggs : List Agg) → d ≡ length aggs → Totals c aggs of made → AddsTree rules ts (Total aggs q) old new made d
     total_adds aggs wide step = total_part rules kinds here (Adds old new) (counts_adds old new) (one_more old new) q of made c d part aggs wide step
 
@@ -134,16 +79,11 @@ module _ (rules : Rules) (ts : List BlockTable) where
     union_adds of_left wide step =
         union_part rules kinds here a b (Adds old mid) (Adds mid new) (Adds old new) (counts_adds old mid) (counts_adds mid new) (two_more old mid new) left right made m n d of_right of_left wide step
 
-    -- where the left side's own plan stands over tables of its own, and its combined rows were moved
-    pub difference_adds :
-        (held : List Rows) (of : PlanTree) (c : ℕ) → AddsTree rules ts a [] held of c → MaterializesCombined held of c old mid left m →
-        d ≡ m → Subtracts m left right made → AddsTree rules ts (Difference a b) old new made d
-    difference_adds held of c of_left moves wide step =
-        let xs = tree_rows rules a here in
-        let ms = tree_numbers rules a here in
+    -- where the left side's plan gives its combined relation
+    pub difference_adds : AddsCombined rules ts a old mid left m → d ≡ m → Subtracts m left right made → AddsTree rules ts (Difference a b) old new made d
+    difference_adds of_left wide step =
         difference_part rules kinds here a b (Adds old mid) (Adds mid new) (Adds old new) (counts_adds old mid) (counts_adds mid new) (two_more old mid new) left right made m n d of_right
-        (λ ks e. let first = of_left ks e in (moves.1 ks xs ms first, adds_relation held of c ks xs ms first moves.0))
-        wide step
+        of_left wide step
 
   -- all pairs of two sides
   pub product_adds :
@@ -186,7 +126,10 @@ module _ (rules : Rules) (k : ℕ) (is : rules.compress ≡ Some k) (ts : List B
       subst (λ how. ¬ (Fit (ms ++ (ns ++ pair_numbers how xs ys)))) (sym is)
       (leaves p.0 p.1.0 xs ys ms ns (of_left p.0 p.1.1.0) (of_right p.1.0 p.1.1.1.0))
 
--- the sides of a product are typed
+-- what is grouped, and the sides of a product, are typed
+pub grouped_typed : (kinds : List (List Kind)) (keys : ℕ) (aggs : List Agg) (q : Tree) → IsTyped kinds (Group keys aggs q) → IsTyped kinds q
+grouped_typed kinds keys aggs q h = before _ (kinds_of kinds q) h
+
 pub first_typed : (kinds : List (List Kind)) (a b : Tree) → IsTyped kinds (Product a b) → IsTyped kinds a
 first_typed kinds a b h = before _ (kinds_of kinds a) h
 

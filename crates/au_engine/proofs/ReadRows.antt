@@ -82,10 +82,6 @@ typed_next done rest whole held p q r typed =
       typed = subst (λ ks. IsTrue (is_some ks)) (sym k.1.1) is;
     }
 
--- before any input
-pub none_read : (whole : List Rows) (p : PhysicalTree) → ReadsAll whole ([] ++ whole) p p
-none_read whole p = record { typed = λ t. t; rows = refl; numbers = refl }
-
 -- one more
 pub next_read :
     (whole done rest now : List Rows) (x : Rows) (p q r : PhysicalTree) → ReadsAll whole (done ++ x ∷ rest) p q → ReadsNext x done now q r → ReadsAll whole (now ++ rest) p r

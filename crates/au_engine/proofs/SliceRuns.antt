@@ -1,31 +1,44 @@
 -- What the plan of a query that works row by row finds over a slice, and what the slices together are of the answer.
 use Rattle.std.specs.Prelude.{◌≡◌, ℕ, false, IsTrue, List, [], ◌∷◌, ◌++◌, map, Some, is_some, option_map, slice_get, unwrap_or}
-use Rattle.std.proofs.Common.{sym, ◌∙◌, ap, subst}
+use Rattle.std.proofs.Common.{refl, sym, ◌∙◌, ap, subst}
 use Rattle.std.proofs.lemmas.Bool.{false_from_ne_true}
 use Rattle.std.proofs.lemmas.Option.{slice_get-map}
-use Rattle.au_expr.specs.Figures.{Fit}
+use Rattle.au_expr.specs.Figures.{Fit, fit}
 use Rattle.au_expr.proofs.Fits.{fit_both, fit_parts}
 use Rattle.au_algebra.specs.Bounded.{Bounded, normal}
 use Rattle.au_algebra.specs.Fits.{triple_numbers}
 use Rattle.au_algebra.specs.Ordinary.{Rows}
 use Rattle.au_algebra.specs.Trees.{Tree}
 use Rattle.au_algebra.specs.Typing.{IsTyped}
+use Rattle.au_blocks.specs.declared.column.Column.{Column}
 use Rattle.au_blocks.specs.Tables.{BlockTable, column_kinds}
 use Rattle.au_translate.specs.Translate.{bounded_table}
 use Rattle.au_plain.specs.Plans.{PlanTree}
-use Rattle.au_encode.specs.Encode.{encode}
+use Rattle.au_physical.specs.PhysicalKinds.{IsPhysicalFor}
+use Rattle.au_physical.specs.PhysicalMeaning.{physical_rows}
+use Rattle.au_physical.specs.PhysicalNumbers.{physical_numbers}
+use Rattle.au_exec.specs.RowWise.{chain_tree}
+use Rattle.au_physical.specs.Physicals.{PhysicalTree, physical_tree}
+use Rattle.au_encode.specs.Encode.{AreEncoded, decode, encode}
 use Rattle.au_encode.proofs.Decoded.{rows_back}
 use Rattle.au_engine.specs.Answers.{Named, blocks_of, tree_asked, tree_asked_fits}
 use Rattle.au_engine.specs.Rules.{grouping_by, pair_numbers, pairs_by, plain_rules, tree_numbers, tree_rows}
 use Rattle.au_engine.specs.declared.options.Rules.{Rules}
+use Rattle.au_engine.specs.RowPlans.{GivesSlice, GivesSlices}
+use Rattle.au_engine.specs.SliceWork.{IsSlicer, SlicesBy}
+use Rattle.au_engine.specs.Sources.{kept_in}
+use Rattle.au_engine.specs.declared.program.program.Whole.{Whole}
+use Rattle.au_engine.specs.declared.running.slicing.Slicer.{Slicer}
 use Rattle.au_engine.specs.Slicing.{gathered_numbers, over_one, row_table, slice_numbers, slice_rows}
-use Rattle.au_engine.specs.Stages.{AddsTree, Decodes, LeavesRange}
+use Rattle.au_engine.specs.Stages.{AddsTree, CanRunPlan, Decodes, FindsRows, LeavesRange}
 use Rattle.au_engine.proofs.AskedAnswers.{asked_is, parts_fit}
+use Rattle.au_engine.proofs.CompressedPairs.{decodes, found_encoded}
 use Rattle.au_engine.proofs.Operators.{typed_kinds}
+use Rattle.au_engine.proofs.PlanSteps.{tree_runs}
 use Rattle.au_engine.proofs.Reordered.{normal_same}
 use Rattle.au_engine.proofs.Shown.{have_columns}
 use Rattle.au_engine.proofs.SliceRows.{kinds_alone, numbers_alone, rows_alone}
-use Rattle.au_engine.proofs.StageRuns.{adds_relation}
+use Rattle.au_engine.proofs.StageRuns.{adds_relation, finds, leaves, startable}
 
 -- ---- the plan over a slice
 
@@ -34,7 +47,7 @@ module _ (q : Tree) (t : BlockTable) (typed : IsTyped (column_kinds t ∷ []) (o
   rows = slice_rows q t.blocks
 
   -- the relation that was found has the normal form of the slice's
-  pub slice_found : (rel : Bounded) → Decodes held p c rel → normal rel ≡ normal rows
+  slice_found : (rel : Bounded) → Decodes held p c rel → normal rel ≡ normal rows
   slice_found rel decodes =
       let k = typed_kinds (column_kinds t ∷ []) (over_one q) typed in
       let a = part k.0 k.1 in
@@ -45,8 +58,56 @@ module _ (q : Tree) (t : BlockTable) (typed : IsTyped (column_kinds t ∷ []) (o
       ∙ ap normal (rows_back c rows (have_columns k.0 c rows a.columns relation))
 
   -- a number that leaves the range is one of the slice
-  pub slice_passes : LeavesRange held p c → ¬ (Fit (slice_numbers q t.blocks))
+  slice_passes : LeavesRange held p c → ¬ (Fit (slice_numbers q t.blocks))
   slice_passes leaves = let k = typed_kinds (column_kinds t ∷ []) (over_one q) typed in leaves k.0 rows (slice_numbers q t.blocks) (part k.0 k.1)
+
+-- what its physical plan gives over what is held of the slice
+module _ (q : Tree) (t : BlockTable) (typed : IsTyped (column_kinds t ∷ []) (over_one q)) (held : List Rows) (p : PhysicalTree) (c : ℕ) (s : GivesSlice q t held p c) where
+  can : CanRunPlan s.whole s.plan c
+  can = tree_runs plain_rules (t ∷ []) (over_one q) s.whole s.plan c typed s.adds
+
+  found : FindsRows s.whole s.plan c (physical_rows p held)
+  found = finds s.whole held s.plan c p can s.stands (physical_rows p held) refl
+
+  -- it can be run, and its rows be decoded
+  slice_starts : IsPhysicalFor held p
+  slice_starts = startable s.whole held s.plan c p can s.stands
+
+  slice_encoded : AreEncoded c (physical_rows p held)
+  slice_encoded = found_encoded s.whole s.plan c (physical_rows p held) can found
+
+  slice_decoded : (rel : Bounded) → rel ≡ decode c (physical_rows p held) → normal rel ≡ normal (slice_rows q t.blocks)
+  slice_decoded rel is = slice_found q t typed s.whole s.plan c s.adds rel (decodes s.whole s.plan c (physical_rows p held) rel is found)
+
+  slice_out : fit (physical_numbers p held) ≡ false → ¬ (Fit (slice_numbers q t.blocks))
+  slice_out out = slice_passes q t typed s.whole s.plan c s.adds (leaves s.whole held s.plan c p can s.stands out)
+
+-- rows that are those of the slice, and what the plan gives over them
+module _ (q : Tree) (t : BlockTable) (typed : IsTyped (column_kinds t ∷ []) (over_one q)) (rows read : Rows) (is : read ≡ rows) (p : PhysicalTree) (c : ℕ) (s : GivesSlice q t (rows ∷ []) p c) where
+  pub read_starts : IsPhysicalFor (read ∷ []) p
+  read_starts = subst (λ xs. IsPhysicalFor (xs ∷ []) p) (sym is) (slice_starts q t typed (rows ∷ []) p c s)
+
+  pub read_out : fit (physical_numbers p (read ∷ [])) ≡ false → ¬ (Fit (slice_numbers q t.blocks))
+  read_out out = slice_out q t typed (rows ∷ []) p c s (ap (λ xs. fit (physical_numbers p (xs ∷ []))) (sym is) ∙ out)
+
+  module _ (worked : Rows) (given : worked ≡ physical_rows p (read ∷ [])) where
+    whole : worked ≡ physical_rows p (rows ∷ [])
+    whole = given ∙ ap (λ xs. physical_rows p (xs ∷ [])) is
+
+    pub read_encoded : AreEncoded c worked
+    read_encoded = subst (AreEncoded c) (sym whole) (slice_encoded q t typed (rows ∷ []) p c s)
+
+    pub read_decoded : (rel : Bounded) → rel ≡ decode c worked → normal rel ≡ normal (slice_rows q t.blocks)
+    read_decoded rel decoded = slice_decoded q t typed (rows ∷ []) p c s rel (decoded ∙ ap (decode c) whole)
+
+-- a plan that was made ready for the slices of a table gives what it gave
+pub slicer_slices :
+    (q : Tree) (columns : List Column) (w : Whole) (s : Slicer) → IsSlicer w s → GivesSlices q columns (kept_in w.sources) (physical_tree w.plan) w.columns →
+    SlicesBy q columns s
+slicer_slices q columns w s is g =
+    subst (GivesSlices q columns s.kept (chain_tree s.chain)) (sym is.columns)
+    (subst (λ p. GivesSlices q columns s.kept p w.columns) (sym is.plan)
+    (subst (λ places. GivesSlices q columns places (physical_tree w.plan) w.columns) (sym is.kept) g))
 
 -- ---- the answer
 

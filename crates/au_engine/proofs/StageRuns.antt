@@ -1,5 +1,5 @@
 -- What a plan's run finds over tables that are held up to order, by a physical plan that stands for it.
-use Rattle.std.specs.Prelude.{◌≡◌, ℕ, false, true, List, [], ◌∷◌, ◌++◌, ℤ, map, is_some}
+use Rattle.std.specs.Prelude.{◌≡◌, ℕ, false, List, [], ◌∷◌, ◌++◌, ℤ, map, is_some}
 use Rattle.std.specs.List.{AllZip}
 use Rattle.std.proofs.Common.{refl, sym, ◌∙◌, ap, subst, append-nil}
 use Rattle.std.proofs.lemmas.Bool.{true≢false}
@@ -10,7 +10,7 @@ use Rattle.au_algebra.specs.Bounded.{Bounded}
 use Rattle.au_algebra.specs.Laws.{IsRelation}
 use Rattle.au_algebra.specs.Lists.{copies}
 use Rattle.au_algebra.specs.Ordinary.{Rows}
-use Rattle.au_plain.specs.PlanKinds.{FitRows, FitTables, HaveKinds, IsTypedFor}
+use Rattle.au_plain.specs.PlanKinds.{FitTables, HaveKinds, IsTypedFor}
 use Rattle.au_plain.specs.Plans.{PlanTree}
 use Rattle.au_plain.proofs.Held.{RowFits}
 use Rattle.au_plan.specs.Implements.{Implements}
@@ -23,7 +23,6 @@ use Rattle.au_encode.specs.Encode.{encode, encoded_kinds}
 use Rattle.au_encode.specs.Gives.{GivesRelation}
 use Rattle.au_engine.specs.Inputs.{StandsReady}
 use Rattle.au_engine.specs.Stages.{Adds, CanRunPlan, FindsRows, GivesOver, LeavesRange, SameRows}
-use Rattle.au_engine.proofs.HeldRows.{physical_fit}
 use Rattle.au_engine.proofs.OtherTables.{numbers_fit, rows_same}
 
 -- rows in another order have the same kinds, and numbers that fit as well
@@ -79,10 +78,6 @@ module _ (held : List Rows) (p : PlanTree) (c : ℕ) (ks : List Kind) (rows : Bo
       run_fits : Fit ns → Fit (physical_numbers q held)
       run_fits f = stands.numbers held held_fit typed_for (numbers_fit held own.tables own.same p (here.fit f))
 
-      -- the numbers of rows that were found lie in the range
-      found_fit : Fit (physical_numbers q held) → FitRows (physical_rows q held)
-      found_fit f = physical_fit own.kinds held held_fit (encoded_kinds ks) q (stands.typed own.kinds (encoded_kinds ks) here.typed) f
-
 -- a plan that is ready to run over the rows that it reads
 module _ (held now : List Rows) (p : PlanTree) (c : ℕ) (q : PhysicalTree) (can : CanRunPlan held p c) (r : StandsReady held now p q) where
   pub startable : IsPhysicalFor now q
@@ -97,11 +92,6 @@ module _ (held now : List Rows) (p : PlanTree) (c : ℕ) (q : PhysicalTree) (can
     r.fit,
     λ ks rows ns a v. ap (copies v) (is ∙ r.reads.rows) ∙ same_found held p c ks rows ns a r.fit r.improved r.stands v,
   )
-
-  pub fits_found : (found : Rows) → found ≡ physical_rows q now → fit (physical_numbers q now) ≡ true → FitRows found
-  fits_found found is f =
-      subst FitRows (sym (is ∙ r.reads.rows))
-      (found_fit held p c can.0 can.1.0 can.1.1.0 can.1.1.1 r.fit r.improved r.stands (subst Fit numbers f))
 
   pub leaves : fit (physical_numbers q now) ≡ false → LeavesRange held p c
   leaves not ks rows ns a f =

@@ -20,8 +20,8 @@ use Rattle.au_sqltext.specs.Records.{rows_text}
 use Rattle.au_sqltext.specs.Texts.{plan_text}
 use Rattle.au_engine.specs.Answers.{Named, answer_tree, blocks_of, guess_tables}
 use Rattle.au_engine.specs.Rewriting.{IsPlanOf}
-use Rattle.au_engine.specs.declared.plain.PlainFault.{PlainFault}
-use Rattle.au_engine.specs.declared.plain.PlainFault.TheVariants as plain
+use Rattle.au_engine.specs.declared.exchange.plain.PlainFault.{PlainFault}
+use Rattle.au_engine.specs.declared.exchange.plain.PlainFault.TheVariants as plain
 
 -- the encoded rows of a table, in block order
 abbrev pub encoded_text : BlockTable → List ℕ

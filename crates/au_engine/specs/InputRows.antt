@@ -1,5 +1,5 @@
--- The rows of an input of plans: rows that are there, or the encoded rows of blocks, or their rows in the guess world
--- with one count or two.
+-- The rows of an input of plans: rows that are there, or of the encoded rows of blocks the values in some places or all, or the
+-- rows of blocks in the guess world with one count or two.
 use Rattle.std.specs.Prelude.{⊤}
 use Rattle.au_algebra.specs.Ordinary.{Rows}
 use Rattle.au_blocks.specs.Tables.{IsBlockTable, table}
@@ -8,18 +8,19 @@ use Rattle.au_exec.specs.Outcomes.{rows_of}
 use Rattle.au_plain.specs.PlanKinds.{FitRows}
 use Rattle.au_translate.specs.Translate.{bounded_blocks}
 use Rattle.au_engine.specs.CountedTables.{certain_guesses, counted_guesses}
-use Rattle.au_engine.specs.declared.input.Content.{Content}
-use Rattle.au_engine.specs.declared.input.Content.TheVariants as code
+use Rattle.au_engine.specs.KeptRows.{kept_rows}
+use Rattle.au_engine.specs.declared.running.input.Content.{Content}
+use Rattle.au_engine.specs.declared.running.input.Content.TheVariants as code
 
 abbrev pub content_rows : Content → Rows
 content_rows (code.Rows rows) = rows_of rows
-content_rows (code.Blocks columns blocks) = encode (bounded_blocks blocks.now)
+content_rows (code.Blocks columns blocks kept) = kept_rows kept.now (encode (bounded_blocks blocks.now))
 content_rows (code.Guesses blocks) = counted_guesses blocks.now
 content_rows (code.Certain blocks) = certain_guesses blocks.now
 
 -- the rows that are there hold no number outside the range, and the blocks are those of a table of these columns
 abbrev pub IsContent : Content → Type 0
 IsContent (code.Rows rows) = FitRows (rows_of rows)
-IsContent (code.Blocks columns blocks) = IsBlockTable (table columns.now blocks.now)
+IsContent (code.Blocks columns blocks kept) = IsBlockTable (table columns.now blocks.now)
 IsContent (code.Guesses blocks) = ⊤
 IsContent (code.Certain blocks) = ⊤

@@ -15,7 +15,6 @@ use Rattle.au_blocks.specs.Tables.{BlockTable, column_kinds}
 use Rattle.au_translate.specs.Translate.{bounded_table}
 use Rattle.au_compress.specs.CompressedFits.{product_numbers}
 use Rattle.au_compress.specs.Splitting.{compressed_product}
-use Rattle.au_points.specs.Points.{distinct_points}
 use Rattle.au_plain.specs.PlanKinds.{FitTables, HaveKinds}
 use Rattle.au_plain.specs.Plans.{PlanTree}
 use Rattle.au_combine.specs.Gives.{Combines}
@@ -87,19 +86,14 @@ abbrev pub LeavesRangeCombined : List Rows → PlanTree → ℕ → Type 0
 LeavesRangeCombined held p c =
     (ks : List Kind) (rows : Bounded) (ns : List ℤ) → Adds [] held p c ks rows ns → ¬ (Fit (ns ++ triple_numbers (combine rows)))
 
--- ---- groups and distinct rows
+-- ---- groups
 
--- a plan over tables of its own gives a relation, and another plan its groups
-abbrev pub AddsGroups : Bool → ℕ → List Agg → List Rows → PlanTree → ℕ → List Rows → List Rows → PlanTree → ℕ → Type 0
-AddsGroups points keys aggs held p c old new q d =
-    (ks js : List Kind) (rows : Bounded) (ns : List ℤ) → group_kinds keys aggs ks ≡ Some js → Adds [] held p c ks rows ns →
-    Adds old new q d js ((grouping_by points).groups keys aggs rows) (ns ++ (grouping_by points).groups_numbers keys aggs rows)
-
--- the same of its distinct rows by points
-abbrev pub AddsDistinct : List Rows → PlanTree → ℕ → List Rows → List Rows → PlanTree → ℕ → Type 0
-AddsDistinct held p c old new q d =
-    (ks : List Kind) (rows : Bounded) (ns : List ℤ) → Adds [] held p c ks rows ns →
-    Adds old new q d ks (distinct_points rows) (ns ++ triple_numbers (distinct_points rows))
+-- a plan gives the groups of what another one gives, by points or by the hulls of keys
+abbrev pub GroupsBy : Bool → ℕ → ℕ → List Agg → PlanTree → PlanTree → Type 0
+GroupsBy points c keys aggs of made =
+    (tk : List (List Kind)) (tables : List Rows) (ks js : List Kind) (rows : Bounded) (ns : List ℤ) → FitTables tables → length ks ≡ c → group_kinds keys aggs ks ≡ Some js →
+    GivesRelation tk tables of ks rows ns →
+    GivesRelation tk tables made js ((grouping_by points).groups keys aggs rows) (ns ++ (grouping_by points).groups_numbers keys aggs rows)
 
 -- ---- what is shown
 

@@ -1,8 +1,8 @@
 //! The road of a query: from its text to its statement, and from a statement over block tables to its bounded answer.
 //!
-//! [`read_query`] reads the text, and [`answer`] gives the answer with its names and kinds: the typed tree becomes plain
-//! plans, which are run stage by stage over the encoded rows of the tables, and the rows of the last are decoded and
-//! shown. [`answer_directly`] gives the same rows by the generic evaluator, [`guess_answer`] those of the guess world, by
+//! [`read_query`] reads the text, and [`answer`] gives the answer with its names and kinds: the typed tree becomes a
+//! program, all the plans by which it is answered, which is then run over the encoded rows of the tables, and the rows of the
+//! last plan are decoded and shown. [`answer_directly`] gives the same rows by the generic evaluator, [`guess_answer`] those of the guess world, by
 //! one plan over rows with the number of their copies, and [`ua_answer`] these with how often each is certain.
 //! [`rewritten`] gives the one plan of a whole tree, which another engine may run: [`rewritten_text`] is its text,
 //! [`encoded_text`] that of the encoded rows which it reads, and [`plain_answer`] runs such a plan over the rows of tables
@@ -17,49 +17,26 @@
 //! It belongs to docs/ARCHITECTURE.md.
 #![tactic(auto)]
 
-mod answering;
-mod certainty;
-mod compressing;
-mod counted;
-mod counted_steps;
-mod decoded;
-mod encoded;
+mod answers;
+mod exchange;
 mod faults;
-mod groups;
-mod guess_counts;
-mod guess_rows;
-mod guess_size;
-mod guessing;
-mod input;
-mod key_sample;
 mod options;
-mod ordered;
-mod plain;
+mod program;
 mod reading;
-mod reads;
-mod rewriting;
-mod row_queries;
-mod runner;
 mod running;
-mod slicing;
-mod stage;
-mod staged;
-mod steps;
-mod tables;
-mod texts;
 mod theorems;
 mod typing;
 
-pub use answering::{answer, answer_directly};
-pub use certainty::{UaAnswer, ua_answer};
+pub use answers::answering::{answer, answer_directly};
+pub use answers::certainty::{UaAnswer, ua_answer};
+pub use answers::guess_size::fits_plain;
+pub use answers::guessing::{GuessAnswer, guess_answer};
+pub use exchange::plain::{PlainFault, plain_answer};
+pub use exchange::rewriting::rewritten;
+pub use exchange::texts::{encoded_text, rewritten_text};
 pub use faults::{EngineFault, LimitFault, QueryFault};
-pub use guess_size::fits_plain;
-pub use guessing::{GuessAnswer, guess_answer};
 pub use options::{Options, Rules};
-pub use plain::{PlainFault, plain_answer};
 pub use reading::read_query;
-pub use rewriting::rewritten;
-pub use texts::{encoded_text, rewritten_text};
 pub use theorems::{
     encoded_tables_are_read, encoded_tables_hold, plans_answer, read_rows_are_few,
     read_tables_are_written, texts_are_read,

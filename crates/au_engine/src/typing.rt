@@ -9,8 +9,8 @@ ghost use Rattle.au_parse.specs.Views.{statement_tree};
 ghost use Rattle.au_parse.specs.Whole.{WholeQuery};
 ghost use Rattle.au_engine.specs.Answers.{IsDefect, answer_kinds, answer_names, answer_tree, blocks_of, statement_defects, typing_fault as typing_fault_of};
 
+use crate::answers::tables::schemas;
 use crate::faults::{EngineFault, QueryFault};
-use crate::tables::schemas;
 use au_blocks::Table;
 use au_parse::Statement;
 use au_typing::{Typed, TypingFault, resolve};

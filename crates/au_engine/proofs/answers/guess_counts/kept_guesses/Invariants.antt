@@ -1,0 +1,13 @@
+-- The rows so far, with those of the blocks that are left, are those of all blocks, whose numbers lie in the range.
+use Rattle.std.proofs.Common.{◌≡◌, ◌++◌, drop, map}
+use Rattle.au_plain.specs.Meaning.{kept}
+use Rattle.au_plain.specs.PlanKinds.{FitRows}
+use Rattle.au_exec.specs.Outcomes.{rows_of}
+use Rattle.au_engine.specs.CountedTables.{counted_guesses}
+use Rattle.au_engine.proofs.answers.guess_counts.kept_guesses.Given as goal
+
+abbrev pub invariant-loop-block : goal.invariant-loop-block
+invariant-loop-block l = record {
+  rows : rows_of l.rows ++ map (kept l.places) (counted_guesses (drop l.block-index l.blocks)) ≡ map (kept l.places) (counted_guesses l.blocks);
+  fit : FitRows (counted_guesses (drop l.block-index l.blocks)) → FitRows (counted_guesses l.blocks);
+}
