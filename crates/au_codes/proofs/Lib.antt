@@ -1,6 +1,6 @@
 mod BookPlaces
-mod CarefulValues
-mod CodedInPlace
+pub mod CarefulValues
+pub mod CodedInPlace
 mod Fronts
 mod GatheredTexts
 mod GroupRows

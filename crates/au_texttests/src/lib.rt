@@ -18,6 +18,8 @@ mod cases;
 #[cfg(test)]
 mod code_tests;
 #[cfg(test)]
+mod column_tests;
+#[cfg(test)]
 mod csv_tests;
 #[cfg(test)]
 mod gen_tests;

@@ -1,0 +1,7 @@
+mod Gathered
+mod Held
+mod Listed
+mod Made
+mod Places
+mod Rows
+mod Values

@@ -1,0 +1,23 @@
+-- What is made of the values of two parts.
+use Rattle.std.proofs.Common.{subst, sym, ◌∙◌}
+use Rattle.std.proofs.lemmas.Result.{IfOk-at_ok}
+use Rattle.au_plain.specs.PTerms.{pterm}
+use Rattle.au_codes.specs.Careful.{careful, careful_extreme}
+use Rattle.au_codes.specs.Gathering.{terms}
+use Rattle.au_columns.specs.Evaluated.{Gives}
+use Rattle.au_columns.proofs.Made.{made_extreme}
+use Rattle.au_columns.proofs.columnwise.preferred.Goals as goal
+
+pub arithmetic-requires : goal.arithmetic-requires
+arithmetic-requires c =
+    let rows = c.args.batch.now in
+    let x = subst (Gives (careful (pterm c.args.first.now)) rows) (sym c.column.ensures) (IfOk-at_ok _ c.in_ok-x.ensures.values.0 c.requires.x) in
+    let y = subst (Gives (careful_extreme c.args.how (terms c.args.rest.now)) rows) (sym c.column-2.ensures) (IfOk-at_ok _ c.in_ok-x.ensures.values.1 c.requires.y) in
+    y.len ∙ sym x.len
+
+pub returns : goal.returns
+returns c =
+    let rows = c.args.batch.now in
+    let x = subst (Gives (careful (pterm c.args.first.now)) rows) (sym c.column.ensures) (IfOk-at_ok _ c.in_ok-x.ensures.values.0 c.requires.x) in
+    let y = subst (Gives (careful_extreme c.args.how (terms c.args.rest.now)) rows) (sym c.column-2.ensures) (IfOk-at_ok _ c.in_ok-x.ensures.values.1 c.requires.y) in
+    made_extreme (careful (pterm c.args.first.now)) (careful_extreme c.args.how (terms c.args.rest.now)) rows c.column.result.now c.column-2.result.now c.in_ok-made.made x y c.args.how c.in_ok-made.ensures
