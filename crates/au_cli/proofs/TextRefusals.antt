@@ -22,7 +22,7 @@ use Rattle.au_engine.specs.Reading.{TextCause, greatest_length, refused_text, re
 use Rattle.au_ua.specs.NotPositive.{not_positive}
 use Rattle.au_words.specs.Words.{Request}
 use Rattle.au_words.specs.declared.words.Command.{Command}
-use Rattle.au_words.specs.declared.words.Command.TheVariants.{Answer, Direct, Guess, Ua, Rewrite}
+use Rattle.au_words.specs.declared.words.Command.TheVariants.{Answer, Direct, Guess, Ua, Rewrite, Explain}
 use Rattle.au_io.specs.Files.{File}
 use Rattle.au_cli.specs.declared.outcome.Outcome.{Outcome}
 use Rattle.au_cli.specs.declared.outcome.Outcome.TheVariants as outcome
@@ -255,6 +255,7 @@ statement_placed Answer (Some s) refusal at e of = cc
 statement_placed Direct (Some s) refusal at e of = cc
 statement_placed Guess (Some s) refusal at e of = cc
 statement_placed Rewrite (Some s) refusal at e of = cc
+statement_placed Explain (Some s) refusal at e of = cc
 statement_placed Ua (Some s) refusal at e of = record { is_ua = refl; statement = s; is = refl; place = place_is (not_positive s) refusal at e of }
 
 placed_if : (many : Bool) (n : ℕ) (text : Option Refusal) (command : Command) (found : Option QueryTree) (refusal : Refusal) (at : ℕ) → IsTextual text

@@ -19,12 +19,13 @@ use Rattle.au_engine.specs.Reading.{refused_text, statement_of}
 use Rattle.au_engine.specs.Answers.{IsDefect, Named, RowsHold, answer_fits, answer_kinds, answer_names, answer_rows, asked_fits, asked_rows, guess_answer, guess_answer_fits, statement_defects}
 use Rattle.au_engine.specs.Certainty.{UaHolds, ua_answer_fits, ua_rows}
 use Rattle.au_engine.specs.Exchange.{IsPlanText}
+use Rattle.au_engine.specs.Explaining.{IsExplanation}
 use Rattle.au_engine.specs.declared.options.Rules.{Rules}
 use Rattle.au_words.specs.Words.{Request}
 use Rattle.au_words.specs.declared.answer_form.Form.{Form}
 use Rattle.au_words.specs.declared.answer_form.Form.TheVariants as form
 use Rattle.au_words.specs.declared.words.Command.{Command}
-use Rattle.au_words.specs.declared.words.Command.TheVariants.{Answer, Direct, Guess, Ua, Rewrite}
+use Rattle.au_words.specs.declared.words.Command.TheVariants.{Answer, Direct, Guess, Ua, Rewrite, Explain}
 use Rattle.au_cli.specs.declared.outcome.Outcome.{Outcome}
 use Rattle.au_cli.specs.declared.outcome.Outcome.TheVariants as outcome
 use Rattle.au_value.specs.Texts.{Text}
@@ -112,22 +113,24 @@ rules_asked r = record { compress = r.compress; points = r.points }
 
 -- A text is what is printed: the bounded answer's, with `answer` by the rules that are asked for, or that of the ordinary
 -- answer in the guess world, or that of its rows with how often each is certain, or that of a plan which gives the bounded
--- answer's rows over encoded tables.
+-- answer's rows over encoded tables, or that of the program by which `answer` finds them where nothing is asked beside.
 abbrev pub IsTextBy : Command → Request → List Named → QueryTree → List ℕ → Type 0
 IsTextBy Answer r ts s text = text ≡ bounded_rows_text r.form (answer_names ts s) (answer_kinds ts s) (asked_rows (rules_asked r) r.combine ts s)
 IsTextBy Direct r ts s text = text ≡ bounded_rows_text r.form (answer_names ts s) (answer_kinds ts s) (answer_rows r.combine ts s)
 IsTextBy Guess r ts s text = text ≡ world_text (answer_names ts s) (answer_kinds ts s) (guess_answer ts s)
 IsTextBy Ua r ts s text = text ≡ ua_text (answer_names ts s) (answer_kinds ts s) (ua_rows ts s)
 IsTextBy Rewrite r ts s text = IsPlanText ts s text
+IsTextBy Explain r ts s text = IsExplanation ts s text
 
 -- whether each number of the answer lies in 128 bits, the printed counts among them: with `ua`, each number of the ordinary
--- answer in the guess world. A plan is written whatever its numbers are.
+-- answer in the guess world. A plan and a program are written whatever the numbers are.
 abbrev pub fit_by : Command → Request → List Named → QueryTree → Bool
 fit_by Answer r ts s = asked_fits (rules_asked r) r.combine ts s
 fit_by Direct r ts s = answer_fits r.combine ts s
 fit_by Guess r ts s = guess_answer_fits ts s && counts_fit (world_rows (guess_answer ts s))
 fit_by Ua r ts s = ua_answer_fits ts s
 fit_by Rewrite r ts s = true
+fit_by Explain r ts s = true
 
 abbrev pub numbers_fit : Request → List Named → QueryTree → Bool
 numbers_fit r ts s = fit_by r.command r ts s
@@ -140,6 +143,7 @@ HoldsBy Direct r ts s = RowsHold ts s (answer_rows r.combine ts s)
 HoldsBy Guess r ts s = ⊤
 HoldsBy Ua r ts s = UaHolds ts s
 HoldsBy Rewrite r ts s = ⊤
+HoldsBy Explain r ts s = ⊤
 
 -- Which numbers fit where there is an answer: with `direct` all, and with `guess` the printed counts. The plans of `answer`, `guess`
 -- and `ua` may pass over a number that leaves 128 bits.
@@ -149,6 +153,7 @@ FitsBy Direct r ts s = answer_fits r.combine ts s ≡ true
 FitsBy Guess r ts s = counts_fit (world_rows (guess_answer ts s)) ≡ true
 FitsBy Ua r ts s = ⊤
 FitsBy Rewrite r ts s = ⊤
+FitsBy Explain r ts s = ⊤
 
 -- a text is the answer's, and the answer holds
 pub record IsAnswer (r : Request) (text : List ℕ) (ts : List Named) (s : QueryTree) : Type 0 where

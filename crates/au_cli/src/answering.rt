@@ -15,7 +15,8 @@ ghost use Rattle.au_words.specs.Words.{greatest_workers};
 
 use au_blocks::Table;
 use au_engine::{
-    EngineFault, Options, answer, answer_directly, guess_answer, rewritten_text, ua_answer,
+    EngineFault, Options, answer, answer_directly, explained_text, guess_answer, rewritten_text,
+    ua_answer,
 };
 use au_expr::EvalFault;
 use au_par::{Gate, let_go};
@@ -63,6 +64,7 @@ pub(crate) fn answer_text<R: Threads + Sync, G: Gate + Sync>(
         Command::Guess => guess_world_text(rt, alloc, statement, tables, gate),
         Command::Ua => certain_text(rt, alloc, statement, tables, gate),
         Command::Rewrite => rewritten_text(alloc, statement, tables),
+        Command::Explain => explained_text(alloc, statement, tables),
     }
 }
 

@@ -3,6 +3,9 @@
 //! `run` does all that the program does, over any shelf of files and any two sinks, and answers how it ended, an
 //! `Outcome`. `Outcome::code` is the exit status.
 //!
+//! `answer`, `direct`, `guess`, `ua`, `rewrite` and `explain` go by `requests`, which reads the query, and `answering`, which
+//! asks `au_engine` for the text; `encode`, `plain` and `demo` have a module each.
+//!
 //! ```text
 //! let outcome = run(&rt, alloc, words.as_slice(), &mut shelf, &mut out, &mut err, NoGate);
 //! outcome.code()

@@ -70,7 +70,8 @@ fn refused_place(command: Command, statement: &Statement) -> Option<usize>
 {
     match command {
         Command::Ua => not_positive(statement),
-        Command::Answer | Command::Direct | Command::Guess | Command::Rewrite => None,
+        Command::Answer | Command::Direct | Command::Guess | Command::Rewrite | Command::Explain =>
+            None,
     }
 }
 

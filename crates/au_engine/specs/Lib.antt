@@ -20,4 +20,5 @@ pub mod Stages
 pub mod Sources
 pub mod Programs
 pub mod RowPlans
+pub mod Explaining
 pub mod SliceWork

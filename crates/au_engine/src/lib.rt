@@ -6,7 +6,7 @@
 //! one plan over rows with the number of their copies, and [`ua_answer`] these with how often each is certain.
 //! [`rewritten`] gives the one plan of a whole tree, which another engine may run: [`rewritten_text`] is its text,
 //! [`encoded_text`] that of the encoded rows which it reads, and [`plain_answer`] runs such a plan over the rows of tables
-//! in the guess world. docs/ARCHITECTURE.md shows the road.
+//! in the guess world. [`explained_text`] tells by which plans [`answer`] goes. docs/ARCHITECTURE.md shows the road.
 //!
 //! ```text
 //! let statement = read_query(alloc, "SELECT city FROM orders")?;
@@ -31,6 +31,7 @@ pub use answers::answering::{answer, answer_directly};
 pub use answers::certainty::{UaAnswer, ua_answer};
 pub use answers::guess_size::fits_plain;
 pub use answers::guessing::{GuessAnswer, guess_answer};
+pub use exchange::explaining::explained_text;
 pub use exchange::plain::{PlainFault, plain_answer};
 pub use exchange::rewriting::rewritten;
 pub use exchange::texts::{encoded_text, rewritten_text};

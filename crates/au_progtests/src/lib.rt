@@ -16,6 +16,8 @@ mod answer_tests;
 #[cfg(test)]
 mod exchange_tests;
 #[cfg(test)]
+mod explain_tests;
+#[cfg(test)]
 mod fault_tests;
 #[cfg(test)]
 mod files;

@@ -88,6 +88,9 @@ encode|--points|t=a.csv| -> Err(Usage(Words))
 rewrite|Q| -> Err(Usage(Words))
 rewrite|--combine|Q|t=a.csv| -> Err(Usage(Words))
 rewrite|--points|Q|t=a.csv| -> Err(Usage(Words))
+explain|Q| -> Err(Usage(Words))
+explain|--combine|Q|t=a.csv| -> Err(Usage(Words))
+explain|--workers=2|Q|t=a.csv| -> Err(Usage(Words))
 plain|p.sql| -> Err(Usage(Words))
 plain|--workers=2|p.sql|t=a.csv| -> Err(Usage(Words))
 plain|--points|p.sql|t=a.csv| -> Err(Usage(Words))
@@ -105,6 +108,7 @@ answer|answer|a=b=c|--table|B=|=| -> Err(Usage(BadTable(1)))
 encode|t| -> Err(Usage(BadTable(0)))
 encode|t=| -> Err(Usage(BadTable(0)))
 rewrite|Q|t=a.csv|u| -> Err(Usage(BadTable(1)))
+explain|Q|t=a.csv|T=b.csv| -> Err(Usage(SameTable(0, 1)))
 plain|p=1|=a.csv| -> Err(Usage(BadTable(0)))
 plain|p.sql|t=a.csv|T=b.csv| -> Err(Usage(SameTable(0, 1)))";
 
@@ -125,6 +129,7 @@ answer|--workers=64|Q|t=a.csv|--compress=1000| -> Ok(Query(Request { command: An
 demo|4294967295|100000| -> Ok(Demo { start: 4294967295, blocks: 100000, workers: 1 })
 demo|1|3|--workers=7| -> Ok(Demo { start: 1, blocks: 3, workers: 7 })
 rewrite|Q|t=a.csv| -> Ok(Query(Request { command: Rewrite, form: Csv, combine: false, points: false, workers: 1, compress: None, query: "Q", tables: [TableWord { name: "t", path: "a.csv" }] }))
+explain|Q|t=a.csv| -> Ok(Query(Request { command: Explain, form: Csv, combine: false, points: false, workers: 1, compress: None, query: "Q", tables: [TableWord { name: "t", path: "a.csv" }] }))
 encode|t=a.csv| -> Ok(Encode(TableWord { name: "t", path: "a.csv" }))
 plain|p=1|t=a.csv|U=b| -> Ok(Plain { plan: "p=1", tables: [TableWord { name: "t", path: "a.csv" }, TableWord { name: "U", path: "b" }] })"#;
 

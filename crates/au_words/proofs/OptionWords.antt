@@ -7,7 +7,7 @@ use Rattle.std.proofs.lemmas.List.Sums.{split_at_first, prefix_len_stops}
 use Rattle.std.proofs.lemmas.Slice.Eq.{bytes_eq-Decides}
 use Rattle.au_value.specs.Texts.{Text}
 use Rattle.au_words.specs.Words.{all_options, is_equal_sign, is_number, is_option, is_taken, is_written, name_part, options_of, value_part}
-use Rattle.au_words.specs.declared.words.Command.TheVariants.{Answer, Direct, Guess, Ua, Rewrite}
+use Rattle.au_words.specs.declared.words.Command.TheVariants.{Answer, Direct, Guess, Ua, Rewrite, Explain}
 use Rattle.au_words.specs.declared.words.form.Verb.{Verb}
 use Rattle.au_words.specs.declared.words.form.Verb.TheVariants as verb
 
@@ -97,6 +97,7 @@ taken_widely (verb.Query Direct) word h =
 taken_widely (verb.Query Guess) word h = no_option (any word) (is_option word) h
 taken_widely (verb.Query Ua) word h = no_option (any word) (is_option word) h
 taken_widely (verb.Query Rewrite) word h = no_option (any word) (is_option word) h
+taken_widely (verb.Query Explain) word h = no_option (any word) (is_option word) h
 taken_widely verb.Demo word h =
     fourth (is_written (codes "--table", None) word) (is_written (codes "--combine", None) word) (is_written (codes "--points", None) word) (is_written (codes "--workers", Some 64) word) (is_written (codes "--compress", Some 1000) word) (is_option word) h
 taken_widely verb.Encode word h = no_option (any word) (is_option word) h

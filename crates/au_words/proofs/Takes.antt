@@ -11,7 +11,7 @@ use Rattle.clap.specs.Takes.{level_passes, takes, walk_passes}
 use Rattle.clap.proofs.OnLiterals.{clap_on_literals}
 use Rattle.au_words.specs.Words.{has_name, is_count, is_form, positionals, verb_of}
 use Rattle.au_words.specs.CommandLine.{HasWords, audb}
-use Rattle.au_words.specs.declared.words.Command.TheVariants.{Answer, Direct, Guess, Ua, Rewrite}
+use Rattle.au_words.specs.declared.words.Command.TheVariants.{Answer, Direct, Guess, Ua, Rewrite, Explain}
 use Rattle.au_words.specs.declared.words.form.Verb.{Verb}
 use Rattle.au_words.specs.declared.words.form.Verb.TheVariants as verb
 use Rattle.au_words.proofs.OptionWords.{all_taken_widely}
@@ -53,6 +53,7 @@ word_of (verb.Query Guess) = codes "guess"
 word_of (verb.Query Ua) = codes "ua"
 word_of verb.Demo = codes "demo"
 word_of (verb.Query Rewrite) = codes "rewrite"
+word_of (verb.Query Explain) = codes "explain"
 word_of verb.Encode = codes "encode"
 word_of verb.Plain = codes "plain"
 
@@ -64,6 +65,7 @@ stops (verb.Query Guess) rest = keeps (codes "guess") [] rest
 stops (verb.Query Ua) rest = keeps (codes "ua") [] rest
 stops verb.Demo rest = keeps (codes "demo") [] rest
 stops (verb.Query Rewrite) rest = keeps (codes "rewrite") [] rest
+stops (verb.Query Explain) rest = keeps (codes "explain") [] rest
 stops verb.Encode rest = keeps (codes "encode") [] rest
 stops verb.Plain rest = keeps (codes "plain") [] rest
 
@@ -75,6 +77,7 @@ passes_above (verb.Query Guess) rest = kept_pass (codes "guess") [] rest
 passes_above (verb.Query Ua) rest = kept_pass (codes "ua") [] rest
 passes_above verb.Demo rest = kept_pass (codes "demo") [] rest
 passes_above (verb.Query Rewrite) rest = kept_pass (codes "rewrite") [] rest
+passes_above (verb.Query Explain) rest = kept_pass (codes "explain") [] rest
 passes_above verb.Encode rest = kept_pass (codes "encode") [] rest
 passes_above verb.Plain rest = kept_pass (codes "plain") [] rest
 
@@ -120,6 +123,7 @@ takes_by (verb.Query Guess) rest below = rw (simple, stops (verb.Query Guess) re
 takes_by (verb.Query Ua) rest below = rw (simple, stops (verb.Query Ua) rest, passes_above (verb.Query Ua) rest, below) refl
 takes_by verb.Demo rest below = rw (simple, stops verb.Demo rest, passes_above verb.Demo rest, below) refl
 takes_by (verb.Query Rewrite) rest below = rw (simple, stops (verb.Query Rewrite) rest, passes_above (verb.Query Rewrite) rest, below) refl
+takes_by (verb.Query Explain) rest below = rw (simple, stops (verb.Query Explain) rest, passes_above (verb.Query Explain) rest, below) refl
 takes_by verb.Encode rest below = rw (simple, stops verb.Encode rest, passes_above verb.Encode rest, below) refl
 takes_by verb.Plain rest below = rw (simple, stops verb.Plain rest, passes_above verb.Plain rest, below) refl
 
@@ -134,6 +138,7 @@ found_by (verb.Query Guess) rest = rw (stops (verb.Query Guess) rest) refl
 found_by (verb.Query Ua) rest = rw (stops (verb.Query Ua) rest) refl
 found_by verb.Demo rest = rw (stops verb.Demo rest) refl
 found_by (verb.Query Rewrite) rest = rw (stops (verb.Query Rewrite) rest) refl
+found_by (verb.Query Explain) rest = rw (stops (verb.Query Explain) rest) refl
 found_by verb.Encode rest = rw (stops verb.Encode rest) refl
 found_by verb.Plain rest = rw (stops verb.Plain rest) refl
 
@@ -153,17 +158,18 @@ unwrapped x v e = ap (λ o. unwrap_or o x) e
 
 pub named : (word : Text) (v : Verb) → verb_of word ≡ Some v → word ≡ word_of v
 named word v h =
-    by_case (bytes_eq word (codes "answer")) (bytes_eq word (codes "direct")) (bytes_eq word (codes "guess")) (bytes_eq word (codes "ua")) (bytes_eq word (codes "demo")) (bytes_eq word (codes "rewrite")) (bytes_eq word (codes "encode")) (bytes_eq word (codes "plain"))
-    refl refl refl refl refl refl refl refl h
+    by_case (bytes_eq word (codes "answer")) (bytes_eq word (codes "direct")) (bytes_eq word (codes "guess")) (bytes_eq word (codes "ua")) (bytes_eq word (codes "demo")) (bytes_eq word (codes "rewrite")) (bytes_eq word (codes "explain")) (bytes_eq word (codes "encode")) (bytes_eq word (codes "plain"))
+    refl refl refl refl refl refl refl refl refl h
   where
-    by_case : (t1 t2 t3 t4 t5 t6 t7 t8 : Bool) → bytes_eq word (codes "answer") ≡ t1 → bytes_eq word (codes "direct") ≡ t2 → bytes_eq word (codes "guess") ≡ t3 → bytes_eq word (codes "ua") ≡ t4 → bytes_eq word (codes "demo") ≡ t5 → bytes_eq word (codes "rewrite") ≡ t6 → bytes_eq word (codes "encode") ≡ t7 → bytes_eq word (codes "plain") ≡ t8
-        → (if t1 then Some (verb.Query Answer) else if t2 then Some (verb.Query Direct) else if t3 then Some (verb.Query Guess) else if t4 then Some (verb.Query Ua) else if t5 then Some verb.Demo else if t6 then Some (verb.Query Rewrite) else if t7 then Some verb.Encode else if t8 then Some verb.Plain else None) ≡ Some v → word ≡ word_of v
-    by_case true t2 t3 t4 t5 t6 t7 t8 e1 e2 e3 e4 e5 e6 e7 e8 e = (bytes_eq-Decides word (codes "answer")).0 e1 ∙ ap word_of (unwrapped (verb.Query Answer) v e)
-    by_case false true t3 t4 t5 t6 t7 t8 e1 e2 e3 e4 e5 e6 e7 e8 e = (bytes_eq-Decides word (codes "direct")).0 e2 ∙ ap word_of (unwrapped (verb.Query Direct) v e)
-    by_case false false true t4 t5 t6 t7 t8 e1 e2 e3 e4 e5 e6 e7 e8 e = (bytes_eq-Decides word (codes "guess")).0 e3 ∙ ap word_of (unwrapped (verb.Query Guess) v e)
-    by_case false false false true t5 t6 t7 t8 e1 e2 e3 e4 e5 e6 e7 e8 e = (bytes_eq-Decides word (codes "ua")).0 e4 ∙ ap word_of (unwrapped (verb.Query Ua) v e)
-    by_case false false false false true t6 t7 t8 e1 e2 e3 e4 e5 e6 e7 e8 e = (bytes_eq-Decides word (codes "demo")).0 e5 ∙ ap word_of (unwrapped verb.Demo v e)
-    by_case false false false false false true t7 t8 e1 e2 e3 e4 e5 e6 e7 e8 e = (bytes_eq-Decides word (codes "rewrite")).0 e6 ∙ ap word_of (unwrapped (verb.Query Rewrite) v e)
-    by_case false false false false false false true t8 e1 e2 e3 e4 e5 e6 e7 e8 e = (bytes_eq-Decides word (codes "encode")).0 e7 ∙ ap word_of (unwrapped verb.Encode v e)
-    by_case false false false false false false false true e1 e2 e3 e4 e5 e6 e7 e8 e = (bytes_eq-Decides word (codes "plain")).0 e8 ∙ ap word_of (unwrapped verb.Plain v e)
-    by_case false false false false false false false false e1 e2 e3 e4 e5 e6 e7 e8 e = absurd (true≢false (sym (ap is_some e)))
+    by_case : (t1 t2 t3 t4 t5 t6 t7 t8 t9 : Bool) → bytes_eq word (codes "answer") ≡ t1 → bytes_eq word (codes "direct") ≡ t2 → bytes_eq word (codes "guess") ≡ t3 → bytes_eq word (codes "ua") ≡ t4 → bytes_eq word (codes "demo") ≡ t5 → bytes_eq word (codes "rewrite") ≡ t6 → bytes_eq word (codes "explain") ≡ t7 → bytes_eq word (codes "encode") ≡ t8 → bytes_eq word (codes "plain") ≡ t9
+        → (if t1 then Some (verb.Query Answer) else if t2 then Some (verb.Query Direct) else if t3 then Some (verb.Query Guess) else if t4 then Some (verb.Query Ua) else if t5 then Some verb.Demo else if t6 then Some (verb.Query Rewrite) else if t7 then Some (verb.Query Explain) else if t8 then Some verb.Encode else if t9 then Some verb.Plain else None) ≡ Some v → word ≡ word_of v
+    by_case true t2 t3 t4 t5 t6 t7 t8 t9 e1 e2 e3 e4 e5 e6 e7 e8 e9 e = (bytes_eq-Decides word (codes "answer")).0 e1 ∙ ap word_of (unwrapped (verb.Query Answer) v e)
+    by_case false true t3 t4 t5 t6 t7 t8 t9 e1 e2 e3 e4 e5 e6 e7 e8 e9 e = (bytes_eq-Decides word (codes "direct")).0 e2 ∙ ap word_of (unwrapped (verb.Query Direct) v e)
+    by_case false false true t4 t5 t6 t7 t8 t9 e1 e2 e3 e4 e5 e6 e7 e8 e9 e = (bytes_eq-Decides word (codes "guess")).0 e3 ∙ ap word_of (unwrapped (verb.Query Guess) v e)
+    by_case false false false true t5 t6 t7 t8 t9 e1 e2 e3 e4 e5 e6 e7 e8 e9 e = (bytes_eq-Decides word (codes "ua")).0 e4 ∙ ap word_of (unwrapped (verb.Query Ua) v e)
+    by_case false false false false true t6 t7 t8 t9 e1 e2 e3 e4 e5 e6 e7 e8 e9 e = (bytes_eq-Decides word (codes "demo")).0 e5 ∙ ap word_of (unwrapped verb.Demo v e)
+    by_case false false false false false true t7 t8 t9 e1 e2 e3 e4 e5 e6 e7 e8 e9 e = (bytes_eq-Decides word (codes "rewrite")).0 e6 ∙ ap word_of (unwrapped (verb.Query Rewrite) v e)
+    by_case false false false false false false true t8 t9 e1 e2 e3 e4 e5 e6 e7 e8 e9 e = (bytes_eq-Decides word (codes "explain")).0 e7 ∙ ap word_of (unwrapped (verb.Query Explain) v e)
+    by_case false false false false false false false true t9 e1 e2 e3 e4 e5 e6 e7 e8 e9 e = (bytes_eq-Decides word (codes "encode")).0 e8 ∙ ap word_of (unwrapped verb.Encode v e)
+    by_case false false false false false false false false true e1 e2 e3 e4 e5 e6 e7 e8 e9 e = (bytes_eq-Decides word (codes "plain")).0 e9 ∙ ap word_of (unwrapped verb.Plain v e)
+    by_case false false false false false false false false false e1 e2 e3 e4 e5 e6 e7 e8 e9 e = absurd (true≢false (sym (ap is_some e)))

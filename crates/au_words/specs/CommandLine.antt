@@ -100,7 +100,7 @@ with_commands (name ∷ names) line = with_commands names (with_subcommand line 
 
 abbrev pub command_names : List Text
 command_names =
-    codes "answer" ∷ codes "direct" ∷ codes "guess" ∷ codes "ua" ∷ codes "demo" ∷ codes "rewrite" ∷ codes "encode" ∷ codes "plain" ∷ []
+    codes "answer" ∷ codes "direct" ∷ codes "guess" ∷ codes "ua" ∷ codes "demo" ∷ codes "rewrite" ∷ codes "explain" ∷ codes "encode" ∷ codes "plain" ∷ []
 
 abbrev pub audb : App
 audb = with_commands command_names (on_top bare (new_app (codes "audb")))

@@ -11,7 +11,7 @@ use Rattle.au_value.specs.Texts.{Text}
 use Rattle.au_words.specs.declared.fault.UsageFault.{UsageFault}
 use Rattle.au_words.specs.declared.fault.UsageFault.TheVariants.{Words, BadTable, SameTable}
 use Rattle.au_words.specs.declared.words.Command.{Command}
-use Rattle.au_words.specs.declared.words.Command.TheVariants.{Answer, Direct, Guess, Ua, Rewrite}
+use Rattle.au_words.specs.declared.words.Command.TheVariants.{Answer, Direct, Guess, Ua, Rewrite, Explain}
 use Rattle.au_words.specs.declared.answer_form.Form.{Form}
 use Rattle.au_words.specs.declared.answer_form.Form.TheVariants.{Csv, Table}
 use Rattle.au_words.specs.declared.words.form.Verb.{Verb}
@@ -150,6 +150,7 @@ verb_of word =
     else if bytes_eq word (codes "ua") then Some (verb.Query Ua)
     else if bytes_eq word (codes "demo") then Some verb.Demo
     else if bytes_eq word (codes "rewrite") then Some (verb.Query Rewrite)
+    else if bytes_eq word (codes "explain") then Some (verb.Query Explain)
     else if bytes_eq word (codes "encode") then Some verb.Encode
     else if bytes_eq word (codes "plain") then Some verb.Plain
     else None

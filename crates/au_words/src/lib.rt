@@ -1,5 +1,7 @@
 //! The words of a command line: which command is asked for, its options, and its query, plan and tables.
 //!
+//! A query stands behind each word of [`Command`]: `answer`, `direct`, `guess`, `ua`, `rewrite` and `explain`.
+//!
 //! The words are read with clap. What clap takes beyond the form that docs/FORMATS.md gives, as an option twice or a
 //! number with a leading zero, is refused by a [`UsageFault`].
 //!

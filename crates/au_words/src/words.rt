@@ -34,6 +34,9 @@ pub enum Command {
 
     /// The text of the rewritten plan.
     Rewrite,
+
+    /// The text of the program by which a query is answered.
+    Explain,
 }
 
 /// A table word: a table's name and the path of its file.

@@ -42,6 +42,7 @@ pub fn verb_of(word: &str) -> Option<Verb>
         "ua" => Some(Verb::Query(Command::Ua)),
         "demo" => Some(Verb::Demo),
         "rewrite" => Some(Verb::Query(Command::Rewrite)),
+        "explain" => Some(Verb::Query(Command::Explain)),
         "encode" => Some(Verb::Encode),
         "plain" => Some(Verb::Plain),
         _ => None,
@@ -85,8 +86,9 @@ fn is_own_option(verb: Verb, word: &str) -> bool
         }
         Verb::Query(Command::Direct) => is_flag(word),
         Verb::Demo => is_numbered("--workers", MAX_WORKERS, word),
-        Verb::Query(Command::Guess | Command::Ua | Command::Rewrite) | Verb::Encode | Verb::Plain =>
-            false,
+        Verb::Query(Command::Guess | Command::Ua | Command::Rewrite | Command::Explain)
+        | Verb::Encode
+        | Verb::Plain => false,
     }
 }
 

@@ -92,6 +92,7 @@ fn program_line<'a>(alloc: Global) -> Result<clap::Command<'a>, AllocError>
     let line = with_command(alloc, line, "ua")?;
     let line = with_command(alloc, line, "demo")?;
     let line = with_command(alloc, line, "rewrite")?;
+    let line = with_command(alloc, line, "explain")?;
     let line = with_command(alloc, line, "encode")?;
     with_command(alloc, line, "plain")
 }

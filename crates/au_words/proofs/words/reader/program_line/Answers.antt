@@ -13,5 +13,6 @@ returns c =
     let line4 = c.in_ok-line-4.ensures ∙ ap (λ a. with_subcommand a (command_line (codes "ua")).top) line3 in
     let line5 = c.in_ok-line-5.ensures ∙ ap (λ a. with_subcommand a (command_line (codes "demo")).top) line4 in
     let line6 = c.in_ok-line-6.ensures ∙ ap (λ a. with_subcommand a (command_line (codes "rewrite")).top) line5 in
-    let line7 = c.in_ok-line-7.ensures ∙ ap (λ a. with_subcommand a (command_line (codes "encode")).top) line6 in
-    IfOk-weaker c.with_command-8.result _ _ (λ r is. is ∙ ap (λ a. with_subcommand a (command_line (codes "plain")).top) line7) c.with_command-8.ensures
+    let line7 = c.in_ok-line-7.ensures ∙ ap (λ a. with_subcommand a (command_line (codes "explain")).top) line6 in
+    let line8 = c.in_ok-line-8.ensures ∙ ap (λ a. with_subcommand a (command_line (codes "encode")).top) line7 in
+    IfOk-weaker c.with_command-9.result _ _ (λ r is. is ∙ ap (λ a. with_subcommand a (command_line (codes "plain")).top) line8) c.with_command-9.ensures

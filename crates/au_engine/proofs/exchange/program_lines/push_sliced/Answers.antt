@@ -1,0 +1,10 @@
+use Rattle.std.proofs.Common.{◌++◌, codes, string_bytes}
+use Rattle.au_sqltext.proofs.Spreads.{written3}
+use Rattle.au_engine.specs.Explaining.{last_text, name_at, names_of, steps_text}
+use Rattle.au_engine.proofs.exchange.program_lines.push_sliced.Goals as goal
+
+pub returns : goal.returns
+returns c =
+    written3 (string_bytes c.args.out.now) (string_bytes c.push_steps.new.out) (string_bytes c.push_slices.new.out) (string_bytes c.push_last.new.out)
+    (steps_text (names_of c.args.tables.now) 0 c.args.whole.now.sources) (codes "answer, slice by slice of " ++ name_at (names_of c.args.tables.now) c.args.place)
+    (last_text (names_of c.args.tables.now) c.args.whole.now) c.in_ok-push_steps.ensures c.in_ok-push_slices.ensures c.in_ok-push_last.ensures

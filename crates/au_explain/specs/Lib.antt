@@ -1,0 +1,2 @@
+-- The definitions, to be read from top to bottom.
+pub mod Lines
