@@ -8,8 +8,8 @@ import time
 from answers.outcome import LIMIT, NO_PROGRAM, WORDS, Refused
 
 TOP = os.path.dirname(os.path.dirname(os.path.dirname(os.path.realpath(__file__))))
-# Where it stands beside this tool: built, or a script that builds and runs it.
-BESIDE = ("crates/audb/out/audb", "audb")
+# Where it stands beside this tool once it is built, and what builds it: that takes its time, and tells how far it is.
+BUILT, BUILDER = os.path.join(TOP, "crates/audb/out/audb"), os.path.join(TOP, "audb")
 # How long a terminal stays quiet, and how often it is told then, in seconds.
 PATIENCE, TURN = 2.0, 0.5
 # The length of one word that an operating system passes on.
@@ -21,13 +21,15 @@ def runs(path):
 
 
 def find(word):
-    """Returns the path of audb: the one that is named, the one beside this tool, or the one on the path."""
+    """Returns the path of audb: the one that is named, the one that is built beside this tool, or the one on the path."""
     if word is not None:
         found = shutil.which(word)
         if found is None:
             raise Refused(NO_PROGRAM, f"--audb {word}: no program is there")
         return found
-    found = next((path for path in (os.path.join(TOP, name) for name in BESIDE) if runs(path)), None) or shutil.which("audb")
+    found = BUILT if runs(BUILT) else shutil.which("audb")
+    if found is None and runs(BUILDER):
+        raise Refused(NO_PROGRAM, f"audb is not built yet; {BUILDER} builds it, and --audb PATH names another one")
     if found is None:
         raise Refused(NO_PROGRAM, "audb is found neither beside this tool nor on the path; --audb PATH names it")
     return found

@@ -85,10 +85,12 @@ class Program(Cases):
             if not shutil.which("audb"):
                 self.assertEqual((found(room).returncode, found(room).stderr), (
                     127, "ask: audb is found neither beside this tool nor on the path; --audb PATH names it\n"))
+            self.stand_in(f"{room}/top/audb", "top")
+            if not shutil.which("audb"):
+                self.assertEqual((found(room).returncode, found(room).stderr), (
+                    127, f"ask: audb is not built yet; {os.path.realpath(room)}/top/audb builds it, and --audb PATH names another one\n"))
             self.stand_in(f"{room}/path/audb", "path")
             self.assertIn("= path", found(f"{room}/path").stdout)
-            self.stand_in(f"{room}/top/audb", "top")
-            self.assertIn("= top", found(f"{room}/path").stdout)
             self.stand_in(f"{room}/top/crates/audb/out/audb", "built")
             self.assertIn("= built", found(f"{room}/path").stdout)
             self.stand_in(f"{room}/other", "named")
