@@ -1,7 +1,7 @@
 //! The plan of a tree over rows with counts, and its run.
 //!
 //! A row with counts is a plain row: its values, and behind them the number of its copies, or some numbers that add up as
-//! this does. No plan holds an input twice, so each tree is one plan, without stages.
+//! this does. No plan holds an input twice, so each tree is one plan, without steps.
 ghost use Rattle.std.specs.Prelude.{◌≡◌, IfOk, map};
 ghost use Rattle.au_algebra.specs.Trees.{tree};
 ghost use Rattle.au_algebra.specs.Typing.{IsTyped};
