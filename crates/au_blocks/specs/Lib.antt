@@ -17,3 +17,5 @@ pub mod Labels
 pub mod Marks
 pub mod Pieces
 pub mod Runs
+pub mod Held
+pub mod Scalars

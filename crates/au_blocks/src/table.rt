@@ -2,15 +2,17 @@
 ghost use Rattle.std.specs.Prelude.{◌≡◌};
 ghost use Rattle.au_blocks.specs.Tables.{IsBlockTable, table};
 
-use crate::block::Block;
+use crate::block::Block as Extent;
 use crate::column::Column;
+use crate::view::{Alternatives, Blocks};
 use std::marker::Model;
 
 /// Columns, and blocks whose rows have one value for each column, of its kind.
 #[derive(Drop)]
 pub struct Table {
     columns: Vec<Column>,
-    blocks: Vec<Block>,
+    rows: Alternatives,
+    blocks: Vec<Extent>,
 }
 
 impl Model for Table {
@@ -25,11 +27,15 @@ impl Model for Table {
 
 impl Table {
     // The table of these columns and blocks.
-    pub(crate) fn of(columns: Vec<Column>, blocks: Vec<Block>) -> Table
+    pub(crate) fn of(columns: Vec<Column>, blocks: Vec<Extent>) -> Table
         requires { IsBlockTable (table columns.items blocks.items) }
         ensures { result ≡ table columns.items blocks.items }
     {
-        Table { columns, blocks }
+        Table {
+            columns,
+            rows: Alternatives::none(),
+            blocks,
+        }
     }
 
     /// The columns, from the left.
@@ -41,10 +47,10 @@ impl Table {
     }
 
     /// The blocks, in their order.
-    pub fn blocks(&self) -> &[Block]
-        ensures of { result.now ≡ self.now.blocks }
+    pub fn blocks(&self) -> Blocks<'_>
+        ensures of { result ≡ self.now.blocks }
         ensures is_table { IsBlockTable self.now }
     {
-        self.blocks.as_slice()
+        Blocks::of(&self.rows, self.blocks.as_slice())
     }
 }

@@ -1,6 +1,6 @@
 //! Table files, and what they hold or why they are refused.
-use crate::cases::{Call, file_bytes, judge, push_value};
-use au_blocks::{Alternative, Block, Cell, Table, read_table};
+use crate::cases::{Call, file_bytes, judge};
+use au_blocks::{Alternative, Block, Blocks, Scalar, Table, read_table};
 use std::alloc::{AllocError, Global};
 use std::test::Fail;
 
@@ -24,24 +24,25 @@ fn table_text(alloc: Global, table: &Table) -> Result<String, AllocError> {
         text.push_str(column.name.as_str())?;
         text.push_str(format!(in alloc; ":{kind:?} ")?.as_str())?;
     }
-    push_blocks(alloc, &mut text, table)?;
+    push_blocks(alloc, &mut text, &table.blocks())?;
     Ok(text)
 }
 
-fn push_blocks(alloc: Global, text: &mut String, table: &Table) -> Result<(), AllocError> {
-    for block in table.blocks() {
-        push_block(alloc, text, block)?;
+fn push_blocks(alloc: Global, text: &mut String, blocks: &Blocks<'_>) -> Result<(), AllocError> {
+    for place in 0..blocks.len() {
+        push_block(alloc, text, &blocks.get(place))?;
     }
     Ok(())
 }
 
-fn push_block(alloc: Global, text: &mut String, block: &Block) -> Result<(), AllocError> {
-    for (place, alternative) in block.alternatives().iter().enumerate() {
+fn push_block(alloc: Global, text: &mut String, block: &Block<'_>) -> Result<(), AllocError> {
+    let alternatives = block.alternatives();
+    for place in 0..alternatives.len() {
         text.push_str(if place == 0 { "|" } else { "/" })?;
         if block.guess() == Some(place) {
             text.push_str("*")?;
         }
-        push_alternative(alloc, text, alternative)?;
+        push_alternative(alloc, text, &alternatives.get(place))?;
     }
     text.push_str(match (block.optional(), block.guess()) {
         (true, None) => "?*",
@@ -50,16 +51,32 @@ fn push_block(alloc: Global, text: &mut String, block: &Block) -> Result<(), All
     })
 }
 
+// The text of a value.
+fn push_scalar(alloc: Global, text: &mut String, value: Scalar<'_>) -> Result<(), AllocError> {
+    match value {
+        Scalar::Int(n) => text.push_str(format!(in alloc; "{n}")?.as_str()),
+        Scalar::Text(word) => text.push_str(word.as_str()),
+        Scalar::Flag(flag) => text.push_str(if flag { "true" } else { "false" }),
+    }
+}
+
 // A value, or `lo..guess..hi`.
-fn push_cell(alloc: Global, text: &mut String, cell: &Cell) -> Result<(), AllocError> {
-    if !cell.is_certain() {
-        push_value(alloc, text, cell.lo())?;
+fn push_cell(
+    alloc: Global,
+    text: &mut String,
+    lo: Scalar<'_>,
+    guess: Scalar<'_>,
+    hi: Scalar<'_>,
+) -> Result<(), AllocError> {
+    let certain = lo.compare(&hi).is_eq();
+    if !certain {
+        push_scalar(alloc, text, lo)?;
         text.push_str("..")?;
     }
-    push_value(alloc, text, cell.sg())?;
-    if !cell.is_certain() {
+    push_scalar(alloc, text, guess)?;
+    if !certain {
         text.push_str("..")?;
-        push_value(alloc, text, cell.hi())?;
+        push_scalar(alloc, text, hi)?;
     }
     Ok(())
 }
@@ -67,13 +84,19 @@ fn push_cell(alloc: Global, text: &mut String, cell: &Cell) -> Result<(), AllocE
 fn push_alternative(
     alloc: Global,
     text: &mut String,
-    alternative: &Alternative,
+    alternative: &Alternative<'_>,
 ) -> Result<(), AllocError> {
-    for (place, cell) in alternative.cells().iter().enumerate() {
-        if place > 0 {
+    for at in 0..alternative.width() {
+        if at > 0 {
             text.push_str(",")?;
         }
-        push_cell(alloc, text, cell)?;
+        push_cell(
+            alloc,
+            text,
+            alternative.lo(at),
+            alternative.sg(at),
+            alternative.hi(at),
+        )?;
     }
     let times = alternative.times();
     let copies = (times.least(), times.guess(), times.most());

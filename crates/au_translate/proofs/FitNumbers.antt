@@ -1,12 +1,12 @@
 -- Where the numbers of blocks lie in the range, those of their encoded rows do.
-use Rattle.std.specs.Prelude.{◌≡◌, ℕ, zero, suc, ◌+◌, ◌≤◌, ◌<◌, ◌^◌, Bool, true, false, not, List, [], ◌∷◌, ◌++◌, map, fold, max, slice_get, unwrap_or, pos, if◌then◌else◌}
+use Rattle.std.specs.Prelude.{◌≡◌, ℕ, zero, suc, ◌+◌, ◌≤◌, ◌^◌, Bool, true, false, not, List, [], ◌∷◌, ◌++◌, map, fold, max, slice_get, Some, unwrap_or, pos, if◌then◌else◌}
 use Rattle.std.specs.List.{AllByRecursion}
 use Rattle.std.proofs.Common.{arith, refl}
 use Rattle.std.proofs.lemmas.Bool.{and_from}
 use Rattle.au_value.specs.declared.value.Value.{Value}
 use Rattle.au_value.specs.declared.value.Value.TheVariants.{Int}
 use Rattle.au_value.specs.Order.{at_most}
-use Rattle.au_value.specs.Ranges.{Span, guesses}
+use Rattle.au_value.specs.Ranges.{Span, guesses, range}
 use Rattle.au_blocks.specs.Blocks.{Candidate, Choices, IsBlock, IsCopies, candidate, once}
 use Rattle.au_algebra.specs.Bounded.{RangeRow}
 use Rattle.au_algebra.specs.Lists.{least, greatest}
@@ -52,6 +52,17 @@ lows_fit j (a ∷ alternatives) h = ((cell_fits j a.cells _ h.0 none_fits).lo, l
 highs_fit : (j : ℕ) (alternatives : List Candidate) → AllByRecursion FitCandidate alternatives → AllByRecursion FitValue (map (high_at j) alternatives)
 highs_fit j [] h = tt
 highs_fit j (a ∷ alternatives) h = ((cell_fits j a.cells _ h.0 none_fits).hi, highs_fit j alternatives h.1)
+
+-- a cell by its three values
+pub span_by : (cells : List Span) (j : ℕ) (lo sg hi : Value) → slice_get (map (λ c. c.lo) cells) j ≡ Some lo → slice_get (map (λ c. c.sg) cells) j ≡ Some sg → slice_get (map (λ c. c.hi) cells) j ≡ Some hi
+    → slice_get cells j ≡ Some (range lo sg hi)
+span_by [] j lo sg hi a b c = cc
+span_by (s ∷ cells) zero lo sg hi a b c =
+    let low : s.lo ≡ lo = cc in
+    let guess : s.sg ≡ sg = cc in
+    let high : s.hi ≡ hi = cc in
+    λ i. Some (range (low i) (guess i) (high i))
+span_by (s ∷ cells) (suc j) lo sg hi a b c = span_by cells j lo sg hi a b c
 
 row_from : (v : Value) (vs : List Value) → FitValue v → row_fits vs ≡ true → row_fits (v ∷ vs) ≡ true
 row_from v vs f g = and_from _ _ f g

@@ -2,6 +2,7 @@ mod ExampleData
 mod Examples
 mod ExampleWorlds
 mod MoreExamples
+pub mod Places
 pub mod Ends
 mod Guessing
 pub mod Alternatives

@@ -1,4 +1,4 @@
--- The encoded rows of blocks that are put together are those of each part, put together, and so is what is kept of them.
+-- The rows of blocks that are put together are those of each part, put together, and so are their encoded rows, and what is kept of these.
 use Rattle.std.specs.Prelude.{◌≡◌, ℕ, List, ◌++◌, map, not}
 use Rattle.std.proofs.Common.{◌∙◌, ap}
 use Rattle.std.proofs.lemmas.List.{map-append}
@@ -10,13 +10,22 @@ use Rattle.au_plain.specs.Meaning.{kept}
 use Rattle.au_encode.specs.Encode.{encode, encode_row}
 use Rattle.au_translate.specs.Translate.{block_row, bounded_blocks}
 
+pub bounded_apart : (xs ys : List Choices) → bounded_blocks (xs ++ ys) ≡ bounded_blocks xs ++ bounded_blocks ys
+bounded_apart xs ys = ap present (map-append block_row xs ys) ∙ filter-append (λ (r : RangeRow). not (is_none r.annot)) (map block_row xs) (map block_row ys)
+
 pub encoded_apart : (xs ys : List Choices) → encode (bounded_blocks (xs ++ ys)) ≡ encode (bounded_blocks xs) ++ encode (bounded_blocks ys)
-encoded_apart xs ys =
-    ap (λ rows. encode (present rows)) (map-append block_row xs ys)
-    ∙ ap encode (filter-append (λ (r : RangeRow). not (is_none r.annot)) (map block_row xs) (map block_row ys))
-    ∙ map-append encode_row (bounded_blocks xs) (bounded_blocks ys)
+encoded_apart xs ys = ap encode (bounded_apart xs ys) ∙ map-append encode_row (bounded_blocks xs) (bounded_blocks ys)
 
 pub kept_apart : (places : List ℕ) (xs ys : List Choices)
     → map (kept places) (encode (bounded_blocks (xs ++ ys))) ≡ map (kept places) (encode (bounded_blocks xs)) ++ map (kept places) (encode (bounded_blocks ys))
 kept_apart places xs ys =
     ap (map (kept places)) (encoded_apart xs ys) ∙ map-append (kept places) (encode (bounded_blocks xs)) (encode (bounded_blocks ys))
+
+-- where the blocks are those of some extents
+module _ {E : Type 0} (blocks : List E → List Choices) (apart : (xs ys : List E) → blocks (xs ++ ys) ≡ blocks xs ++ blocks ys) where
+  pub encoded_extents : (xs ys : List E) → encode (bounded_blocks (blocks (xs ++ ys))) ≡ encode (bounded_blocks (blocks xs)) ++ encode (bounded_blocks (blocks ys))
+  encoded_extents xs ys = ap (λ bs. encode (bounded_blocks bs)) (apart xs ys) ∙ encoded_apart (blocks xs) (blocks ys)
+
+  pub kept_extents : (places : List ℕ) (xs ys : List E)
+      → map (kept places) (encode (bounded_blocks (blocks (xs ++ ys)))) ≡ map (kept places) (encode (bounded_blocks (blocks xs))) ++ map (kept places) (encode (bounded_blocks (blocks ys)))
+  kept_extents places xs ys = ap (λ bs. map (kept places) (encode (bounded_blocks bs))) (apart xs ys) ∙ kept_apart places (blocks xs) (blocks ys)

@@ -3,14 +3,15 @@ ghost use Rattle.std.specs.Prelude.{◌≡◌, ◌≤◌, ◌++◌, ◌∷◌, [
 ghost use Rattle.std.specs.List.{All};
 ghost use Rattle.std.proofs.Common.{refl};
 ghost use Rattle.au_expr.specs.declared.fault.EvalFault.TheVariants as fault;
+ghost use Rattle.au_blocks.specs.Held.{IsWithin, held, held_apart};
 ghost use Rattle.au_blocks.specs.Tables.{IsBlockTable, table as table_of};
 ghost use Rattle.au_plain.specs.PlanKinds.{FitRows, row_fits};
 ghost use Rattle.au_encode.specs.Encode.{encode};
 ghost use Rattle.au_translate.specs.Translate.{bounded_blocks};
-ghost use Rattle.au_translate.specs.EncodingPieces.{encoded_apart};
+ghost use Rattle.au_translate.specs.EncodingPieces.{encoded_extents};
 
 use crate::encodings::encoded_blocks;
-use au_blocks::{Block, Column};
+use au_blocks::{Alternatives, Blocks, Column, Extent};
 use au_expr::EvalFault;
 use au_par::{NoGate, Piece, by_drawn_pieces};
 use au_plain::PRow;
@@ -51,20 +52,21 @@ impl EncodedRow {
 #[derive(Clone, Copy)]
 pub(crate) struct Encoding<'a> {
     columns: &'a [Column],
+    rows: &'a Alternatives,
 }
 
-impl<'a> Piece<Block, EncodedRow> for Encoding<'a> {
-    ghost takes = { λ w block. IsBlockTable (table_of w.columns.now (block ∷ [])) };
+impl<'a> Piece<Extent, EncodedRow> for Encoding<'a> {
+    ghost takes = { λ w e. IsWithin w.rows.now e × IsBlockTable (table_of w.columns.now (held w.rows.now (e ∷ []))) };
 
-    ghost results = { λ _ blocks. encode (bounded_blocks blocks) };
+    ghost results = { λ w es. encode (bounded_blocks (held w.rows.now es)) };
 
     ghost overflows = { λ _ _. false };
 
-    fn work(&self, alloc: Global, blocks: &[Block]) -> Result<Vec<EncodedRow>, EvalFault> {
-        encoded_piece(alloc, self.columns, blocks)
+    fn work(&self, alloc: Global, extents: &[Extent]) -> Result<Vec<EncodedRow>, EvalFault> {
+        encoded_piece(alloc, self.columns, self.rows, extents)
     }
 
-    ghost results_join = { λ _ xs ys _ _. encoded_apart xs ys };
+    ghost results_join = { λ w xs ys _ _. encoded_extents (held w.rows.now) (held_apart w.rows.now) xs ys };
 
     ghost overflows_join = { λ _ _ _ _ _. refl };
 
@@ -78,7 +80,7 @@ pub fn encoded_by<R: Threads + Sync>(
     alloc: Global,
     workers: usize,
     columns: &[Column],
-    blocks: &[Block],
+    blocks: &Blocks<'_>,
 ) -> Result<Vec<PRow>, NoMemory>
     requires workers { 1 ≤ workers }
     requires table { IsBlockTable (table_of columns.now blocks.now) }
@@ -88,8 +90,9 @@ pub fn encoded_by<R: Threads + Sync>(
     if workers == 1 {
         return encoded_blocks(alloc, columns, blocks);
     }
-    let work = Encoding { columns };
-    match by_drawn_pieces(rt, alloc, blocks, workers, &work, &NoGate) {
+    let (rows, extents) = blocks.parts();
+    let work = Encoding { columns, rows };
+    match by_drawn_pieces(rt, alloc, extents, workers, &work, &NoGate) {
         Ok(made) => plain_rows(alloc, made),
         Err(EvalFault::NoMemory) => Err(NoMemory),
         Err(EvalFault::Overflow) => unreachable!(),
@@ -100,15 +103,16 @@ pub fn encoded_by<R: Threads + Sync>(
 fn encoded_piece(
     alloc: Global,
     columns: &[Column],
-    blocks: &[Block],
+    rows: &Alternatives,
+    extents: &[Extent],
 ) -> Result<Vec<EncodedRow>, EvalFault>
-    requires { All (λ block. IsBlockTable (table_of columns.now (block ∷ []))) blocks.now }
-    ensures { MatchResult result (λ v. v.items ≡ encode (bounded_blocks blocks.now)) (λ f. f ≡ fault.NoMemory) }
+    requires { All (λ e. IsWithin rows.now e × IsBlockTable (table_of columns.now (held rows.now (e ∷ [])))) extents.now }
+    ensures { MatchResult result (λ v. v.items ≡ encode (bounded_blocks (held rows.now extents.now))) (λ f. f ≡ fault.NoMemory) }
 {
-    if blocks.is_empty() {
+    if extents.is_empty() {
         return Ok(Vec::new(alloc));
     }
-    match piece_rows(alloc, columns, blocks) {
+    match piece_rows(alloc, columns, &Blocks::of(rows, extents)) {
         Ok(made) => Ok(made),
         Err(NoMemory) => Err(EvalFault::NoMemory),
     }
@@ -118,7 +122,7 @@ fn encoded_piece(
 fn piece_rows(
     alloc: Global,
     columns: &[Column],
-    blocks: &[Block],
+    blocks: &Blocks<'_>,
 ) -> Result<Vec<EncodedRow>, NoMemory>
     requires { IsBlockTable (table_of columns.now blocks.now) }
     ensures { IfOk result (λ v. v.items ≡ encode (bounded_blocks blocks.now)) }

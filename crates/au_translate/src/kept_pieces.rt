@@ -3,16 +3,17 @@ ghost use Rattle.std.specs.Prelude.{◌≡◌, ◌≤◌, ◌∷◌, [], false, 
 ghost use Rattle.std.specs.List.{All};
 ghost use Rattle.std.proofs.Common.{refl};
 ghost use Rattle.au_expr.specs.declared.fault.EvalFault.TheVariants as fault;
+ghost use Rattle.au_blocks.specs.Held.{IsWithin, held, held_apart};
 ghost use Rattle.au_blocks.specs.Tables.{IsBlockTable, table as table_of};
 ghost use Rattle.au_plain.specs.Meaning.{kept};
 ghost use Rattle.au_plain.specs.PlanKinds.{FitRows};
 ghost use Rattle.au_encode.specs.Encode.{encode};
 ghost use Rattle.au_translate.specs.Translate.{bounded_blocks};
-ghost use Rattle.au_translate.specs.EncodingPieces.{kept_apart};
+ghost use Rattle.au_translate.specs.EncodingPieces.{kept_extents};
 
 use crate::encoding_pieces::{EncodedRow, fitting_rows, plain_rows};
 use crate::kept_places::kept_blocks;
-use au_blocks::{Block, Column};
+use au_blocks::{Alternatives, Blocks, Column, Extent};
 use au_expr::EvalFault;
 use au_par::{NoGate, Piece, by_drawn_pieces};
 use au_plain::PRow;
@@ -24,21 +25,22 @@ use std::thread::Threads;
 #[derive(Clone, Copy)]
 pub(crate) struct Keeping<'a> {
     columns: &'a [Column],
+    rows: &'a Alternatives,
     places: &'a [usize],
 }
 
-impl<'a> Piece<Block, EncodedRow> for Keeping<'a> {
-    ghost takes = { λ w block. IsBlockTable (table_of w.columns.now (block ∷ [])) };
+impl<'a> Piece<Extent, EncodedRow> for Keeping<'a> {
+    ghost takes = { λ w e. IsWithin w.rows.now e × IsBlockTable (table_of w.columns.now (held w.rows.now (e ∷ []))) };
 
-    ghost results = { λ w blocks. map (kept w.places.now) (encode (bounded_blocks blocks)) };
+    ghost results = { λ w es. map (kept w.places.now) (encode (bounded_blocks (held w.rows.now es))) };
 
     ghost overflows = { λ _ _. false };
 
-    fn work(&self, alloc: Global, blocks: &[Block]) -> Result<Vec<EncodedRow>, EvalFault> {
-        kept_piece(alloc, self.columns, blocks, self.places)
+    fn work(&self, alloc: Global, extents: &[Extent]) -> Result<Vec<EncodedRow>, EvalFault> {
+        kept_piece(alloc, self.columns, self.rows, extents, self.places)
     }
 
-    ghost results_join = { λ w xs ys _ _. kept_apart w.places.now xs ys };
+    ghost results_join = { λ w xs ys _ _. kept_extents (held w.rows.now) (held_apart w.rows.now) w.places.now xs ys };
 
     ghost overflows_join = { λ _ _ _ _ _. refl };
 
@@ -56,7 +58,7 @@ pub fn encoded_places_by<R: Threads + Sync>(
     alloc: Global,
     workers: usize,
     columns: &[Column],
-    blocks: &[Block],
+    blocks: &Blocks<'_>,
     places: &[usize],
 ) -> Result<Vec<PRow>, NoMemory>
     requires workers { 1 ≤ workers }
@@ -67,8 +69,13 @@ pub fn encoded_places_by<R: Threads + Sync>(
     if workers == 1 {
         return kept_blocks(alloc, columns, blocks, places);
     }
-    let work = Keeping { columns, places };
-    match by_drawn_pieces(rt, alloc, blocks, workers, &work, &NoGate) {
+    let (rows, extents) = blocks.parts();
+    let work = Keeping {
+        columns,
+        rows,
+        places,
+    };
+    match by_drawn_pieces(rt, alloc, extents, workers, &work, &NoGate) {
         Ok(made) => plain_rows(alloc, made),
         Err(EvalFault::NoMemory) => Err(NoMemory),
         Err(EvalFault::Overflow) => unreachable!(),
@@ -79,16 +86,17 @@ pub fn encoded_places_by<R: Threads + Sync>(
 fn kept_piece(
     alloc: Global,
     columns: &[Column],
-    blocks: &[Block],
+    rows: &Alternatives,
+    extents: &[Extent],
     places: &[usize],
 ) -> Result<Vec<EncodedRow>, EvalFault>
-    requires { All (λ block. IsBlockTable (table_of columns.now (block ∷ []))) blocks.now }
-    ensures { MatchResult result (λ v. v.items ≡ map (kept places.now) (encode (bounded_blocks blocks.now))) (λ f. f ≡ fault.NoMemory) }
+    requires { All (λ e. IsWithin rows.now e × IsBlockTable (table_of columns.now (held rows.now (e ∷ [])))) extents.now }
+    ensures { MatchResult result (λ v. v.items ≡ map (kept places.now) (encode (bounded_blocks (held rows.now extents.now)))) (λ f. f ≡ fault.NoMemory) }
 {
-    if blocks.is_empty() {
+    if extents.is_empty() {
         return Ok(Vec::new(alloc));
     }
-    match piece_rows(alloc, columns, blocks, places) {
+    match piece_rows(alloc, columns, &Blocks::of(rows, extents), places) {
         Ok(made) => Ok(made),
         Err(NoMemory) => Err(EvalFault::NoMemory),
     }
@@ -98,7 +106,7 @@ fn kept_piece(
 fn piece_rows(
     alloc: Global,
     columns: &[Column],
-    blocks: &[Block],
+    blocks: &Blocks<'_>,
     places: &[usize],
 ) -> Result<Vec<EncodedRow>, NoMemory>
     requires { IsBlockTable (table_of columns.now blocks.now) }

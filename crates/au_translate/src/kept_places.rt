@@ -4,6 +4,7 @@ ghost use Rattle.std.specs.List.{AllByRecursion, list_all};
 ghost use Rattle.au_value.specs.declared.kinds.Kind.{Kind};
 ghost use Rattle.au_expr.specs.Figures.{fit};
 ghost use Rattle.au_expr.specs.Numbers.{number_if_any};
+ghost use Rattle.au_blocks.specs.Scalars.{scalar_value};
 ghost use Rattle.au_blocks.specs.Tables.{IsBlockTable, fits_kinds, table};
 ghost use Rattle.au_algebra.specs.Entries.{entry};
 ghost use Rattle.au_algebra.specs.Lists.{value_at};
@@ -12,11 +13,12 @@ ghost use Rattle.au_plain.specs.PlanKinds.{FitRows, row_fits};
 ghost use Rattle.au_encode.specs.Encode.{encode, encode_cells, encode_counts, encode_row};
 ghost use Rattle.au_translate.specs.Translate.{bounded_blocks, candidate_cell, ranges_of, marked_or_first as marked_or_first_of, span_in};
 
-use crate::bounds::{greatest_end, least_end, marked_or_first, triple};
+use crate::bounds::{greatest_end, guess, least_end, marked_or_first, triple};
+use crate::encodings::copied;
 use au_annot::{Annot, Count, Triple};
-use au_blocks::{Block, Cell, Column};
+use au_blocks::{Alternative, Block, Blocks, Column, Scalar};
 use au_plain::PRow;
-use au_value::{NoMemory, Value, copy};
+use au_value::{NoMemory, Value};
 use std::alloc::Global;
 
 /// The values in these places of the encoded rows of some blocks of a table of these columns, in block order.
@@ -25,7 +27,7 @@ use std::alloc::Global;
 pub(crate) fn kept_blocks(
     alloc: Global,
     columns: &[Column],
-    blocks: &[Block],
+    blocks: &Blocks<'_>,
     places: &[usize],
 ) -> Result<Vec<PRow>, NoMemory>
     requires { IsBlockTable (table columns.now blocks.now) }
@@ -33,8 +35,8 @@ pub(crate) fn kept_blocks(
     ensures fit { IfOk result (λ rows. FitRows (map (λ row. row.items) rows.items)) }
 {
     let mut rows = Vec::with_capacity(alloc, blocks.len())?;
-    for block in blocks {
-        push_kept(alloc, &mut rows, block, places)?;
+    for place in 0..blocks.len() {
+        push_kept(alloc, &mut rows, &blocks.get(place), places)?;
     }
     Ok(rows)
 }
@@ -43,7 +45,7 @@ pub(crate) fn kept_blocks(
 fn push_kept(
     alloc: Global,
     rows: &mut Vec<PRow>,
-    block: &Block,
+    block: &Block<'_>,
     places: &[usize],
 ) -> Result<(), NoMemory>
     requires { (ks : List Kind) × IsTrue (list_all (λ a. fits_kinds ks a.cells) block.now.alternatives) }
@@ -61,7 +63,7 @@ fn push_kept(
 // The values in these places of the encoded row of a block's ranges with a triple.
 fn kept_row(
     alloc: Global,
-    block: &Block,
+    block: &Block<'_>,
     triple: Triple,
     places: &[usize],
 ) -> Result<PRow, NoMemory>
@@ -69,40 +71,47 @@ fn kept_row(
     ensures row { IfOk result (λ row. row.items ≡ kept places.now (encode_row (entry (ranges_of block.now) triple))) }
     ensures fits { IfOk result (λ row. row_fits row.items ≡ true) }
 {
-    let cells = marked_or_first(block);
+    let shown = marked_or_first(block);
     let mut row = Vec::with_capacity(alloc, places.len())?;
     for place in places {
-        row.push_reserved(value_in(block, cells, triple, *place)?);
+        row.push_reserved(value_in(block, &shown, triple, *place)?);
     }
     Ok(row)
 }
 
-// The value in a place of that row, of which these cells are shown: three for each cell, then the counts, and 0 past them.
-fn value_in(block: &Block, cells: &[Cell], triple: Triple, place: usize) -> Result<Value, NoMemory>
+// The value in a place of that row, of which this alternative is shown: three for each cell, then the counts, and 0 past them.
+fn value_in<'a>(
+    block: &Block<'a>,
+    shown: &Alternative<'a>,
+    triple: Triple,
+    place: usize,
+) -> Result<Value, NoMemory>
     requires kinds { (ks : List Kind) × IsTrue (list_all (λ a. fits_kinds ks a.cells) block.now.alternatives) }
-    requires cells { cells.now ≡ (marked_or_first_of block.now).cells }
+    requires shown { shown.now ≡ marked_or_first_of block.now }
     requires place { slice_get block.now.alternatives (unwrap_or block.now.guess 0) ≡ Some (marked_or_first_of block.now) }
     ensures value { IfOk result (λ v. v ≡ value_at (encode_row (entry (ranges_of block.now) triple)) place) }
     ensures fits { IfOk result (λ v. fit (number_if_any v) ≡ true) }
 {
     let at = place / 3;
-    if at < cells.len() {
-        return copied(part(block, at, &cells[at], place % 3));
+    let width = shown.width();
+    if at < width {
+        return copied(part(block, at, shown, place % 3));
     }
-    Ok(count_at(triple, place - 3 * cells.len()))
+    Ok(count_at(triple, place - 3 * width))
 }
 
-// The least value, the guess or the greatest value in a column of a block, of which the row that is shown has this cell.
-fn part<'a>(block: &'a Block, at: usize, cell: &'a Cell, number: usize) -> &'a Value
+// The least value, the guess or the greatest value in a column of a block, of which this alternative is shown.
+fn part<'a>(block: &Block<'a>, at: usize, shown: &Alternative<'a>, number: usize) -> Scalar<'a>
     requires wide { AllByRecursion (λ a. at < length a.cells) block.now.alternatives }
-    requires cell { cell.now ≡ candidate_cell at (marked_or_first_of block.now) }
+    requires shown { shown.now ≡ marked_or_first_of block.now }
+    requires within { at < length shown.now.cells }
     requires number { number < 3 }
-    ensures { result.now ≡ value_at (encode_cells (span_in block.now.alternatives at cell.now.sg ∷ [])) number }
+    ensures { scalar_value result ≡ value_at (encode_cells (span_in block.now.alternatives at (candidate_cell at shown.now).sg ∷ [])) number }
 {
     match number {
-        0 => least_end(block, at, cell),
-        1 => cell.sg(),
-        _ => greatest_end(block, at, cell),
+        0 => least_end(block, at, shown),
+        1 => guess(shown, at),
+        _ => greatest_end(block, at, shown),
     }
 }
 
@@ -118,15 +127,4 @@ fn count_at(triple: Triple, number: usize) -> Value
         _ => Count::zero(),
     };
     Value::Int(count.get() as i128)
-}
-
-// A copy of a value. Its number, if it is one, lies in the range of its type.
-fn copied(value: &Value) -> Result<Value, NoMemory>
-    ensures value { IfOk result (λ v. v ≡ value.now) }
-    ensures fits { IfOk result (λ v. fit (number_if_any v) ≡ true) }
-{
-    match value {
-        Value::Int(n) => Ok(Value::Int(*n)),
-        Value::Text(_) | Value::Flag(_) => copy(value),
-    }
 }

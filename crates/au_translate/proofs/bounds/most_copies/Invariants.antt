@@ -4,5 +4,5 @@ use Rattle.std.specs.Prelude.{fold}
 use Rattle.au_translate.specs.Translate.{greatest_number}
 use Rattle.au_translate.proofs.bounds.most_copies.Given as goal
 
-abbrev pub invariant-loop-alternative : goal.invariant-loop-alternative
-invariant-loop-alternative l = fold max l.most (map (λ a. a.copies.most) (drop l.alternative-index l.alternatives)) ≡ greatest_number (map (λ a. a.copies.most) l.alternatives)
+abbrev pub invariant-loop-place : goal.invariant-loop-place
+invariant-loop-place l = fold max l.most (map (λ a. a.copies.most) (drop l.place l.alternatives)) ≡ greatest_number (map (λ a. a.copies.most) l.alternatives)

@@ -1,23 +1,28 @@
--- The alternatives fit some kinds, and the row that is shown is one of them.
-use Rattle.std.proofs.Common.{◌≡◌, ◌<◌, ap, length, pos, unwrap_or, refl, sym, subst}
-use Rattle.std.specs.Prelude.{Some, slice_get}
-use Rattle.std.proofs.lemmas.Option.{slice_get_read}
-use Rattle.au_value.specs.declared.value.Value.TheVariants.{Int}
-use Rattle.au_value.specs.Ranges.{certain}
-use Rattle.au_translate.proofs.ShownCells.{wide}
+-- The alternatives fit some kinds, the row that is shown is one of them, and the range of a column is the next one.
+use Rattle.std.proofs.Common.{◌<◌, ◌+◌, ◌∙◌, [], ◌∷◌, ap, drop, length, subst}
+use Rattle.au_value.specs.Ranges.{guesses}
+use Rattle.au_encode.specs.Encode.{encode_cells}
+use Rattle.au_translate.specs.Translate.{candidate_cell, span_in}
+use Rattle.au_translate.proofs.Alternatives.{spans_from}
+use Rattle.au_translate.proofs.Places.{next_part}
+use Rattle.au_translate.proofs.ShownCells.{next_span, wide}
 use Rattle.au_translate.proofs.encodings.encoded_row.Goals as goal
 
-pub ends-requires-clause-wide : goal.ends-requires-clause-wide
-ends-requires-clause-wide c =
-    let at = c.loop-at.at in
-    let low = subst (λ cs. at < length cs) c.marked_or_first-cells.ensures.of c.loop-at-test.true in
-    wide c.requires.0 c.args.block.now c.requires.1 c.marked_or_first-cells.ensures.place at low
+pub push_column-requires-clause-wide : goal.push_column-requires-clause-wide
+push_column-requires-clause-wide c =
+    let low = subst (λ n. c.loop-at.at < n) (c.width-at-end.ensures ∙ ap (λ a. length a.cells) c.marked_or_first-shown.ensures.of) c.loop-at-test.true in
+    wide c.requires.0 c.args.block.now c.requires.1 c.marked_or_first-shown.ensures.place c.loop-at.at low
 
-pub ends-requires-clause-cell : goal.ends-requires-clause-cell
-ends-requires-clause-cell c =
-    let cells = c.marked_or_first-cells.result.now in
+pub loop-at-preserved : goal.loop-at-preserved
+loop-at-preserved c =
+    let alternatives = c.args.block.now.alternatives in
+    let shown = c.marked_or_first-shown.result in
     let at = c.loop-at.at in
-    let u = c.index-cells-at.result in
-    let found = slice_get_read cells (length cells) at u refl c.loop-at-test.true c.index-cells-at.is in
-    let shown_here = subst (λ cs. slice_get cs at ≡ Some u) c.marked_or_first-cells.ensures.of found in
-    sym (ap (λ o. unwrap_or o (certain (Int (pos 0)))) shown_here)
+    let low = subst (λ n. at < n) c.width-at-end.ensures c.loop-at-test.true in
+    let here = encode_cells (span_in alternatives at (candidate_cell at shown).sg ∷ []) in
+    let later = encode_cells (spans_from alternatives (at + 1) (guesses (drop (at + 1) shown.cells))) in
+    let left = encode_cells (spans_from alternatives at (guesses (drop at shown.cells))) in
+    record {
+      values = next_part c.loop-at.row.items here later left _ _ c.in_ok-push_column.ensures.row (ap encode_cells (next_span alternatives shown at low)) c.loop-at.invariant.values;
+      fits = c.in_ok-push_column.ensures.fits c.loop-at.invariant.fits;
+    }

@@ -9,6 +9,6 @@ use Rattle.au_translate.proofs.encodings.encoded_row.Given as goal
 
 abbrev pub invariant-loop-at : goal.invariant-loop-at
 invariant-loop-at l = record {
-  values : l.row.items ++ encode_cells (spans_from l.block.alternatives l.at (guesses (drop l.at l.cells))) ≡ encode_cells (ranges_of l.block);
+  values : l.row.items ++ encode_cells (spans_from l.block.alternatives l.at (guesses (drop l.at l.shown.cells))) ≡ encode_cells (ranges_of l.block);
   fits : row_fits l.row.items ≡ true;
 }

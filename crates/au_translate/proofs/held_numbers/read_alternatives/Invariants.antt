@@ -4,5 +4,5 @@ use Rattle.std.specs.List.{AllByRecursion}
 use Rattle.au_translate.specs.HeldNumbers.{FitCandidate}
 use Rattle.au_translate.proofs.held_numbers.read_alternatives.Given as goal
 
-abbrev pub invariant-loop-alternative : goal.invariant-loop-alternative
-invariant-loop-alternative l = AllByRecursion FitCandidate (drop l.alternative-index l.alternatives) → AllByRecursion FitCandidate l.alternatives
+abbrev pub invariant-loop-place : goal.invariant-loop-place
+invariant-loop-place l = AllByRecursion FitCandidate (drop l.place l.alternatives) → AllByRecursion FitCandidate l.alternatives

@@ -4,5 +4,5 @@ use Rattle.std.specs.List.{AllByRecursion}
 use Rattle.au_translate.specs.HeldNumbers.{FitSpan}
 use Rattle.au_translate.proofs.held_numbers.read_cells.Given as goal
 
-abbrev pub invariant-loop-cell : goal.invariant-loop-cell
-invariant-loop-cell l = AllByRecursion FitSpan (drop l.cell-index l.cells) → AllByRecursion FitSpan l.cells
+abbrev pub invariant-loop-at : goal.invariant-loop-at
+invariant-loop-at l = AllByRecursion FitSpan (drop l.at l.alternative.cells) → AllByRecursion FitSpan l.alternative.cells

@@ -6,8 +6,8 @@ use Rattle.au_encode.specs.Encode.{encode}
 use Rattle.au_translate.specs.Translate.{bounded_blocks}
 use Rattle.au_translate.proofs.kept_places.kept_blocks.Given as goal
 
-abbrev pub invariant-loop-block : goal.invariant-loop-block
-invariant-loop-block l = record {
-  rows : map (λ row. row.items) l.rows.items ++ map (kept l.places) (encode (bounded_blocks (drop l.block-index l.blocks))) ≡ map (kept l.places) (encode (bounded_blocks l.blocks));
+abbrev pub invariant-loop-place : goal.invariant-loop-place
+invariant-loop-place l = record {
+  rows : map (λ row. row.items) l.rows.items ++ map (kept l.places) (encode (bounded_blocks (drop l.place l.blocks))) ≡ map (kept l.places) (encode (bounded_blocks l.blocks));
   fit : FitRows (map (λ row. row.items) l.rows.items);
 }

@@ -1,32 +1,37 @@
--- The alternatives fit some kinds, the row that is shown is one of them, and the ends of a column are those of a range.
-use Rattle.std.proofs.Common.{◌≡◌, ◌<◌, ap, length, pos, unwrap_or, refl, sym, subst}
-use Rattle.std.specs.Prelude.{Some, slice_get}
-use Rattle.au_value.specs.declared.value.Value.TheVariants.{Int}
-use Rattle.au_value.specs.Ranges.{certain}
-use Rattle.std.proofs.lemmas.Option.{slice_get_read}
-use Rattle.au_translate.proofs.ShownCells.{shown_range, wide}
+-- The alternatives fit some kinds, the row that is shown is one of them, and the range of a column is the next one.
+use Rattle.std.proofs.Common.{◌≤◌, ◌<◌, ◌+◌, ◌∙◌, [], ◌∷◌, ◌++◌, ap, drop, length, subst, sym}
+use Rattle.au_value.specs.Ranges.{IsRange, guesses}
+use Rattle.au_translate.specs.Translate.{candidate_cell, span_in}
+use Rattle.au_translate.proofs.Alternatives.{spans_from}
+use Rattle.au_translate.proofs.Places.{next_part}
+use Rattle.au_translate.proofs.ShownCells.{next_span, shown_range, wide}
 use Rattle.au_translate.proofs.relations.ranges.Goals as goal
 
-pub ends-requires-clause-wide : goal.ends-requires-clause-wide
-ends-requires-clause-wide c =
-    let at = c.loop-at.at in
-    let low = subst (λ cs. at < length cs) c.marked_or_first-cells.ensures.of c.loop-at-test.true in
-    wide c.requires.0 c.args.block.now c.requires.1 c.marked_or_first-cells.ensures.place at low
+pub column_range-requires-clause-wide : goal.column_range-requires-clause-wide
+column_range-requires-clause-wide c =
+    let low = subst (λ n. c.loop-at.at < n) (c.width-at-end.ensures ∙ ap (λ a. length a.cells) c.marked_or_first-shown.ensures.of) c.loop-at-test.true in
+    wide c.requires.0 c.args.block.now c.requires.1 c.marked_or_first-shown.ensures.place c.loop-at.at low
 
-pub ends-requires-clause-cell : goal.ends-requires-clause-cell
-ends-requires-clause-cell c =
-    let cells = c.marked_or_first-cells.result.now in
-    let at = c.loop-at.at in
-    let u = c.index-cells-at.result in
-    let found = slice_get_read cells (length cells) at u refl c.loop-at-test.true c.index-cells-at.is in
-    let shown_here = subst (λ cs. slice_get cs at ≡ Some u) c.marked_or_first-cells.ensures.of found in
-    sym (ap (λ o. unwrap_or o (certain (Int (pos 0)))) shown_here)
+pub column_range-requires-clause-range : goal.column_range-requires-clause-range
+column_range-requires-clause-range c =
+    let b = c.args.block.now in
+    let low = subst (λ n. c.loop-at.at < n) (c.width-at-end.ensures ∙ ap (λ a. length a.cells) c.marked_or_first-shown.ensures.of) c.loop-at-test.true in
+    subst (λ a. IsRange (span_in b.alternatives c.loop-at.at (candidate_cell c.loop-at.at a).sg)) (sym c.marked_or_first-shown.ensures.of)
+    (shown_range c.requires.0 b c.requires.1 c.marked_or_first-shown.ensures.place c.loop-at.at low)
 
-pub copied-requires : goal.copied-requires
-copied-requires c =
-    let cells = c.marked_or_first-cells.result.now in
+pub loop-at-preserved : goal.loop-at-preserved
+loop-at-preserved c =
+    let alternatives = c.args.block.now.alternatives in
+    let shown = c.marked_or_first-shown.result in
     let at = c.loop-at.at in
-    let u = c.index-cells-at.result in
-    let found = slice_get_read cells (length cells) at u refl c.loop-at-test.true c.index-cells-at.is in
-    let shown_here = subst (λ cs. slice_get cs at ≡ Some u) c.marked_or_first-cells.ensures.of found in
-    rw (c.ends.ensures.least, c.sg.ensures, c.ends.ensures.greatest) (shown_range c.requires.0 c.args.block.now c.requires.1 c.marked_or_first-cells.ensures.place at u shown_here)
+    let low = subst (λ n. at < n) c.width-at-end.ensures c.loop-at-test.true in
+    let here = span_in alternatives at (candidate_cell at shown).sg in
+    let later = spans_from alternatives (at + 1) (guesses (drop (at + 1) shown.cells)) in
+    let left = spans_from alternatives at (guesses (drop at shown.cells)) in
+    let done = c.loop-at.ranges.items in
+    let pushed = c.push_reserved.ensures.items ∙ ap (λ r. done ++ (r ∷ [])) c.in_ok-range.ensures in
+    record {
+      ranges = next_part done (here ∷ []) later left _ _ pushed (next_span alternatives shown at low) c.loop-at.invariant.ranges;
+      made = c.push_reserved.ensures.len ∙ ap (λ n. n + 1) c.loop-at.invariant.made;
+      room = subst (λ n. length shown.cells ≤ n) (sym c.push_reserved.ensures.capacity) c.loop-at.invariant.room;
+    }

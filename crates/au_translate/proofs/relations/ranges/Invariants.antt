@@ -8,7 +8,7 @@ use Rattle.au_translate.proofs.relations.ranges.Given as goal
 
 abbrev pub invariant-loop-at : goal.invariant-loop-at
 invariant-loop-at l = record {
-  ranges : l.ranges.items ++ spans_from l.block.alternatives l.at (guesses (drop l.at l.cells)) ≡ ranges_of l.block;
+  ranges : l.ranges.items ++ spans_from l.block.alternatives l.at (guesses (drop l.at l.shown.cells)) ≡ ranges_of l.block;
   made : vec_len l.ranges ≡ l.at;
-  room : length l.cells ≤ vec_capacity l.ranges;
+  room : length l.shown.cells ≤ vec_capacity l.ranges;
 }
