@@ -1,5 +1,5 @@
 -- The records of a text without double quotes are those of the lines up to a line's end and those of the lines behind it.
-use Rattle.std.proofs.Common.{◌≡◌, ℕ, zero, suc, ◌+◌, ◌<◌, ◌≤◌, Bool, true, false, List, [], ◌∷◌, ◌++◌, length, Option, Some, None, refl, ap, sym, ◌∙◌, arith, add-zero, subst, append_assoc, inl, inr, Ok, Err, IfOk, Result, Vec, Global, take, drop, ◌||◌, ◌&&◌}
+use Rattle.std.proofs.Common.{◌≡◌, ℕ, zero, suc, ◌+◌, ◌<◌, ◌≤◌, Bool, true, false, List, [], ◌∷◌, ◌++◌, length, Option, Some, None, refl, ap, sym, ◌∙◌, arith, add-zero, subst, append_assoc, inl, inr, Ok, Err, IfOk, Result, take, drop, ◌||◌, ◌&&◌}
 use Rattle.std.specs.Prelude.{if◌then◌else◌, ◌==◌, get_or, cond, nat_lt, not, position}
 use Rattle.std.specs.List.{list_all, position_or_len}
 use Rattle.std.proofs.lemmas.Bool.{cases_Bool, ltb-false}
@@ -282,11 +282,11 @@ text_records-cut bytes end rs qs ends plain left right =
     joined bytes rs qs both lines.1 others.1
 
 -- what is put together of the records of both parts
-pub text_records-together : (bytes left right : List ℕ) (end : ℕ) (a b r : Result (Vec Record Global) CsvFault) → EndsLine bytes end → is_quoted bytes ≡ false
-    → left ≡ take (end + 1) bytes → right ≡ drop (end + 1) bytes → IfOk a (λ rs. text_records left ≡ Ok rs.items) → IfOk b (λ rs. text_records right ≡ Ok rs.items)
-    → IfOk r (λ rs. (xs ys : Vec Record Global) × (a ≡ Ok xs) × (b ≡ Ok ys) × (rs.items ≡ xs.items ++ ys.items)) → IfOk r (λ rs. text_records bytes ≡ Ok rs.items)
+pub text_records-together : (bytes left right : List ℕ) (end : ℕ) (a b r : Result (List Record) CsvFault) → EndsLine bytes end → is_quoted bytes ≡ false
+    → left ≡ take (end + 1) bytes → right ≡ drop (end + 1) bytes → IfOk a (λ rs. text_records left ≡ Ok rs) → IfOk b (λ rs. text_records right ≡ Ok rs)
+    → IfOk r (λ rs. (xs ys : List Record) × (a ≡ Ok xs) × (b ≡ Ok ys) × (rs ≡ xs ++ ys)) → IfOk r (λ rs. text_records bytes ≡ Ok rs)
 text_records-together bytes left right end a b (Err e) ends plain front back first second both = tt
 text_records-together bytes left right end a b (Ok rs) ends plain front back first second both =
-    let lines : text_records left ≡ Ok both.0.items = subst (λ t. IfOk t (λ rs. text_records left ≡ Ok rs.items)) both.2 first in
-    let others : text_records right ≡ Ok both.1.items = subst (λ t. IfOk t (λ rs. text_records right ≡ Ok rs.items)) both.3 second in
-    text_records-cut bytes end both.0.items both.1.items ends plain (rw front at lines) (rw back at others) ∙ ap Ok (sym both.4)
+    let lines : text_records left ≡ Ok both.0 = subst (λ t. IfOk t (λ rs. text_records left ≡ Ok rs)) both.2 first in
+    let others : text_records right ≡ Ok both.1 = subst (λ t. IfOk t (λ rs. text_records right ≡ Ok rs)) both.3 second in
+    text_records-cut bytes end both.0 both.1 ends plain (rw front at lines) (rw back at others) ∙ ap Ok (sym both.4)

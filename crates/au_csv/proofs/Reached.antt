@@ -1,11 +1,13 @@
 -- What a reader gives in turn, up to the end, is the list of records of the text.
-use Rattle.std.proofs.Common.{◌≡◌, ℕ, zero, suc, ◌+◌, ◌≤◌, Bool, true, false, List, [], ◌∷◌, ◌++◌, length, Some, None, refl, ap, ◌∙◌, arith, subst}
+use Rattle.std.proofs.Common.{◌≡◌, ℕ, zero, suc, ◌+◌, ◌≤◌, Bool, true, false, List, [], ◌∷◌, ◌++◌, length, Some, None, refl, ap, sym, ◌∙◌, arith, subst}
 use Rattle.std.specs.Prelude.{Option, if◌then◌else◌}
 use Rattle.csv.specs.declared.parser.Config.{Config}
 use Rattle.csv.specs.declared.parser.State.{State}
 use Rattle.csv.specs.declared.parser.State.TheVariants as st
 use Rattle.csv.specs.Machine.{Read, next_record, is_end, step, fields_after, field_after, ends_at_end}
-use Rattle.csv.specs.Reading.{Reached, AreRecords, default_config, is_bom, records, records_from, records_next, strip_bom}
+use Rattle.csv.specs.Reading.{Reached, AreRecords, NextIs, ReadsNext, TookRecord, default_config, is_bom, pending_of, records, records_from, records_next, source_of, strip_bom}
+use Rattle.csv.specs.declared.reader.Reader.{Reader}
+use Rattle.csv.proofs.ReadFacts.{reached-more}
 
 -- a record takes at least one byte, where there is one
 shorter_step : (b : Bool) (p q : Read) (more : Option Read) (n : ℕ) → length q.2 ≤ n → ((r : Read) → more ≡ Some r → length r.2 ≤ n)
@@ -97,3 +99,20 @@ records-fit xs ys s rows reached =
     let fit = rows_fit default_config rows st.StartRecord s (strip_bom xs) ys reached in
     let shorter = strip_bom-le xs in
     omega arith
+
+-- records in turn, and a record more that a reader took
+next_taken : (o : Option Read) (f : List (List ℕ)) (s : State) (z : List ℕ) → NextIs o true f s z → (p : Read) × (o ≡ Some p) × (f ≡ p.0)
+next_taken None f s z is = cc is
+next_taken (Some p) f s z is = (p, refl, is.1)
+
+taken_more : (cfg : Config) (s0 s s2 : State) (xs ys : List ℕ) (rows : List (List (List ℕ))) (f : List (List ℕ)) (after : Option (List ℕ))
+    → ReadsNext cfg s (Some ys) after true f s2 → Reached cfg s0 xs rows s ys → (p : Read) × Reached cfg s0 xs (rows ++ f ∷ []) p.1 p.2
+taken_more cfg s0 s s2 xs ys rows f None took reached = absurd took
+taken_more cfg s0 s s2 xs ys rows f (Some z) took reached =
+    let next = next_taken (next_record cfg s [] [] ys) f s2 z took in
+    (next.0, subst (λ r. Reached cfg s0 xs (rows ++ r ∷ []) next.0.1 next.0.2) (sym next.2) (reached-more cfg s0 s xs ys rows next.0 reached next.1))
+
+pub rows-taken : {R : Type 0} (rem : R → Option (List ℕ)) (a b : Reader R) (f : List (List ℕ)) (cfg : Config) (s0 : State) (xs ys : List ℕ) (rows : List (List (List ℕ)))
+    → a.config ≡ cfg → source_of rem a ≡ Some ys → Reached cfg s0 xs rows a.state ys → TookRecord rem a b f → (p : Read) × Reached cfg s0 xs (rows ++ f ∷ []) p.1 p.2
+rows-taken rem a b f cfg s0 xs ys rows config source reached took =
+    taken_more cfg s0 a.state b.state xs ys rows f (pending_of (rem b.rdr) b) (rw (config, source) at took) reached

@@ -1,2 +1,4 @@
+pub mod Faults
+pub mod Flat
 pub mod Texts
 pub mod Pieces

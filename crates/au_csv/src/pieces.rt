@@ -1,13 +1,12 @@
 //! The records of a text that several workers read.
-ghost use Rattle.std.specs.Prelude.{◌≡◌, ◌⊎◌, ◌+◌, ◌<◌, ◌≤◌, ◌++◌, false, Ok, Err, IfOk, IfErr, IfSome, Vec};
-ghost use Rattle.std.specs.declared.alloc.Global.{Global as TheGlobal};
+ghost use Rattle.std.specs.Prelude.{◌≡◌, ◌⊎◌, ◌+◌, ◌<◌, ◌≤◌, ◌++◌, false, Ok, Err, IfOk, IfErr, IfSome, List};
 ghost use Rattle.au_csv.specs.Pieces.{EndsLine, is_quoted};
 ghost use Rattle.au_csv.specs.Texts.{Record, text_records};
 ghost use denote.Param.Send.{IsSync};
 
 use crate::faults::CsvFault;
+use crate::parts::Records;
 use crate::read::records;
-use crate::rec::Rec;
 use std::alloc::Global;
 use std::thread::{Threads, join};
 
@@ -22,9 +21,9 @@ pub fn records_by<R: Threads + Sync>(
     alloc: Global,
     workers: usize,
     bytes: &[u8],
-) -> Result<Vec<Rec>, CsvFault>
+) -> Result<Records, CsvFault>
     requires { 1 ≤ workers }
-    ensures records { IfOk result (λ rs. text_records bytes.now ≡ Ok rs.items) }
+    ensures records { IfOk result (λ rs. text_records bytes.now ≡ Ok rs) }
     ensures fault { IfErr result (λ e. (e ≡ CsvFault.NoMemory) ⊎ (text_records bytes.now ≡ Err e)) }
 {
     let pieces = workers.min(bytes.len() / FEW);
@@ -47,9 +46,9 @@ fn in_pieces<R: Threads + Sync>(
     alloc: Global,
     pieces: usize,
     bytes: &[u8],
-) -> Result<Vec<Rec>, CsvFault>
+) -> Result<Records, CsvFault>
     requires { is_quoted bytes.now ≡ false }
-    ensures { IfOk result (λ rs. text_records bytes.now ≡ Ok rs.items) }
+    ensures { IfOk result (λ rs. text_records bytes.now ≡ Ok rs) }
 {
     if pieces < 2 {
         return records(alloc, bytes);
@@ -58,14 +57,14 @@ fn in_pieces<R: Threads + Sync>(
         return records(alloc, bytes);
     };
     let (left, right) = bytes.split_at(end + 1);
-    let front = move || -> Result<Vec<Rec>, CsvFault>
+    let front = move || -> Result<Records, CsvFault>
         requires { is_quoted left.now ≡ false }
-        ensures { IfOk result (λ rs. text_records left.entry.now ≡ Ok rs.items) }
+        ensures { IfOk result (λ rs. text_records left.entry.now ≡ Ok rs) }
     { records(alloc, left) };
     let others = pieces - 1;
-    let back = move || -> Result<Vec<Rec>, CsvFault>
+    let back = move || -> Result<Records, CsvFault>
         requires { IsSync R.row × (is_quoted right.now ≡ false) }
-        ensures { IfOk result (λ rs. text_records right.entry.now ≡ Ok rs.items) }
+        ensures { IfOk result (λ rs. text_records right.entry.now ≡ Ok rs) }
     { in_pieces(rt, alloc, others, right) };
     let (a, b) = join(rt, front, back);
     put_together(a, b)
@@ -86,13 +85,13 @@ fn line_end(bytes: &[u8], from: usize) -> Option<usize>
 
 // The records of two pieces, in order.
 fn put_together(
-    left: Result<Vec<Rec>, CsvFault>,
-    right: Result<Vec<Rec>, CsvFault>,
-) -> Result<Vec<Rec>, CsvFault>
-    ensures { IfOk result (λ rs. (xs ys : Vec Record TheGlobal) × (left ≡ Ok xs) × (right ≡ Ok ys) × (rs.items ≡ xs.items ++ ys.items)) }
+    left: Result<Records, CsvFault>,
+    right: Result<Records, CsvFault>,
+) -> Result<Records, CsvFault>
+    ensures { IfOk result (λ rs. (xs ys : List Record) × (left ≡ Ok xs) × (right ≡ Ok ys) × (rs ≡ xs ++ ys)) }
 {
-    let mut all = left?;
-    let mut rest = right?;
+    let mut all = left?.into_parts();
+    let mut rest = right?.into_parts();
     all.append(&mut rest)?;
-    Ok(all)
+    Ok(Records::of(all))
 }

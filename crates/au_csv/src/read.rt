@@ -1,42 +1,60 @@
 //! The records of a text.
-ghost use Rattle.std.specs.Prelude.{◌≡◌, ◌⊎◌, true, false, Ok, Err, IfOk, IfErr};
-ghost use Rattle.csv.specs.Records.{fields_of};
+ghost use Rattle.std.specs.Prelude.{◌≡◌, ◌⊎◌, ◌||◌, true, Ok, Err, IfOk, IfErr};
 ghost use Rattle.csv.specs.Reading.{error_kind, stops_reader};
-ghost use Rattle.au_csv.specs.Texts.{is_text, text_records};
+ghost use Rattle.au_csv.specs.Faults.{is_not_text};
+ghost use Rattle.au_csv.specs.Texts.{text_records};
 
 use crate::faults::CsvFault;
-use crate::rec::Rec;
-use csv::{ByteRecord, Error, ErrorKind, ReaderBuilder, StringRecord};
+use crate::part::{Part, push_record};
+use crate::parts::Records;
+use csv::{Error, ErrorKind, ReaderBuilder, StringRecord};
 use std::alloc::Global;
 
 // Records take no fewer bytes than these mostly, so that the room that is held for them stays in proportion to the text.
 const SHORT: usize = 16;
+
+// How many bytes are counted at once.
+const AT_ONCE: usize = 192;
 
 /// The records of a text: its fields stand between commas, and a field in double quotes may hold commas, ends of lines
 /// and doubled quotes. One byte order mark at the start is dropped. Records may differ in length, no record is a header,
 /// and blanks are kept.
 ///
 /// `NotText` comes exactly where a field isn't UTF-8, and names the first such record.
-pub fn records(alloc: Global, bytes: &[u8]) -> Result<Vec<Rec>, CsvFault>
-    ensures records { IfOk result (λ rs. text_records bytes.now ≡ Ok rs.items) }
+pub fn records(alloc: Global, bytes: &[u8]) -> Result<Records, CsvFault>
+    ensures records { IfOk result (λ rs. text_records bytes.now ≡ Ok rs) }
     ensures fault { IfErr result (λ e. (e ≡ CsvFault.NoMemory) ⊎ (text_records bytes.now ≡ Err e)) }
 {
-    let mut records = Vec::with_capacity(alloc, room_for(bytes))?;
+    match part_of(alloc, bytes) {
+        Ok(part) => Records::of_one(alloc, part),
+        Err(fault) => Err(fault),
+    }
+}
+
+// The records of a text, in one part.
+fn part_of(alloc: Global, bytes: &[u8]) -> Result<Part, CsvFault>
+    ensures records { IfOk result (λ part. text_records bytes.now ≡ Ok part) }
+    ensures fault { IfErr result (λ e. (e ≡ CsvFault.NoMemory) ⊎ (text_records bytes.now ≡ Err e)) }
+{
+    let room = room_for(bytes);
+    let mut fields = StringRecord::with_capacity(
+        alloc,
+        bytes.len(),
+        count(bytes, b',').saturating_add(room),
+    )?;
+    let mut stops = Vec::with_capacity(alloc, room)?;
     let mut reader = ReaderBuilder::new()
         .has_headers(false)
         .flexible(true)
         .from_reader(alloc, bytes);
-    let mut row = ByteRecord::new(alloc);
+    let mut row = StringRecord::new(alloc);
     // There is at most one record more than there are bytes, and then the end.
     let turns = bytes.len() as u128 + 2;
     for _ in 0..turns {
-        match reader.read_byte_record(&mut row) {
-            Ok(true) => {
-                let number = records.len();
-                records.push(text_record(&row, number)?)?;
-            }
-            Ok(false) => return Ok(records),
-            Err(error) => return Err(fault_of(&error)),
+        match reader.read_record(&mut row) {
+            Ok(true) => push_record(&mut fields, &mut stops, &row)?,
+            Ok(false) => return Ok(Part::of(fields, stops)),
+            Err(error) => return Err(fault_of(&error, stops.len())),
         }
     }
     unreachable!()
@@ -44,39 +62,40 @@ pub fn records(alloc: Global, bytes: &[u8]) -> Result<Vec<Rec>, CsvFault>
 
 // For how many records there should be room at once: a list that grows moves, and all threads wait for that.
 fn room_for(bytes: &[u8]) -> usize {
-    line_feeds(bytes).min(bytes.len() / SHORT).saturating_add(1)
+    count(bytes, b'\n')
+        .min(bytes.len() / SHORT)
+        .saturating_add(1)
 }
 
-// How many line feeds there are.
-fn line_feeds(bytes: &[u8]) -> usize {
+// How many bytes of this value there are.
+fn count(bytes: &[u8], value: u8) -> usize {
     let mut count = 0usize;
+    for few in bytes.chunks(AT_ONCE) {
+        count = count.wrapping_add(count_few(few, value) as usize);
+    }
+    count
+}
+
+// The same of at most 255 bytes: a counter of one byte is quick, since the machine adds sixteen of them at once.
+fn count_few(bytes: &[u8], value: u8) -> u8 {
+    let mut count = 0u8;
     for byte in bytes {
-        if *byte == b'\n' {
+        if *byte == value {
             count = count.wrapping_add(1);
         }
     }
     count
 }
 
-// The record of these fields, which has this number.
-fn text_record(row: &ByteRecord, number: usize) -> Result<Rec, CsvFault>
-    ensures fields { IfOk result (λ r. (r ≡ fields_of row.now) × (is_text (fields_of row.now) ≡ true)) }
-    ensures fault { IfErr result (λ e. (e ≡ CsvFault.NoMemory) ⊎ ((e ≡ CsvFault.NotText number) × (is_text (fields_of row.now) ≡ false))) }
-{
-    match StringRecord::from_byte_record(row.clone()?) {
-        Ok(fields) => Ok(Rec::of(fields)),
-        Err(_) => Err(CsvFault::NotText(number)),
-    }
-}
-
-// The fault of a reader of bytes that are in memory. A slice gives its bytes and no fault, so that the reader under them
-// never is the cause, though the reader's contract doesn't say it.
-fn fault_of(error: &Error) -> CsvFault
-    requires { stops_reader (error_kind error.now) ≡ true }
-    ensures { result ≡ CsvFault.NoMemory }
+// The fault of a reader of bytes that are in memory, whose next record has this number. A slice gives its bytes and no fault,
+// so that the reader under them never is the cause, though the reader's contract doesn't say it.
+fn fault_of(error: &Error, number: usize) -> CsvFault
+    requires { (stops_reader (error_kind error.now) || is_not_text (error_kind error.now)) ≡ true }
+    ensures { (result ≡ CsvFault.NoMemory) ⊎ ((result ≡ CsvFault.NotText number) × (is_not_text (error_kind error.now) ≡ true)) }
 {
     match error.kind() {
         ErrorKind::OutOfMemory | ErrorKind::Io(_) => CsvFault::NoMemory,
+        ErrorKind::Utf8 { .. } => CsvFault::NotText(number),
         _ => unreachable!(),
     }
 }
