@@ -3,7 +3,7 @@
 use Rattle.std.proofs.Common.{◌≡◌, ◌≤◌, ◌&&◌, ℕ, Bool, true, false, List, [], ◌∷◌, drop, map, Option, Some, None, Ok, Err, arith, refl, subst, ◌∙◌, codes, if◌then◌else◌}
 use Rattle.std.specs.Prelude.{nat_le, option_and_then, slice_index_or, unwrap_or}
 use Rattle.std.specs.Str.Parse.{digits_value}
-use Rattle.au_engine.specs.Rules.{IsCompression}
+use Rattle.au_program.specs.Rules.{IsCompression}
 use Rattle.au_words.specs.declared.fault.UsageFault.{UsageFault}
 use Rattle.au_words.specs.declared.fault.UsageFault.TheVariants.{Words}
 use Rattle.au_words.specs.declared.words.form.Verb.{Verb}

@@ -20,7 +20,7 @@ use Rattle.au_engine.specs.Answers.{IsDefect, Named, RowsHold, answer_fits, answ
 use Rattle.au_engine.specs.Certainty.{UaHolds, ua_answer_fits, ua_rows}
 use Rattle.au_engine.specs.Exchange.{IsPlanText}
 use Rattle.au_engine.specs.Explaining.{IsExplanation}
-use Rattle.au_engine.specs.declared.options.Rules.{Rules}
+use Rattle.au_program.specs.declared.rules.Rules.{Rules}
 use Rattle.au_words.specs.Words.{Request}
 use Rattle.au_words.specs.declared.answer_form.Form.{Form}
 use Rattle.au_words.specs.declared.answer_form.Form.TheVariants as form

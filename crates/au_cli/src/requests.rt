@@ -2,7 +2,7 @@
 ghost use Rattle.std.specs.Prelude.{◌≡◌, ◌≤◌, None, Some, map, Ok, IfOk, IfErr};
 ghost use Rattle.au_parse.specs.Views.{statement_tree};
 ghost use Rattle.au_parse.specs.Whole.{WholeQuery};
-ghost use Rattle.au_engine.specs.Rules.{IsCompression};
+ghost use Rattle.au_program.specs.Rules.{IsCompression};
 ghost use Rattle.au_engine.specs.Reading.{TextCause, refused_text, statement_of};
 ghost use Rattle.au_words.specs.CommandLine.{seen_request};
 ghost use Rattle.au_words.specs.Words.{greatest_workers};

@@ -1,6 +1,6 @@
 -- The answer that is asked for is the normal form of what is shown of the tree's relation, and its numbers are those of
 -- its making. It holds in every world.
-use Rattle.std.specs.Prelude.{◌≡◌, ℕ, ◌<◌, Bool, true, false, List, ◌++◌, map, Option, Some, None}
+use Rattle.std.specs.Prelude.{◌≡◌, ℕ, ◌<◌, Bool, true, false, List, ◌++◌, map, Option, Some, None, if◌then◌else◌}
 use Rattle.std.specs.List.{AllByRecursion, AllZip, list_all}
 use Rattle.std.proofs.Common.{arith, refl, sym, ◌∙◌, ap, subst}
 use Rattle.std.proofs.lemmas.Bool.{false_from_ne_true, true≢false}
@@ -8,7 +8,7 @@ use Rattle.au_value.specs.declared.kinds.Kind.{Kind}
 use Rattle.au_value.specs.Numeral.{is_i128}
 use Rattle.au_expr.specs.Figures.{Fit}
 use Rattle.au_expr.proofs.Fits.{fit_parts}
-use Rattle.au_algebra.specs.Bounded.{Bounded, normal, product}
+use Rattle.au_algebra.specs.Bounded.{Bounded, combine, normal, product}
 use Rattle.au_algebra.specs.Distribution.{Bounds}
 use Rattle.au_algebra.specs.Fits.{triple_numbers, triples_fit}
 use Rattle.au_algebra.specs.Laws.{Guesses, IsRelation}
@@ -33,15 +33,18 @@ use Rattle.au_points.specs.GroupingFits.{fits_with}
 use Rattle.au_points.specs.Points.{by_points}
 use Rattle.au_points.proofs.HullsAreGroup.{hulls_are_group}
 use Rattle.au_points.proofs.Laws.{any_product_by_points}
+use Rattle.au_program.specs.Rules.{IsCompression, grouping_by, pair_numbers, pairs_by, tree_numbers, tree_rows}
+use Rattle.au_program.specs.declared.rules.Rules.{Rules}
+use Rattle.au_program.proofs.PlainRules.{numbers_by_hulls, plain_rows_are, rows_by_hulls}
 use Rattle.au_engine.specs.Answers.{Named, answer_by, answer_fits_by, blocks_of, tree_asked, tree_asked_fits}
-use Rattle.au_engine.specs.Rules.{IsCompression, grouping_by, pair_numbers, pairs_by, tree_numbers, tree_rows}
-use Rattle.au_engine.specs.declared.options.Rules.{Rules}
-use Rattle.au_engine.specs.Stages.{shown_rows}
-use Rattle.au_engine.proofs.PlainRules.{numbers_by_hulls, plain_rows_are, rows_by_hulls}
 use Rattle.au_engine.proofs.Shown.{Answered, answered}
 use Rattle.au_engine.proofs.TableRelations.{are_relations}
 
 -- ---- its rows and its numbers
+
+-- the relation that is shown
+abbrev pub shown_rows : Bool → Bounded → Bounded
+shown_rows combined rows = if combined then combine rows else rows
 
 shown_is : (combined : Bool) (xs ys : Bounded) → xs ≡ ys → normal (shown_rows combined xs) ≡ normal (shown_rows combined ys)
 shown_is combined xs ys e = ap (λ rows. normal (shown_rows combined rows)) e

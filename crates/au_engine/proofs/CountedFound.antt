@@ -17,7 +17,7 @@ use Rattle.au_rwcounted.specs.CountedRows.{AreCountsRows, CountsRow, HoldCounts,
 use Rattle.au_rwcounted.specs.Stands.{CopiesAt, copies_at, count_at}
 use Rattle.au_rwcounted.proofs.CountsHold.{counts_hold}
 use Rattle.au_rwcounted.proofs.Runs.{zip_long}
-use Rattle.au_engine.specs.CountedPlans.{FoundRows}
+use Rattle.au_engine.specs.CountedInputs.{FoundRows}
 
 -- ---- rows with one count, in whatever order
 

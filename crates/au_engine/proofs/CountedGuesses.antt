@@ -19,7 +19,7 @@ use Rattle.au_rwcounted.specs.Stands.{CopiesAt, HaveCounts, copies_at}
 use Rattle.au_rwcounted.proofs.AnswerStands.{all_answers_stand}
 use Rattle.au_rwcounted.proofs.CountsHold.{count_at_place}
 use Rattle.au_translate.specs.Translate.{guessed_table}
-use Rattle.au_engine.specs.CountedPlans.{AreCounted, FindsCounted, FoundRows}
+use Rattle.au_engine.specs.CountedInputs.{AreCounted, FindsCounted, FoundRows}
 use Rattle.au_engine.specs.CountedTables.{HaveColumns, counted_guesses, guessed_counts}
 use Rattle.au_engine.proofs.CountedFound.{hold_counts, made_columns, made_stand}
 use Rattle.au_engine.proofs.GuessTables.{all_stand, tables_kinds}

@@ -19,9 +19,10 @@ use Rattle.au_physical.specs.PhysicalMeaning.{physical_rows}
 use Rattle.au_physical.specs.Physicals.{PhysicalTree}
 use Rattle.au_rwcounted.specs.Answers.{counted_answer}
 use Rattle.au_rwcounted.specs.CountedRows.{AreCountsRows, CountsRow, count_kinds, count_value, counts_kinds, counts_rows}
-use Rattle.au_engine.specs.CountedPlans.{AreCounted, FindsCounted, FoundRows, GivesCounted, GivesRows, HasCounts}
-use Rattle.au_engine.specs.Inputs.{StandsReady}
-use Rattle.au_engine.proofs.Operators.{typed_kinds}
+use Rattle.au_program.specs.CountedPlans.{GivesCounted, GivesRows, HasCounts}
+use Rattle.au_program.specs.Inputs.{StandsReady}
+use Rattle.au_program.proofs.Operators.{typed_kinds}
+use Rattle.au_engine.specs.CountedInputs.{AreCounted, FindsCounted, FoundRows}
 
 -- ---- rows with counts have their kinds
 

@@ -14,10 +14,10 @@ use Rattle.au_print.specs.GuessTexts.{in_order}
 use Rattle.au_sqltext.specs.Records.{rows_text}
 use Rattle.au_typing.proofs.QueryKinds.{tree_is_typed}
 use Rattle.au_encode.specs.Encode.{encode}
+use Rattle.au_program.specs.Rewriting.{AreEncodable}
 use Rattle.au_engine.specs.Answers.{answer_kinds, answer_tree, blocks_of, guess_tables, relations_of}
 use Rattle.au_engine.specs.Exchange.{value_kinds}
 use Rattle.au_engine.specs.PlanAnswers.{PlansAnswer, bounded_tables, statement_rows}
-use Rattle.au_engine.specs.Rewriting.{AreEncodable}
 use Rattle.au_engine.proofs.OrderedRows.{same_order}
 use Rattle.au_engine.proofs.TableRelations.{are_relations, same_kinds}
 

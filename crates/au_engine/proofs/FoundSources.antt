@@ -8,10 +8,11 @@ use Rattle.au_blocks.specs.Tables.{BlockTable, IsBlockTable}
 use Rattle.au_translate.specs.Translate.{bounded_table}
 use Rattle.au_plain.specs.PlanKinds.{FitRows, FitTables}
 use Rattle.au_encode.specs.Encode.{encode}
-use Rattle.au_engine.specs.KeptRows.{kept_rows}
-use Rattle.au_engine.specs.Sources.{AreParts, Behind, IsAppended, IsRead, PairsOver, left_side, part_rows, right_side}
-use Rattle.au_engine.specs.Stages.{HaveSides}
-use Rattle.au_engine.specs.declared.program.sources.Pairing.{Pairing}
+use Rattle.au_program.specs.KeptRows.{kept_rows}
+use Rattle.au_program.specs.Sources.{AreParts, Behind, IsRead, PairsOver, left_side, part_rows, right_side}
+use Rattle.au_program.specs.Stages.{HaveSides}
+use Rattle.au_program.specs.declared.sources.Pairing.{Pairing}
+use Rattle.au_engine.specs.Finding.{IsAppended}
 
 -- rows that were put behind others
 pub put_behind : (First Last : List Rows → Type 0) (old new : List Rows) → First old → IsAppended Last old new → Behind First Last new

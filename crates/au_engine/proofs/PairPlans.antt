@@ -27,10 +27,10 @@ use Rattle.au_ua.specs.UaTables.{ua_table}
 use Rattle.au_ua.proofs.BlockRows.{table_relation}
 use Rattle.au_ua.proofs.CountedAnswers.{ua_answer_is_counted}
 use Rattle.au_ua.proofs.GuessFits.{Pairs, answer_pairs, tables_pairs}
-use Rattle.au_engine.specs.CountedPlans.{AreCounted, FindsCounted, FoundRows}
+use Rattle.au_program.proofs.Reordered.{permuted}
+use Rattle.au_engine.specs.CountedInputs.{AreCounted, FindsCounted, FoundRows}
 use Rattle.au_engine.specs.CountedTables.{certain_guesses}
 use Rattle.au_engine.proofs.PairTables.{same_length}
-use Rattle.au_engine.proofs.Reordered.{permuted}
 
 -- ---- a plain row with two counts, read back
 

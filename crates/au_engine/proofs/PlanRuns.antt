@@ -1,5 +1,5 @@
 -- What is shown of a tree, by the plan of its relation: what its run gives is a relation of one normal form.
-use Rattle.std.specs.Prelude.{◌≡◌, ℕ, Bool, false, true, List, [], ◌++◌, map, Some, ℤ}
+use Rattle.std.specs.Prelude.{◌≡◌, ℕ, Bool, false, true, List, [], ◌++◌, map, Some, ℤ, if◌then◌else◌}
 use Rattle.std.proofs.Common.{refl, sym, ◌∙◌, ap, subst, append-nil}
 use Rattle.std.proofs.lemmas.Bool.{false_from_ne_true}
 use Rattle.au_value.specs.declared.kinds.Kind.{Kind}
@@ -15,16 +15,20 @@ use Rattle.au_translate.specs.Translate.{bounded_table}
 use Rattle.au_plain.specs.Plans.{PlanTree}
 use Rattle.au_encode.specs.Encode.{encode}
 use Rattle.au_encode.proofs.Decoded.{rows_back}
+use Rattle.au_program.specs.Rules.{tree_numbers, tree_rows}
+use Rattle.au_program.specs.declared.rules.Rules.{Rules}
+use Rattle.au_program.specs.Stages.{Adds, AddsTree, CanRunPlan, Decodes, LeavesRange, Shows}
+use Rattle.au_program.proofs.Materialized.{combined_adds}
+use Rattle.au_program.proofs.Operators.{typed_kinds}
+use Rattle.au_program.proofs.Reordered.{normal_same}
+use Rattle.au_program.proofs.RelationColumns.{have_columns}
+use Rattle.au_program.proofs.StageRuns.{adds_relation}
 use Rattle.au_engine.specs.Answers.{Named, blocks_of, tree_asked, tree_asked_fits}
-use Rattle.au_engine.specs.Rules.{tree_numbers, tree_rows}
-use Rattle.au_engine.specs.declared.options.Rules.{Rules}
-use Rattle.au_engine.specs.Stages.{Adds, AddsTree, CanRunPlan, Decodes, LeavesRange, Shows, own_numbers, shown_rows}
-use Rattle.au_engine.proofs.AskedAnswers.{asked_is, parts_fit}
-use Rattle.au_engine.proofs.Materialized.{combined_adds}
-use Rattle.au_engine.proofs.Operators.{typed_kinds}
-use Rattle.au_engine.proofs.Reordered.{normal_same}
-use Rattle.au_engine.proofs.Shown.{have_columns}
-use Rattle.au_engine.proofs.StageRuns.{adds_relation}
+use Rattle.au_engine.proofs.AskedAnswers.{asked_is, parts_fit, shown_rows}
+
+-- the numbers of the relation that is shown
+abbrev own_numbers : Bool → Bounded → List ℤ
+own_numbers combined rows = if combined then triple_numbers (combine rows) else []
 
 -- the plan of what is shown
 shown_by :

@@ -10,7 +10,7 @@ use Rattle.au_physical.specs.PhysicalMeaning.{physical_rows}
 use Rattle.au_physical.specs.PhysicalNumbers.{physical_numbers}
 use Rattle.au_physical.specs.Physicals.{PhysicalTree}
 use Rattle.au_encode.specs.Encode.{AreEncoded}
-use Rattle.au_engine.specs.Inputs.{ReadsAll}
+use Rattle.au_program.specs.Inputs.{ReadsAll}
 use Rattle.au_engine.proofs.HeldRows.{physical_fit}
 
 module _ (whole held : List Rows) (p q : PhysicalTree) (r : ReadsAll whole held p q) where

@@ -12,7 +12,7 @@ use Rattle.au_blocks.specs.Tables.{BlockTable, IsBlockTable, column_kinds}
 use Rattle.au_encode.proofs.Decoded.{cells_length}
 use Rattle.au_translate.specs.Translate.{bounded_table}
 use Rattle.au_translate.proofs.BlockRelation.{table_relation}
-use Rattle.au_engine.specs.Scans.{IsScan, columns_from}
+use Rattle.au_program.specs.RowQueries.{IsScan, columns_from}
 use Rattle.au_engine.specs.Slicing.{slice_rows}
 
 -- the columns behind the first

@@ -1,6 +1,6 @@
 -- The numbers of an answer are those of its tree and of its rows as they are shown, and the rows of a tree whose numbers
 -- fit have triples that fit.
-use Rattle.std.proofs.Common.{◌≡◌, ℕ, suc, length, Bool, true, false, ◌&&◌, not, List, [], ◌∷◌, ◌++◌, map, filter, flat_map, take, refl, sym, ◌∙◌, ap, cond, Some, subst, if◌then◌else◌}
+use Rattle.std.proofs.Common.{◌≡◌, ℕ, length, Bool, true, false, ◌&&◌, not, List, [], ◌∷◌, ◌++◌, map, filter, flat_map, take, refl, sym, ◌∙◌, ap, cond, Some, subst, if◌then◌else◌}
 use Rattle.std.specs.Prelude.{ℤ, pos, is_some}
 use Rattle.std.specs.List.{list_all, AllByRecursion, AllZip}
 use Rattle.std.proofs.lemmas.List.{length-map}
@@ -9,7 +9,7 @@ use Rattle.au_value.specs.Order.{data_kind}
 use Rattle.au_value.specs.declared.kinds.Kind.{Kind}
 use Rattle.au_expr.specs.Numbers.{expr_numbers}
 use Rattle.au_expr.specs.OnRanges.{range_of}
-use Rattle.au_value.specs.Ranges.{Span, IsRangeOf}
+use Rattle.au_value.specs.Ranges.{Span}
 use Rattle.au_value.specs.Numeral.{is_i128}
 use Rattle.au_annot.specs.Triples.{is_none}
 use Rattle.au_algebra.specs.Entries.{entry}
@@ -169,16 +169,6 @@ rows_relation ts q ks rows typed e ok =
     (ks, subst (IsRelation ks) (sym e) (tree_relation (map column_kinds ts) (map bounded_table ts) (are_relations ts (map bounded_table ts) refl ok) q ks typed))
 
 -- ---- what holds of the answer
-
-same_length : (ks : List Kind) (cells : List Span) → AllZip IsRangeOf ks cells → length cells ≡ length ks
-same_length [] [] h = refl
-same_length [] (c ∷ cells) h = elim h [ ]
-same_length (k ∷ ks) [] h = elim h [ ]
-same_length (k ∷ ks) (c ∷ cells) h = ap suc (same_length ks cells h.1)
-
-pub have_columns : (ks : List Kind) (n : ℕ) (rows : Bounded) → length ks ≡ n → IsRelation ks rows → AllByRecursion (λ r. length r.cells ≡ n) rows
-have_columns ks n [] e h = tt
-have_columns ks n (r ∷ rows) e h = (same_length ks r.cells h.0.cells ∙ e, have_columns ks n rows e h.1)
 
 -- the answer of a tree whose kinds are these, over block tables
 pub record Answered (ts : List BlockTable) (q : Tree) (ks : List Kind) (rows : Bounded) : Type 0 where

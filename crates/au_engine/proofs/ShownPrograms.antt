@@ -13,17 +13,18 @@ use Rattle.au_physical.specs.PhysicalMeaning.{physical_rows}
 use Rattle.au_physical.specs.PhysicalNumbers.{physical_numbers}
 use Rattle.au_physical.specs.Physicals.{PhysicalTree}
 use Rattle.au_encode.specs.Encode.{AreEncoded, decode}
+use Rattle.au_program.specs.Inputs.{StandsReady}
+use Rattle.au_program.specs.Programs.{HoldsMore, ShowsTree}
+use Rattle.au_program.specs.Sources.{CanRun, Holds}
+use Rattle.au_program.specs.Stages.{AddsTree, CanRunPlan, FindsRows}
+use Rattle.au_program.specs.declared.rules.Rules.{Rules}
+use Rattle.au_program.specs.declared.sources.Sources.{Sources}
+use Rattle.au_program.proofs.CompressedPairs.{decodes, found_encoded}
+use Rattle.au_program.proofs.FoundSteps.{own_part, own_runs, own_stops, ready_stands}
+use Rattle.au_program.proofs.StageRuns.{finds, leaves, startable}
 use Rattle.au_engine.specs.Answers.{Named, blocks_of, tree_asked, tree_asked_fits}
-use Rattle.au_engine.specs.Inputs.{StandsReady}
-use Rattle.au_engine.specs.Programs.{HoldsMore, ShowsTree}
-use Rattle.au_engine.specs.Sources.{CanRun, Holds, SideStops}
-use Rattle.au_engine.specs.Stages.{AddsTree, CanRunPlan, FindsRows}
-use Rattle.au_engine.specs.declared.options.Rules.{Rules}
-use Rattle.au_engine.specs.declared.program.sources.Sources.{Sources}
-use Rattle.au_engine.proofs.CompressedPairs.{decodes, found_encoded}
-use Rattle.au_engine.proofs.FoundSteps.{own_part, own_runs, own_stops, ready_stands}
+use Rattle.au_engine.specs.Finding.{SideStops}
 use Rattle.au_engine.proofs.PlanRuns.{shown_decodes, shown_leaves, shown_runs, tree_leaves}
-use Rattle.au_engine.proofs.StageRuns.{finds, leaves, startable}
 
 module _ (rules : Rules) (combined : Bool) (ts : List Named) (q : Tree) (typed : IsTyped (map column_kinds (blocks_of ts)) q) (sources : Sources) (p : PhysicalTree) (d : ℕ)
     (s : ShowsTree rules combined (map column_kinds (blocks_of ts)) q sources p d)

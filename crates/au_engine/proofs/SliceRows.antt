@@ -31,8 +31,9 @@ use Rattle.au_blocks.specs.Tables.{IsBlockTable, fits_kinds, column_kinds, table
 use Rattle.au_translate.specs.Translate.{block_row, bounded_blocks}
 use Rattle.au_points.specs.Groupings.{Grouping, bounded_with}
 use Rattle.au_points.specs.GroupingFits.{numbers_with}
-use Rattle.au_engine.specs.Rules.{plain_rules, tree_numbers, tree_rows}
-use Rattle.au_engine.specs.Slicing.{WorksByRow, gathered_numbers, over_one, row_table, slice_numbers, slice_rows}
+use Rattle.au_program.specs.Rules.{plain_rules, tree_numbers, tree_rows}
+use Rattle.au_program.specs.RowQueries.{row_table}
+use Rattle.au_engine.specs.Slicing.{WorksByRow, gathered_numbers, over_one, slice_numbers, slice_rows}
 
 -- ---- the tree over its table alone
 

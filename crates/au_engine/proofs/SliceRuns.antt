@@ -21,24 +21,23 @@ use Rattle.au_exec.specs.RowWise.{chain_tree}
 use Rattle.au_physical.specs.Physicals.{PhysicalTree, physical_tree}
 use Rattle.au_encode.specs.Encode.{AreEncoded, decode, encode}
 use Rattle.au_encode.proofs.Decoded.{rows_back}
+use Rattle.au_program.specs.Rules.{grouping_by, pair_numbers, pairs_by, plain_rules, tree_numbers, tree_rows}
+use Rattle.au_program.specs.declared.rules.Rules.{Rules}
+use Rattle.au_program.specs.declared.program.Whole.{Whole}
+use Rattle.au_program.specs.RowQueries.{row_table}
+use Rattle.au_program.specs.Stages.{AddsTree, CanRunPlan, Decodes, FindsRows, LeavesRange}
+use Rattle.au_program.proofs.CompressedPairs.{decodes, found_encoded}
+use Rattle.au_program.proofs.Operators.{typed_kinds}
+use Rattle.au_program.proofs.PlanSteps.{tree_runs}
+use Rattle.au_program.proofs.Reordered.{normal_same}
+use Rattle.au_program.proofs.RelationColumns.{have_columns}
+use Rattle.au_program.proofs.StageRuns.{adds_relation, finds, leaves, startable}
 use Rattle.au_engine.specs.Answers.{Named, blocks_of, tree_asked, tree_asked_fits}
-use Rattle.au_engine.specs.Rules.{grouping_by, pair_numbers, pairs_by, plain_rules, tree_numbers, tree_rows}
-use Rattle.au_engine.specs.declared.options.Rules.{Rules}
-use Rattle.au_engine.specs.RowPlans.{GivesSlice, GivesSlices}
-use Rattle.au_engine.specs.SliceWork.{IsSlicer, SlicesBy}
-use Rattle.au_engine.specs.Sources.{kept_in}
-use Rattle.au_engine.specs.declared.program.program.Whole.{Whole}
+use Rattle.au_engine.specs.SliceWork.{GivesSlice, GivesSlices, IsSlicer, SlicesBy, kept_in}
 use Rattle.au_engine.specs.declared.running.slicing.Slicer.{Slicer}
-use Rattle.au_engine.specs.Slicing.{gathered_numbers, over_one, row_table, slice_numbers, slice_rows}
-use Rattle.au_engine.specs.Stages.{AddsTree, CanRunPlan, Decodes, FindsRows, LeavesRange}
+use Rattle.au_engine.specs.Slicing.{gathered_numbers, over_one, slice_numbers, slice_rows}
 use Rattle.au_engine.proofs.AskedAnswers.{asked_is, parts_fit}
-use Rattle.au_engine.proofs.CompressedPairs.{decodes, found_encoded}
-use Rattle.au_engine.proofs.Operators.{typed_kinds}
-use Rattle.au_engine.proofs.PlanSteps.{tree_runs}
-use Rattle.au_engine.proofs.Reordered.{normal_same}
-use Rattle.au_engine.proofs.Shown.{have_columns}
 use Rattle.au_engine.proofs.SliceRows.{kinds_alone, numbers_alone, rows_alone}
-use Rattle.au_engine.proofs.StageRuns.{adds_relation, finds, leaves, startable}
 
 -- ---- the plan over a slice
 

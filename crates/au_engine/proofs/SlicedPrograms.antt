@@ -13,20 +13,21 @@ use Rattle.au_translate.specs.Translate.{bounded_blocks, bounded_table}
 use Rattle.au_plain.specs.PlanKinds.{FitRows}
 use Rattle.au_physical.specs.Physicals.{PhysicalTree, physical_tree}
 use Rattle.au_encode.specs.Encode.{encode}
+use Rattle.au_program.specs.Inputs.{StandsReady}
+use Rattle.au_program.specs.KeptRows.{kept_rows}
+use Rattle.au_program.specs.Programs.{HoldsMore, ShowsTree}
+use Rattle.au_program.specs.RowPlans.{PlansRows}
+use Rattle.au_program.specs.Rules.{grouping_by, pair_numbers, pairs_by, plain_rules, tree_numbers, tree_rows}
+use Rattle.au_program.specs.Sources.{CanRun, Holds, IsRead, IsThere, is_nothing, is_only}
+use Rattle.au_program.specs.Stages.{Adds, AddsTree}
+use Rattle.au_program.specs.declared.rules.Rules.{Rules}
+use Rattle.au_program.specs.declared.program.Whole.{Whole}
+use Rattle.au_program.specs.declared.sources.Sources.{Sources}
+use Rattle.au_program.specs.declared.sources.Sources.TheVariants as code
+use Rattle.au_program.proofs.FoundSteps.{own_part, ready_stands}
 use Rattle.au_engine.specs.Answers.{Named, blocks_of}
-use Rattle.au_engine.specs.Inputs.{StandsReady}
-use Rattle.au_engine.specs.KeptRows.{kept_rows}
-use Rattle.au_engine.specs.Programs.{HoldsMore, ShowsTree}
-use Rattle.au_engine.specs.RowPlans.{GivesSlice, GivesSlices, PlansRows}
-use Rattle.au_engine.specs.Rules.{grouping_by, pair_numbers, pairs_by, plain_rules, tree_numbers, tree_rows}
+use Rattle.au_engine.specs.SliceWork.{GivesSlice, GivesSlices, kept_in}
 use Rattle.au_engine.specs.Slicing.{over_one}
-use Rattle.au_engine.specs.Sources.{CanRun, Holds, IsRead, IsThere, is_nothing, is_only, kept_in}
-use Rattle.au_engine.specs.Stages.{Adds, AddsTree}
-use Rattle.au_engine.specs.declared.options.Rules.{Rules}
-use Rattle.au_engine.specs.declared.program.program.Whole.{Whole}
-use Rattle.au_engine.specs.declared.program.sources.Sources.{Sources}
-use Rattle.au_engine.specs.declared.program.sources.Sources.TheVariants as code
-use Rattle.au_engine.proofs.FoundSteps.{own_part, ready_stands}
 use Rattle.au_engine.proofs.ShownPrograms.{shown_can}
 use Rattle.au_engine.proofs.SliceRows.{kinds_alone, numbers_alone, rows_alone}
 

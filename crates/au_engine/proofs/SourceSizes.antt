@@ -1,7 +1,7 @@
 -- How many sources there are, with those that steps and products have of their own.
 use Rattle.std.specs.Prelude.{ℕ, ◌+◌}
-use Rattle.au_engine.specs.declared.program.sources.Sources.{Sources}
-use Rattle.au_engine.specs.declared.program.sources.Sources.TheVariants as code
+use Rattle.au_program.specs.declared.sources.Sources.{Sources}
+use Rattle.au_program.specs.declared.sources.Sources.TheVariants as code
 
 abbrev pub sources_size : Sources → ℕ
 sources_size code.Nothing = 0

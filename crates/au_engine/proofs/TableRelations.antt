@@ -25,7 +25,3 @@ same_kinds (t ∷ ts) = ap (λ ks. column_kinds t.1 ∷ ks) (same_kinds ts)
 -- the table at a place
 pub table_at : (ts : List Named) (i : ℕ) (t : Named) → i < length ts → t ≡ get_or ts i t → slice_get (blocks_of ts) i ≡ Some t.1
 table_at ts i t within is = slice_get-map (λ b. b.1) ts i ∙ ap (option_map (λ b. b.1)) (slice_get_read ts (length ts) i t refl within is)
-
--- the kinds of its columns
-pub kinds_at : (ts : List Named) (i : ℕ) (t : Named) → i < length ts → t ≡ get_or ts i t → slice_get (map column_kinds (blocks_of ts)) i ≡ Some (column_kinds t.1)
-kinds_at ts i t within is = slice_get-map column_kinds (blocks_of ts) i ∙ ap (option_map column_kinds) (table_at ts i t within is)

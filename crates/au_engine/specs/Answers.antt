@@ -20,8 +20,8 @@ use Rattle.au_translate.specs.Headline.{HoldsInEveryWorld}
 use Rattle.au_typing.specs.Queries.{Relation, typing_defects, resolved_tree, resolved_names, resolved_kinds}
 use Rattle.au_typing.specs.declared.fault.TypingFault.{TypingFault}
 use Rattle.au_typing.specs.declared.fault.TypingFault.TheVariants as typing
-use Rattle.au_engine.specs.Rules.{pair_numbers, pairs_by}
-use Rattle.au_engine.specs.declared.options.Rules.{Rules}
+use Rattle.au_program.specs.Rules.{pair_numbers, pairs_by}
+use Rattle.au_program.specs.declared.rules.Rules.{Rules}
 use Rattle.au_engine.specs.declared.faults.EngineFault.{EngineFault}
 use Rattle.au_engine.specs.declared.faults.EngineFault.TheVariants as engine
 use Rattle.au_engine.specs.declared.faults.QueryFault.TheVariants as query

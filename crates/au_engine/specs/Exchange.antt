@@ -18,8 +18,8 @@ use Rattle.au_print.specs.GuessTexts.{in_order}
 use Rattle.au_sqltext.specs.Fitting.{written_numbers_fit, widths_fit}
 use Rattle.au_sqltext.specs.Records.{rows_text}
 use Rattle.au_sqltext.specs.Texts.{plan_text}
+use Rattle.au_program.specs.Rewriting.{IsPlanOf}
 use Rattle.au_engine.specs.Answers.{Named, answer_tree, blocks_of, guess_tables}
-use Rattle.au_engine.specs.Rewriting.{IsPlanOf}
 use Rattle.au_engine.specs.declared.exchange.plain.PlainFault.{PlainFault}
 use Rattle.au_engine.specs.declared.exchange.plain.PlainFault.TheVariants as plain
 

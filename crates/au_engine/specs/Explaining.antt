@@ -8,18 +8,18 @@ use Rattle.au_parse.specs.Tree.{QueryTree}
 use Rattle.au_physical.specs.Physicals.{physical_tree}
 use Rattle.au_sqltext.specs.Texts.{column_text, listed}
 use Rattle.au_explain.specs.Lines.{plan_lines}
+use Rattle.au_program.specs.RowPlans.{IsProgram}
+use Rattle.au_program.specs.Rules.{plain_rules}
+use Rattle.au_program.specs.Sources.{count}
+use Rattle.au_program.specs.declared.program.Program.{Program}
+use Rattle.au_program.specs.declared.program.Program.TheVariants as program
+use Rattle.au_program.specs.declared.program.Whole.{Whole}
+use Rattle.au_program.specs.declared.sources.Sources.{Sources}
+use Rattle.au_program.specs.declared.sources.Sources.TheVariants as code
+use Rattle.au_program.specs.declared.sources.Ways.{Ways}
+use Rattle.au_program.specs.declared.sources.Ways.TheVariants as ways
 use Rattle.au_engine.specs.Answers.{Named, answer_tree}
 use Rattle.au_engine.specs.Exchange.{value_kinds}
-use Rattle.au_engine.specs.RowPlans.{IsProgram}
-use Rattle.au_engine.specs.Rules.{plain_rules}
-use Rattle.au_engine.specs.Sources.{count}
-use Rattle.au_engine.specs.declared.program.program.Program.{Program}
-use Rattle.au_engine.specs.declared.program.program.Program.TheVariants as program
-use Rattle.au_engine.specs.declared.program.program.Whole.{Whole}
-use Rattle.au_engine.specs.declared.program.sources.Sources.{Sources}
-use Rattle.au_engine.specs.declared.program.sources.Sources.TheVariants as code
-use Rattle.au_engine.specs.declared.program.sources.Ways.{Ways}
-use Rattle.au_engine.specs.declared.program.sources.Ways.TheVariants as ways
 
 -- how many steps are run for some sources: for a product that is compressed one for each side
 abbrev pub steps_in : Sources → ℕ

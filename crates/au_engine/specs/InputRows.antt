@@ -7,8 +7,8 @@ use Rattle.au_encode.specs.Encode.{encode}
 use Rattle.au_exec.specs.Outcomes.{rows_of}
 use Rattle.au_plain.specs.PlanKinds.{FitRows}
 use Rattle.au_translate.specs.Translate.{bounded_blocks}
+use Rattle.au_program.specs.KeptRows.{kept_rows}
 use Rattle.au_engine.specs.CountedTables.{certain_guesses, counted_guesses}
-use Rattle.au_engine.specs.KeptRows.{kept_rows}
 use Rattle.au_engine.specs.declared.running.input.Content.{Content}
 use Rattle.au_engine.specs.declared.running.input.Content.TheVariants as code
 

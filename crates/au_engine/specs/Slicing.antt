@@ -1,25 +1,14 @@
 -- A query that works row by row over one table, whose answer is put together of the answers over slices of the table.
-use Rattle.std.specs.Prelude.{ℕ, IsTrue, List, [], ◌∷◌, ◌++◌, Option, Some, None, is_some, ℤ}
+use Rattle.std.specs.Prelude.{IsTrue, List, [], ◌∷◌, ◌++◌, is_some, ℤ}
 use Rattle.au_algebra.specs.Bounded.{Bounded, normal}
 use Rattle.au_algebra.specs.Fits.{triple_numbers}
 use Rattle.au_algebra.specs.Trees.{Tree, Table, Select, Project, Product, Union, Difference, Distinct, Group, Total}
 use Rattle.au_blocks.specs.Blocks.{Choices}
 use Rattle.au_translate.specs.Translate.{bounded_blocks}
-use Rattle.au_engine.specs.Rules.{plain_rules, tree_numbers, tree_rows}
+use Rattle.au_program.specs.RowQueries.{row_table}
+use Rattle.au_program.specs.Rules.{plain_rules, tree_numbers, tree_rows}
 
--- the place of the table of a tree of Select and Project alone
-abbrev pub row_table : Tree → Option ℕ
-row_table (Table i) = Some i
-row_table (Select e q) = row_table q
-row_table (Project items q) = row_table q
-row_table (Product a b) = None
-row_table (Union a b) = None
-row_table (Difference a b) = None
-row_table (Distinct q) = None
-row_table (Group keys aggs q) = None
-row_table (Total aggs q) = None
-
--- the tree is one of them
+-- the tree has Select and Project alone
 abbrev pub WorksByRow : Tree → Type 0
 WorksByRow q = IsTrue (is_some (row_table q))
 

@@ -3,7 +3,6 @@
 pub(crate) mod answering;
 pub(crate) mod certainty;
 pub(crate) mod counted;
-pub(crate) mod counted_steps;
 pub(crate) mod guess_counts;
 pub(crate) mod guess_rows;
 pub(crate) mod guess_size;

@@ -3,5 +3,4 @@
 pub(crate) mod explaining;
 pub(crate) mod plain;
 pub(crate) mod program_lines;
-pub(crate) mod rewriting;
 pub(crate) mod texts;

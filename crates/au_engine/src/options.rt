@@ -1,6 +1,8 @@
 //! What is asked beside the statement.
 ghost use Rattle.std.specs.Prelude.{◌≡◌};
-ghost use Rattle.au_engine.specs.Rules.{rules_of};
+ghost use Rattle.au_engine.specs.Options.{rules_of};
+
+use au_program::Rules;
 
 /// What is asked beside the statement.
 #[derive(Clone, Copy, Debug, PartialEq, Eq)]
@@ -17,16 +19,6 @@ pub struct Options {
 
     /// Whether groups and distinct rows are formed by points: one for each list of guessed keys, whose keys are certain,
     /// and wider ones for the keys that nobody guessed. The guesses are the same.
-    pub points: bool,
-}
-
-/// By which rules products, groups and distinct rows are formed.
-#[derive(Clone, Copy, Debug, PartialEq, Eq)]
-pub struct Rules {
-    /// In how many rows of each side products pair what is possible, if not in all.
-    pub compress: Option<u32>,
-
-    /// Whether groups and distinct rows are formed by points.
     pub points: bool,
 }
 

@@ -6,7 +6,6 @@ pub(crate) mod finding;
 pub(crate) mod input;
 pub(crate) mod key_sample;
 pub(crate) mod reads;
-pub(crate) mod row_queries;
 pub(crate) mod runner;
 pub(crate) mod running;
 pub(crate) mod slicing;

@@ -1,5 +1,5 @@
 //! Queries whose groups and distinct rows are formed by points, also where their products are compressed.
-ghost use Rattle.au_engine.specs.Rules.{IsCompression};
+ghost use Rattle.au_program.specs.Rules.{IsCompression};
 ghost use Rattle.au_parse.specs.Views.{statement_tree};
 ghost use Rattle.au_parse.specs.Whole.{WholeQuery};
 

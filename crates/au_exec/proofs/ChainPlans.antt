@@ -7,13 +7,13 @@ use Rattle.au_expr.specs.Figures.{fit}
 use Rattle.au_expr.specs.declared.fault.EvalFault.{EvalFault}
 use Rattle.au_expr.specs.declared.fault.EvalFault.TheVariants as fault
 use Rattle.au_algebra.specs.Ordinary.{Rows}
+use Rattle.au_physical.specs.Chains.{is_chain}
 use Rattle.au_physical.specs.PhysicalKinds.{IsPhysicalFor}
 use Rattle.au_physical.specs.PhysicalMeaning.{physical_rows}
 use Rattle.au_physical.specs.PhysicalNumbers.{physical_numbers}
 use Rattle.au_physical.specs.Physicals.{PhysicalTree, Scan}
 use Rattle.au_exec.specs.Chains.{CanChain, WorksAll, atop, chain_fit, chain_rows, over}
 use Rattle.au_exec.specs.Outcomes.{rows_of}
-use Rattle.au_exec.specs.RowWise.{is_chain}
 use Rattle.au_exec.specs.declared.operators.Operator.{Operator}
 use Rattle.au_exec.specs.declared.operators.Operator.TheVariants as code
 use Rattle.au_exec.proofs.Overlays.{over_can, over_fit, over_rows}

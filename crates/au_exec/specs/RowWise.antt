@@ -1,26 +1,12 @@
--- Plans that work row by row over one table: operators that do so, over the Scan of it.
--- A run of a plan takes such operators off its top.
-use Rattle.std.specs.Prelude.{◌≡◌, ◌==◌, Bool, true, false, List}
+-- The operators that work row by row at the top of a plan, which its run takes off.
+use Rattle.std.specs.Prelude.{◌≡◌, Bool, true, false, List}
 use Rattle.au_physical.specs.Physicals.{PhysicalTree}
 use Rattle.au_physical.specs.Physicals as physical
 use Rattle.au_exec.specs.Chains.{over}
 use Rattle.au_exec.specs.declared.chain.Chain.{Chain}
 use Rattle.au_exec.specs.declared.operators.Operator.{Operator}
 
--- the plan works row by row over the first table
-abbrev pub is_chain : PhysicalTree → Bool
-is_chain (physical.Scan t w) = t == 0
-is_chain (physical.Rows w rows) = false
-is_chain (physical.Extend e p) = is_chain p
-is_chain (physical.Keep places p) = is_chain p
-is_chain (physical.Filter e p) = is_chain p
-is_chain (physical.Nested e p q) = false
-is_chain (physical.Hash places e p q) = false
-is_chain (physical.Overlap at e p q) = false
-is_chain (physical.Union p q) = false
-is_chain (physical.Group keys aggs p) = false
-
--- its topmost operator works row by row
+-- the topmost operator of a plan works row by row
 abbrev pub is_topped : PhysicalTree → Bool
 is_topped (physical.Scan t w) = false
 is_topped (physical.Rows w rows) = false

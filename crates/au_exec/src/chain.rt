@@ -2,12 +2,13 @@
 ghost use Rattle.std.specs.Prelude.{◌≡◌, ◌∷◌, [], false, true, IfErr, IfOk, OnOk};
 ghost use Rattle.au_expr.specs.Figures.{fit};
 ghost use Rattle.au_expr.specs.declared.fault.EvalFault.TheVariants as fault;
+ghost use Rattle.au_physical.specs.Chains.{is_chain};
 ghost use Rattle.au_physical.specs.PhysicalKinds.{IsPhysicalFor};
 ghost use Rattle.au_physical.specs.PhysicalMeaning.{physical_rows};
 ghost use Rattle.au_physical.specs.PhysicalNumbers.{physical_numbers};
 ghost use Rattle.au_physical.specs.Physicals.{Scan, physical_tree};
 ghost use Rattle.au_exec.specs.Outcomes.{rows_of};
-ghost use Rattle.au_exec.specs.RowWise.{AreTaken, chain_tree, is_chain as is_chain_of, is_topped};
+ghost use Rattle.au_exec.specs.RowWise.{AreTaken, chain_tree, is_topped};
 
 use crate::chains::{operators_of, take_operator};
 use crate::operators::{Operator, work_rows};
@@ -25,28 +26,10 @@ pub struct Chain {
     width: usize,
 }
 
-/// Whether a plan works row by row over the first table: adds columns, keeps some, or leaves rows out.
-pub fn is_chain(plan: &Physical) -> bool
-    ensures { result ≡ is_chain_of (physical_tree plan.now) }
-{
-    match plan {
-        Physical::Scan(table, _) => *table == 0,
-        Physical::Extend(_, of) => is_chain(of),
-        Physical::Keep(_, of) => is_chain(of),
-        Physical::Filter(_, of) => is_chain(of),
-        Physical::Rows(_, _)
-        | Physical::Nested(_, _, _)
-        | Physical::Hash(_, _, _, _)
-        | Physical::Overlap(_, _, _, _)
-        | Physical::Union(_, _)
-        | Physical::Group(_, _, _) => false,
-    }
-}
-
 impl Chain {
     /// The chain that stands for such a plan.
     pub fn of(alloc: Global, plan: Physical) -> Result<Chain, NoMemory>
-        requires { is_chain_of (physical_tree plan) ≡ true }
+        requires { is_chain (physical_tree plan) ≡ true }
         ensures { IfOk result (λ c. chain_tree c ≡ physical_tree plan) }
     {
         let mut plan = plan;
@@ -80,7 +63,7 @@ fn all_operators(alloc: Global, plan: &mut Physical) -> Result<Vec<Operator>, No
 
 // The width of the rows of the first table, of which a plan is the Scan.
 fn scanned_width(plan: &Physical) -> usize
-    requires first { is_chain_of (physical_tree plan.now) ≡ true }
+    requires first { is_chain (physical_tree plan.now) ≡ true }
     requires bare { is_topped (physical_tree plan.now) ≡ false }
     ensures { physical_tree plan.now ≡ Scan 0 result }
 {

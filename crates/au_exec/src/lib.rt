@@ -74,5 +74,5 @@ mod tally;
 mod view;
 
 pub use batches::{Batch, Run};
-pub use chain::{Chain, is_chain};
+pub use chain::Chain;
 pub use convert::Convert;

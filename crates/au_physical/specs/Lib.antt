@@ -3,3 +3,4 @@ pub mod Physicals
 pub mod PhysicalMeaning
 pub mod PhysicalKinds
 pub mod PhysicalNumbers
+pub mod Chains

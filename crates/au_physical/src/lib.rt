@@ -2,7 +2,7 @@
 //!
 //! A [`Physical`] is a [`Plan`](au_plain::Plan) whose joins are nested loops, hash joins or joins of overlapping ranges.
 //! What it means on lists of plain rows, read in order, when it is typed, and the numbers that it makes, are the
-//! definitions in specs/ (see docs/SEMANTICS.md).
+//! definitions in specs/ (see docs/SEMANTICS.md). [`is_chain`] tells of a plan whether it works row by row over one table.
 //!
 //! ```text
 //! // the pairs of rows of two tables whose ranges at 0 and 2 overlap
@@ -15,6 +15,8 @@
 //! It belongs to docs/ARCHITECTURE.md.
 #![tactic(auto)]
 
+mod chains;
 mod physical;
 
+pub use chains::is_chain;
 pub use physical::{Bounds, Physical};

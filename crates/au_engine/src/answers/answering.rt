@@ -1,5 +1,5 @@
 //! The bounded answer of a statement over block tables.
-ghost use Rattle.std.specs.Prelude.{◌≡◌, ◌≤◌, Bool, Err, Ok, [], true, false, None, Some, List, IfOk, IfErr, OnOk, length, map, if◌then◌else◌};
+ghost use Rattle.std.specs.Prelude.{◌≡◌, ◌≤◌, Bool, Err, Ok, [], true, false, Some, List, IfOk, IfErr, OnOk, length, map, if◌then◌else◌};
 ghost use Rattle.std.specs.List.{AllByRecursion, list_all};
 ghost use Rattle.au_algebra.specs.Laws.{IsRelation};
 ghost use Rattle.au_parse.specs.Views.{statement_tree};
@@ -13,8 +13,9 @@ ghost use Rattle.au_algebra.specs.Fits.{numbers, triples_fit};
 ghost use Rattle.au_value.specs.declared.kinds.Kind.{Kind};
 ghost use Rattle.au_value.specs.Order.{data_kind};
 ghost use Rattle.au_value.specs.Numeral.{is_i128};
+ghost use Rattle.au_program.specs.Rules.{IsCompression};
 ghost use Rattle.au_engine.specs.Answers.{AnswerCause, RowsCause, RowsHold, blocks_of, combined_normal_fits, tree_answer, tree_asked, tree_asked_fits, tree_answer_fits, answer_fits, answer_kinds, answer_names, answer_rows as answer_rows_of, asked_fits, asked_rows, statement_defects};
-ghost use Rattle.au_engine.specs.Rules.{IsCompression, rules_of};
+ghost use Rattle.au_engine.specs.Options.{rules_of};
 
 use crate::answers::tables::bounded_tables;
 use crate::faults::EngineFault;

@@ -11,11 +11,10 @@ ghost use Rattle.au_engine.specs.Explaining.{ExplainsTree, IsExplanation, names_
 use crate::answers::tables::schemas;
 use crate::exchange::program_lines::push_program;
 use crate::faults::EngineFault;
-use crate::options::Options;
-use crate::program::program::{Program, program_of};
 use crate::typing::resolved;
 use au_blocks::Table;
 use au_parse::Statement;
+use au_program::{Program, Rules, program_of};
 use au_typing::Typed;
 use au_value::{NoMemory, Word};
 use std::alloc::Global;
@@ -55,13 +54,11 @@ fn tree_explained(
     ensures { IfOk result (λ text. ExplainsTree (names_of tables.now) (value_kinds tables.now) (tree typed.now.query) text.items) }
 {
     let schemas = schemas(alloc, tables)?;
-    let options = Options {
-        combine: false,
-        workers: 1,
+    let rules = Rules {
         compress: None,
         points: false,
     };
-    let program = program_of(alloc, &typed.query, schemas.as_slice(), options)?;
+    let program = program_of(alloc, &typed.query, schemas.as_slice(), rules, false)?;
     program_text(alloc, tables, &program)
 }
 

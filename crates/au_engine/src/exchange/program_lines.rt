@@ -2,15 +2,13 @@
 ghost use Rattle.std.specs.Prelude.{◌≡◌, ◌+◌, ◌++◌, IfOk, OnOk, codes, decimal, string_bytes};
 ghost use Rattle.au_physical.specs.Physicals.{physical_tree};
 ghost use Rattle.au_explain.specs.Lines.{plan_lines};
-ghost use Rattle.au_engine.specs.Sources.{count as count_of};
+ghost use Rattle.au_program.specs.Sources.{count as count_of};
 ghost use Rattle.au_engine.specs.Explaining.{kept_text, last_text, name_at, names_of, parts_text, program_text, source_line, sources_text, step_head, step_name, steps_in as steps_in_of, steps_text, ways_lines};
 
-use crate::program::placing::{count, more};
-use crate::program::program::{Program, Whole};
-use crate::program::sources::{Sources, Ways};
 use au_blocks::Table;
 use au_explain::push_plan;
 use au_physical::Physical;
+use au_program::{Program, Sources, Ways, Whole, count, more};
 use au_sqltext::{push_columns_at, push_number};
 use au_value::{NoMemory, Word};
 

@@ -1,28 +1,26 @@
 //! Texts for another engine: the encoded rows of a table, and the plan of a statement.
-ghost use Rattle.std.specs.Prelude.{◌≡◌, ◌∷◌, ◌++◌, [], IfOk, IfErr, OnOk, codes, map, true};
+ghost use Rattle.std.specs.Prelude.{◌≡◌, ◌++◌, [], IfOk, IfErr, OnOk, codes, true};
 ghost use Rattle.std.specs.Str.{is_utf8};
-ghost use Rattle.au_value.specs.Order.{data_kind};
 ghost use Rattle.au_algebra.specs.Trees.{tree};
 ghost use Rattle.au_algebra.specs.Typing.{IsTyped};
 ghost use Rattle.au_parse.specs.Views.{statement_tree};
 ghost use Rattle.au_parse.specs.Whole.{WholeQuery};
 ghost use Rattle.au_plain.specs.Plans.{plan_tree};
-ghost use Rattle.au_encode.specs.Encode.{encoded_kinds as encoded_kinds_of};
 ghost use Rattle.au_sqltext.specs.Texts.{plan_text};
 ghost use Rattle.au_engine.specs.Answers.{AnswerCause, statement_defects};
 ghost use Rattle.au_engine.specs.Exchange.{IsPlanText, IsTreeText, encoded_text as encoded_text_of, value_kinds};
 
 use crate::answers::tables::schemas;
-use crate::exchange::rewriting::rewritten;
 use crate::faults::EngineFault;
 use crate::typing::resolved;
-use au_blocks::{Column, Table};
+use au_blocks::Table;
 use au_parse::Statement;
 use au_plain::Plan;
+use au_program::{encoded_kinds, rewritten};
 use au_sqltext::{plain_text, write_plan};
 use au_translate::encoded;
 use au_typing::Typed;
-use au_value::{Kind, NoMemory, Word};
+use au_value::{NoMemory, Word};
 use std::alloc::Global;
 
 /// The encoded rows of a table as CSV, in block order: for each of its c columns the lower bound, the guess and the upper
@@ -36,27 +34,6 @@ pub fn encoded_text(alloc: Global, table: &Table) -> Result<Vec<u8>, NoMemory>
     let kinds = encoded_kinds(alloc, table.columns())?;
     let rows = encoded(alloc, table)?;
     plain_text(alloc, kinds.as_slice(), rows.as_slice())
-}
-
-/// The kinds of the encoded columns: that of each column's values three times, and three of whole numbers.
-pub(crate) fn encoded_kinds(alloc: Global, columns: &[Column]) -> Result<Vec<Kind>, NoMemory>
-    ensures { IfOk result (λ v. v.items ≡ encoded_kinds_of (map (λ c. data_kind c.kind) columns.now)) }
-{
-    let mut kinds = Vec::new(alloc);
-    for column in columns {
-        push_thrice(&mut kinds, column.kind.data())?;
-    }
-    push_thrice(&mut kinds, Kind::Int)?;
-    Ok(kinds)
-}
-
-fn push_thrice(kinds: &mut Vec<Kind>, kind: Kind) -> Result<(), NoMemory>
-    ensures { OnOk result (kinds.new.items ≡ kinds.old.items ++ kind ∷ kind ∷ kind ∷ []) }
-{
-    kinds.push(kind)?;
-    kinds.push(kind)?;
-    kinds.push(kind)?;
-    Ok(())
 }
 
 /// The text of the one plan of a statement over tables, each under its name, and LF. The plan reads the encoded rows of

@@ -1,18 +1,18 @@
 //! The relation of an answer by its program.
-ghost use Rattle.std.specs.Prelude.{◌≡◌, Bool, IfOk, false, map};
+ghost use Rattle.std.specs.Prelude.{◌≡◌, IfOk, false, map};
 ghost use Rattle.au_algebra.specs.Bounded.{normal as normal_of};
 ghost use Rattle.au_algebra.specs.Trees.{tree};
 ghost use Rattle.au_algebra.specs.Typing.{IsTyped};
 ghost use Rattle.au_blocks.specs.Tables.{column_kinds};
 ghost use Rattle.au_physical.specs.Physicals.{physical_tree};
+ghost use Rattle.au_program.specs.Programs.{ShowsTree};
+ghost use Rattle.au_program.specs.RowPlans.{IsProgram, PlansRows};
+ghost use Rattle.au_program.specs.Rules.{IsCompression};
 ghost use Rattle.au_engine.specs.Answers.{blocks_of, tree_asked, tree_asked_fits};
-ghost use Rattle.au_engine.specs.Programs.{ShowsTree};
-ghost use Rattle.au_engine.specs.RowPlans.{IsProgram, PlansRows};
-ghost use Rattle.au_engine.specs.Rules.{IsCompression, rules_of};
+ghost use Rattle.au_engine.specs.Options.{rules_of};
 
 use crate::answers::tables::schemas;
 use crate::options::Options;
-use crate::program::program::{Program, Whole, program_of};
 use crate::running::finding::relation_found;
 use crate::running::runner::Runner;
 use crate::running::slicing::{by_slices, slicer_of};
@@ -21,6 +21,7 @@ use au_annot::Triple;
 use au_blocks::Table;
 use au_expr::EvalFault;
 use au_par::Gate;
+use au_program::{Program, Whole, program_of};
 use au_value::{NoMemory, Range, Word};
 use std::alloc::Global;
 use std::thread::Threads;
@@ -37,7 +38,13 @@ fn table_program(
     ensures { IfOk result (λ p. IsProgram (rules_of options) options.combine (map column_kinds (blocks_of tables.now)) (tree query.now) p) }
 {
     let schemas = schemas(alloc, tables)?;
-    let program = program_of(alloc, query, schemas.as_slice(), options)?;
+    let program = program_of(
+        alloc,
+        query,
+        schemas.as_slice(),
+        options.rules(),
+        options.combine,
+    )?;
     Ok(program)
 }
 

@@ -7,7 +7,7 @@ ghost use Rattle.au_plain.specs.PlanKinds.{FitRows};
 ghost use Rattle.au_translate.specs.Translate.{bounded_blocks};
 ghost use Rattle.au_engine.specs.CountedTables.{certain_guesses, counted_guesses};
 ghost use Rattle.au_engine.specs.InputRows.{content_rows, IsContent};
-ghost use Rattle.au_engine.specs.KeptRows.{kept_rows};
+ghost use Rattle.au_program.specs.KeptRows.{kept_rows};
 
 use au_blocks::{Block, Column};
 use au_plain::PRow;

@@ -7,8 +7,8 @@ ghost use Rattle.au_physical.specs.Physicals.{physical_tree};
 ghost use Rattle.au_plain.specs.PlanKinds.{FitRows, FitTables};
 ghost use Rattle.au_translate.specs.Translate.{bounded_blocks};
 ghost use Rattle.au_engine.specs.CountedTables.{certain_guesses, counted_guesses};
-ghost use Rattle.au_engine.specs.Inputs.{ReadsNext, Reads, ReadsAll};
-ghost use Rattle.au_engine.specs.KeptRows.{kept_rows};
+ghost use Rattle.au_program.specs.Inputs.{ReadsNext, Reads, ReadsAll};
+ghost use Rattle.au_program.specs.KeptRows.{kept_rows};
 
 use crate::answers::guess_counts::{all_guesses, kept_guesses};
 use crate::running::input::{Content, Input};

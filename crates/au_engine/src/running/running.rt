@@ -8,7 +8,7 @@ ghost use Rattle.au_physical.specs.PhysicalMeaning.{physical_rows};
 ghost use Rattle.au_physical.specs.PhysicalNumbers.{physical_numbers};
 ghost use Rattle.au_physical.specs.Physicals.{physical_tree};
 ghost use Rattle.au_plain.specs.PlanKinds.{FitRows, FitTables};
-ghost use Rattle.au_engine.specs.Inputs.{ReadsAll};
+ghost use Rattle.au_program.specs.Inputs.{ReadsAll};
 
 use crate::running::input::Input;
 use crate::running::reads::read_inputs;

@@ -6,7 +6,7 @@ ghost use Rattle.au_compress.specs.Splitting.{compressed as compressed_of, compr
 ghost use Rattle.au_encode.specs.Encode.{encode as encode_of};
 ghost use Rattle.au_exec.specs.Outcomes.{rows_of};
 ghost use Rattle.au_plain.specs.PlanKinds.{FitRows, FitTables};
-ghost use Rattle.au_engine.specs.Sources.{part_rows};
+ghost use Rattle.au_program.specs.Sources.{part_rows};
 
 use crate::running::input::Input;
 use au_algebra::Rel;

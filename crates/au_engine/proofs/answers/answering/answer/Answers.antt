@@ -7,7 +7,7 @@ use Rattle.au_algebra.specs.Trees.{tree}
 use Rattle.au_translate.specs.Headline.{HoldsInEveryWorld}
 use Rattle.au_typing.specs.Queries.{typing}
 use Rattle.au_engine.specs.Answers.{AnswerCause, blocks_of, relations_of, statement_defects, tree_asked, tree_asked_fits}
-use Rattle.au_engine.specs.Rules.{rules_of}
+use Rattle.au_engine.specs.Options.{rules_of}
 use Rattle.au_engine.proofs.AskedAnswers.{asked_answered}
 use Rattle.au_engine.proofs.Shown.{as_wide}
 use Rattle.au_engine.proofs.AnswerRows.{rows_cause, made_rows_hold}

@@ -3,7 +3,7 @@ use Rattle.std.specs.Prelude.{is_some}
 use Rattle.std.proofs.Common.{sym, ap, ◌∙◌}
 use Rattle.au_algebra.specs.Fits.{triples_fit}
 use Rattle.au_algebra.specs.Trees.{tree}
-use Rattle.au_engine.specs.Rules.{rules_of}
+use Rattle.au_engine.specs.Options.{rules_of}
 use Rattle.au_engine.proofs.AskedAnswers.{normal_leaves}
 use Rattle.au_engine.proofs.answers.answering.planned_rows.Goals as goal
 

@@ -5,8 +5,8 @@ use Rattle.au_algebra.specs.Trees.{tree}
 use Rattle.au_algebra.specs.Typing.{IsTyped}
 use Rattle.au_plain.specs.Plans.{plan_tree}
 use Rattle.au_typing.specs.Queries.{relations, table_kinds}
+use Rattle.au_program.specs.Rewriting.{IsPlanOf}
 use Rattle.au_engine.specs.Exchange.{value_kinds}
-use Rattle.au_engine.specs.Rewriting.{IsPlanOf}
 use Rattle.au_engine.proofs.TableRelations.{same_kinds}
 use Rattle.au_engine.proofs.exchange.texts.tree_text.Goals as goal
 

@@ -2,9 +2,9 @@
 use Rattle.std.proofs.Common.{map, subst}
 use Rattle.au_algebra.specs.Trees.{tree}
 use Rattle.au_blocks.specs.Tables.{column_kinds}
+use Rattle.au_program.specs.RowPlans.{IsProgram}
 use Rattle.au_engine.specs.Answers.{blocks_of}
-use Rattle.au_engine.specs.RowPlans.{IsProgram}
-use Rattle.au_engine.specs.Rules.{rules_of}
+use Rattle.au_engine.specs.Options.{rules_of}
 use Rattle.au_engine.proofs.running.evaluation.evaluated.Goals as goal
 
 pub evaluated_at_once-requires-clause-shows : goal.evaluated_at_once-requires-clause-shows

@@ -2,7 +2,7 @@
 use Rattle.std.proofs.lemmas.Result.{IfOk-weaker}
 use Rattle.au_algebra.specs.Trees.{tree}
 use Rattle.au_physical.specs.Physicals.{physical_tree}
-use Rattle.au_engine.specs.Rules.{rules_of}
+use Rattle.au_engine.specs.Options.{rules_of}
 use Rattle.au_engine.proofs.ShownPrograms.{shown_answer, shown_can, shown_encoded, shown_starts, shown_stops}
 use Rattle.au_engine.proofs.running.evaluation.evaluated_at_once.Goals as goal
 

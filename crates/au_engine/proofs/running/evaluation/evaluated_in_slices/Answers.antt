@@ -6,7 +6,7 @@ use Rattle.std.proofs.lemmas.Option.{slice_get_within}
 use Rattle.std.proofs.lemmas.Result.{IfOk-weaker}
 use Rattle.au_algebra.specs.Trees.{tree}
 use Rattle.au_engine.specs.Answers.{Named, blocks_of, tree_asked, tree_asked_fits}
-use Rattle.au_engine.specs.Rules.{rules_of}
+use Rattle.au_engine.specs.Options.{rules_of}
 use Rattle.au_engine.proofs.SliceRows.{works_by_row}
 use Rattle.au_engine.proofs.SliceRuns.{asked_by_row, asked_leaves, slicer_slices, typed_alone}
 use Rattle.au_engine.proofs.SlicedPrograms.{sliced_there, slices_given}

@@ -1,11 +1,10 @@
 -- The parts of what both sides find stand behind what the sources before the product hold.
 use Rattle.std.proofs.Common.{◌++◌, ◌∙◌, ap, sym}
+use Rattle.au_program.specs.Sources.{AreParts, Holds, left_side, part_rows, right_side}
+use Rattle.au_program.proofs.CompressedPairs.{left_kinds_held, right_kinds_held}
+use Rattle.au_program.proofs.Together.{at_equal, at_ok, from_two}
 use Rattle.au_engine.specs.Answers.{blocks_of}
-use Rattle.au_engine.specs.Sources.{AreParts, Holds, left_side, part_rows, right_side}
-use Rattle.au_engine.proofs.CompressedPairs.{left_kinds_held, right_kinds_held}
 use Rattle.au_engine.proofs.FoundSources.{IsOfSide, parts_put, put_behind, sides_are}
-use Rattle.au_engine.proofs.Together.{at_equal, at_ok}
-use Rattle.au_engine.proofs.WholePlans.{from_two}
 use Rattle.au_engine.proofs.running.finding.+finds.Goals as goal
 
 pub with_pairs-put_parts-requires-clause-left_kinds : goal.with_pairs-put_parts-requires-clause-left_kinds

@@ -2,8 +2,8 @@
 use Rattle.std.proofs.Common.{◌≡◌, ◌∙◌, ap}
 use Rattle.std.proofs.lemmas.Result.{IfOk-weaker}
 use Rattle.au_physical.specs.Physicals.{physical_tree}
+use Rattle.au_program.proofs.Together.{at_ok}
 use Rattle.au_engine.proofs.RunRows.{copy_leaves, copy_rows, copy_starts}
-use Rattle.au_engine.proofs.Together.{at_ok}
 use Rattle.au_engine.proofs.running.finding.found_by.Goals as goal
 
 pub run-requires-clause-starts : goal.run-requires-clause-starts

@@ -4,8 +4,8 @@ use Rattle.au_blocks.specs.Tables.{IsBlockTable, table}
 use Rattle.au_encode.specs.Encode.{encode}
 use Rattle.au_plain.specs.PlanKinds.{FitRows}
 use Rattle.au_translate.specs.Translate.{bounded_blocks}
+use Rattle.au_program.specs.KeptRows.{kept_rows}
 use Rattle.au_engine.specs.Answers.{blocks_of}
-use Rattle.au_engine.specs.KeptRows.{kept_rows}
 use Rattle.au_engine.proofs.FoundSources.{one_read}
 use Rattle.au_engine.proofs.TableRelations.{table_at}
 use Rattle.au_engine.proofs.running.finding.put_table.Goals as goal

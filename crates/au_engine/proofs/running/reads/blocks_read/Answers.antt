@@ -2,7 +2,7 @@
 use Rattle.std.proofs.lemmas.Result.{IfOk-weaker}
 use Rattle.au_encode.specs.Encode.{encode}
 use Rattle.au_translate.specs.Translate.{bounded_blocks}
-use Rattle.au_engine.proofs.HeldSources.{kept_fit}
+use Rattle.au_program.proofs.HeldSources.{kept_fit}
 use Rattle.au_engine.proofs.running.reads.blocks_read.Goals as goal
 
 pub returns-in-Some-clause-fit : goal.returns-in-Some-clause-fit

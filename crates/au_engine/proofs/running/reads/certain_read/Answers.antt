@@ -6,8 +6,8 @@ use Rattle.au_exec.specs.Outcomes.{rows_of}
 use Rattle.au_physical.specs.Physicals.{physical_tree}
 use Rattle.au_plain.specs.Meaning.{kept}
 use Rattle.au_plan.specs.Narrowing.{Narrows}
+use Rattle.au_program.proofs.ReadRows.{all_read, places_read}
 use Rattle.au_engine.specs.CountedTables.{certain_guesses}
-use Rattle.au_engine.proofs.ReadRows.{all_read, places_read}
 use Rattle.au_engine.proofs.running.reads.certain_read.Goals as goal
 
 pub returns-in-Some-clause-reads : goal.returns-in-Some-clause-reads

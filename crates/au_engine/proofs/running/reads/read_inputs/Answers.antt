@@ -5,8 +5,8 @@ use Rattle.std.specs.Vec.Iter.{into_iter_items}
 use Rattle.au_physical.specs.Physicals.{physical_tree}
 use Rattle.au_plain.specs.PlanKinds.{FitTables}
 use Rattle.au_exec.specs.Outcomes.{rows_of}
-use Rattle.au_engine.specs.Inputs.{ReadsAll}
-use Rattle.au_engine.proofs.ReadRows.{next_read}
+use Rattle.au_program.specs.Inputs.{ReadsAll}
+use Rattle.au_program.proofs.ReadRows.{next_read}
 use Rattle.au_engine.proofs.running.reads.read_inputs.Goals as goal
 
 pub loop-input-preserved : goal.loop-input-preserved

@@ -4,7 +4,7 @@ use Rattle.std.specs.Vec.Iter.{into_iter_items}
 use Rattle.au_physical.specs.Physicals.{physical_tree}
 use Rattle.au_plain.specs.PlanKinds.{FitTables}
 use Rattle.au_exec.specs.Outcomes.{rows_of}
-use Rattle.au_engine.specs.Inputs.{ReadsAll}
+use Rattle.au_program.specs.Inputs.{ReadsAll}
 use Rattle.au_engine.proofs.running.reads.read_inputs.Given as goal
 
 abbrev pub invariant-loop-input : goal.invariant-loop-input

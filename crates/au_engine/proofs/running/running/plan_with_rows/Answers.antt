@@ -2,8 +2,8 @@
 use Rattle.std.proofs.Common.{map, subst, sym}
 use Rattle.au_physical.specs.Physicals.{physical_tree}
 use Rattle.au_exec.specs.Outcomes.{rows_of}
-use Rattle.au_engine.specs.Inputs.{ReadsAll}
-use Rattle.au_engine.proofs.Together.{at_ok}
+use Rattle.au_program.specs.Inputs.{ReadsAll}
+use Rattle.au_program.proofs.Together.{at_ok}
 use Rattle.au_engine.proofs.running.running.plan_with_rows.Goals as goal
 
 pub returns-clause-reads : goal.returns-clause-reads

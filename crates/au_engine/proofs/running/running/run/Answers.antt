@@ -3,8 +3,8 @@ use Rattle.std.proofs.Common.{map, ◌∙◌}
 use Rattle.std.proofs.lemmas.Result.{IfOk-weaker}
 use Rattle.au_physical.specs.Physicals.{physical_tree}
 use Rattle.au_exec.specs.Outcomes.{rows_of}
+use Rattle.au_program.proofs.Together.{from_two}
 use Rattle.au_engine.proofs.RunRows.{run_fits}
-use Rattle.au_engine.proofs.WholePlans.{from_two}
 use Rattle.au_engine.proofs.running.running.run.Goals as goal
 
 pub all-requires-clause-plan : goal.all-requires-clause-plan

@@ -6,7 +6,7 @@ use Rattle.au_encode.specs.Encode.{encode}
 use Rattle.au_exec.specs.Outcomes.{rows_of}
 use Rattle.au_exec.specs.RowWise.{chain_tree}
 use Rattle.au_translate.specs.Translate.{bounded_blocks}
-use Rattle.au_engine.specs.KeptRows.{kept_rows}
+use Rattle.au_program.specs.KeptRows.{kept_rows}
 use Rattle.au_engine.proofs.SliceRuns.{read_decoded, read_encoded, read_out, read_starts}
 use Rattle.au_engine.proofs.running.slicing.slice_by_plan.Goals as goal
 

@@ -1,5 +1,0 @@
--- It stands for any number of counts.
-use Rattle.au_engine.proofs.answers.counted_steps.union_of.Goals as goal
-
-pub returns-clause-plan : goal.returns-clause-plan
-returns-clause-plan c = c.in_ok-plan.ensures.gives c.args.counts
