@@ -4,7 +4,8 @@ use Rattle.std.specs.Prelude.{not, bytes_eq}
 use Rattle.std.specs.List.{list_any, position_or_len}
 use Rattle.std.proofs.lemmas.List.{append-nil, map-append}
 use Rattle.indexmap.specs.IndexSet.{insert_key}
-use Rattle.au_blocks.specs.Gathered.{Gathered, nothing}
+use Rattle.au_blocks.specs.declared.tally.Tally.{Tally}
+use Rattle.au_blocks.specs.Tallies.{nothing}
 
 module _ {K : Type 0} (text : K → List ℕ) where
   -- a label is looked up by its bytes
@@ -49,8 +50,8 @@ was-known true new told is_known = refl
 was-known false new told is_known = cc
 
 -- what is gathered where a label is known, and where it is new
-pub known-builders : (known : Bool) (gs : List Gathered) → known ≡ true → gs ≡ gs ++ cond known [] (nothing ∷ [])
-known-builders known gs is = rw is (sym (append-nil gs))
+pub known-tallies : (known : Bool) (ts : List Tally) → known ≡ true → ts ≡ ts ++ cond known [] (nothing ∷ [])
+known-tallies known ts is = rw is (sym (append-nil ts))
 
-pub new-builders : (known : Bool) (gs hs : List Gathered) → known ≡ false → hs ≡ gs ++ nothing ∷ [] → hs ≡ gs ++ cond known [] (nothing ∷ [])
-new-builders known gs hs new is = rw new is
+pub new-tallies : (known : Bool) (ts us : List Tally) → known ≡ false → us ≡ ts ++ nothing ∷ [] → us ≡ ts ++ cond known [] (nothing ∷ [])
+new-tallies known ts us new is = rw new is

@@ -11,7 +11,8 @@ use Rattle.au_csv.specs.Texts.{Record}
 use Rattle.au_blocks.specs.Entries.{label_of, labelled}
 use Rattle.au_blocks.specs.Runs.{label_order}
 use Rattle.au_blocks.proofs.Distinct.{itself, turned}
-use Rattle.au_blocks.proofs.GatherStep.{labels, labels-push, labelled-absent, labelled-other, labelled-own}
+use Rattle.au_blocks.specs.Order.{labels}
+use Rattle.au_blocks.proofs.GatherStep.{labels-push, labelled-absent, labelled-other, labelled-own}
 use Rattle.au_blocks.proofs.LabelOrder.{apart, label_total, one_label}
 
 -- each of these labels comes before one

@@ -27,12 +27,3 @@ module _ {K : Type 0} (text : K → List ℕ) where
       let no : bytes_eq (text k) (text x) ≡ false = turned (text k) (text x) ∙ other in
       let here : bytes_eq label (text x) ≡ false = ap (λ (y : List ℕ). bytes_eq y (text x)) (same label (text k) h) ∙ no in
       rw here (more.0, ap suc more.1 ∙ sym (next_place (position_or_len (bytes_eq label) (map text ks))))
-
--- the same of keys that are their bytes
-own-text : (ks : List (List ℕ)) → map (λ (k : List ℕ). k) ks ≡ ks
-own-text [] = refl
-own-text (k ∷ ks) = ap (λ (r : List (List ℕ)). k ∷ r) (own-text ks)
-
-pub stands-itself : (label : List ℕ) (ks : List (List ℕ)) (p : ℕ) (k : List ℕ) → IsDistinct bytes_eq ks → p < length ks → k ≡ get_or ks p k → bytes_eq label k ≡ true
-    → (list_any (bytes_eq label) ks ≡ true) × (p ≡ position_or_len (bytes_eq label) ks)
-stands-itself label ks p k apart below is h = rw (own-text ks) at (stands (λ (x : List ℕ). x) label ks p k k apart below is h)

@@ -30,10 +30,11 @@ use Rattle.au_blocks.specs.Tables.{IsBlockTable, table, fits_kinds, is_range_of}
 use Rattle.au_blocks.specs.Headers.{format_of, has_blocks, has_copies, lead, cells_of, cut, kind_named, column_name, column_names, written_kind, written_kinds}
 use Rattle.au_blocks.specs.Spellings.{Parts, parts, three, number_range, number_written, value_written, range_written, field_written, is_count, count_written, ordered_copies, copies_written}
 use Rattle.au_blocks.specs.Entries.{BlockEntry, block_entry, field, role_of, is_marked, is_absent, has_role, written_copies, copies_in, block_entry_of, entries_of, alternatives, label_of, labelled, entry_blocks}
+use Rattle.au_blocks.specs.Columns.{is_wide}
 use Rattle.au_blocks.specs.Inferring.{is_numeral, inferred, inferred_kind, column_kind, inferred_kinds, is_alternative, holds_numeral}
 use Rattle.au_blocks.specs.Defects.{where_true, is_field, bad_fields, alternative_defects, role_defects, record_defects, rows_defects, block_defects, blocks_defects, schema_defects}
 use Rattle.au_blocks.specs.Read.{cell, row, candidate_of, block_of, columns_of, header_kinds, header_columns, first}
-use Rattle.au_blocks.proofs.Gathering.{any-count}
+use Rattle.au_blocks.proofs.Tallying.{any-count}
 use Rattle.au_blocks.proofs.InferredKinds.{inferred_kind-rows}
 use Rattle.au_blocks.proofs.Places.{no-position}
 
@@ -61,7 +62,7 @@ all-by-place : {X : Type 0} (p : X → Bool) (d : X) (xs : List X) → ((i : ℕ
 all-by-place p d [] each = refl
 all-by-place p d (x ∷ xs) each = and_from (p x) (list_all p xs) (each 0 (omega arith)) (all-by-place p d xs (λ i h. each (suc i) (omega arith)))
 
-place-of-all : {X : Type 0} (p : X → Bool) (d : X) (xs : List X) → list_all p xs ≡ true → (i : ℕ) → i < length xs → p (get_or xs i d) ≡ true
+pub place-of-all : {X : Type 0} (p : X → Bool) (d : X) (xs : List X) → list_all p xs ≡ true → (i : ℕ) → i < length xs → p (get_or xs i d) ≡ true
 place-of-all p d [] all i within = absurd (omega arith)
 place-of-all p d (x ∷ xs) all zero within = (and_parts (p x) (list_all p xs) all).0
 place-of-all p d (x ∷ xs) all (suc i) within = place-of-all p d xs (and_parts (p x) (list_all p xs) all).1 i (omega arith)
@@ -287,7 +288,7 @@ entries-fit B kinds (r ∷ rows) fit =
     let parts = and_parts (record_fits kinds (block_entry_of B r)) (list_all (λ x. record_fits kinds (block_entry_of B x)) rows) fit in
     entries-fit-if kinds (block_entry_of B r) (entries_of B rows) parts.0 (entries-fit B kinds rows parts.1)
 
-all-filter : {X : Type 0} (p q : X → Bool) (xs : List X) → list_all p xs ≡ true → list_all p (filter q xs) ≡ true
+pub all-filter : {X : Type 0} (p q : X → Bool) (xs : List X) → list_all p xs ≡ true → list_all p (filter q xs) ≡ true
 all-filter p q [] all = refl
 all-filter p q (x ∷ xs) all =
     let parts = and_parts (p x) (list_all p xs) all in
@@ -474,6 +475,26 @@ header-kinds header rows =
     let kinds : length (header_kinds header rows) ≡ length fields =
     length-map (enumerate_from 0 (written_kinds fields)) (column_kind (entries_of B rows)) ∙ length-enumerate_from 0 (written_kinds fields) ∙ length-map fields written_kind in
     kinds-of-columns (column_names B fields) (header_kinds header rows) (names ∙ sym kinds)
+
+-- each record has a cell for each column
+pub widths-of : (header : Record) (rows : List Record) → first (schema_defects header rows) ≡ None → list_all (is_wide (format_of header) (length (header_columns header rows))) rows ≡ true
+widths-of header rows none =
+    let B = format_of header in
+    let written = written_kinds (cells_of B header) in
+    let sound = (first-parts _ (rows_defects B (length header) written rows) none).1 in
+    let long : length (header_columns header rows) ≡ length header - lead B =
+    sym (length-map (header_columns header rows) (λ c. c.kind)) ∙ ap length (header-kinds header rows)
+    ∙ length-map (enumerate_from 0 written) (column_kind (entries_of B rows)) ∙ length-enumerate_from 0 written ∙ length-map (cells_of B header) written_kind ∙ length-cells B header in
+    all-by-place (is_wide B (length (header_columns header rows))) [] rows
+    (λ i h.
+    let r = get_or rows i [] in
+    let at = scan-item (record_defects B (length header) written) 1 rows sound i [] h in
+    let parts = first-parts (where_true (not (eqb (length r) (length header))) (fault.WrongWidth (1 + i))) (role_defects B (1 + i) written r (role_of B r)) at in
+    let same = eqb-true (length r) (length header) (not-false (eqb (length r) (length header)) (where-false (not (eqb (length r) (length header))) (fault.WrongWidth (1 + i)) parts.0)) in
+    wide-enough (length (header_columns header rows)) (length (cells_of B r)) (omega (arith, long, length-cells B r, same)))
+  where
+    wide-enough : (m n : ℕ) → m ≤ n → nat_le m n ≡ true
+    wide-enough m n h = grind (arith, h)
 
 -- the kinds of columns: written ones have a scale from 1 to 9, and inferred ones none
 named-kind : (a b c d1 d2 d3 d4 d5 d6 d7 d8 d9 : Bool)

@@ -12,10 +12,14 @@ pub mod Read
 -- What the contracts of inner calls and the proofs speak of.
 pub mod Cells
 pub mod Faults
-pub mod Gathered
+pub mod Scalars
+pub mod Spans
 pub mod Labels
 pub mod Marks
 pub mod Pieces
 pub mod Runs
+pub mod Order
+pub mod Tallies
+pub mod Columns
 pub mod Held
-pub mod Scalars
+pub mod Laid

@@ -1,41 +1,47 @@
 //! An alternative row of a block.
-ghost use Rattle.std.specs.Prelude.{◌≡◌};
-ghost use Rattle.au_blocks.specs.Blocks.{IsCopies, candidate};
+ghost use Rattle.std.specs.Prelude.{◌≡◌, ◌<◌, Some, length, slice_get, map};
+ghost use Rattle.au_blocks.specs.Blocks.{IsCopies};
+ghost use Rattle.au_blocks.specs.Laid.{alternative_at};
+ghost use Rattle.au_blocks.specs.Scalars.{scalar_value};
 
-use crate::cell::Cell;
+use crate::alternatives::Alternatives;
+use crate::scalar::Scalar;
 use crate::times::Times;
 use std::marker::Model;
 
-/// A row with one cell for each column, and how many copies of it there are.
+/// A row with one cell for each column, and how many copies of it there are. A cell is a value, or a range that holds it.
 #[derive(Drop)]
-pub struct Alternative {
-    cells: Vec<Cell>,
-    times: Times,
+pub struct Alternative<'a> {
+    rows: &'a Alternatives,
+    place: usize,
 }
 
-impl Model for Alternative {
-    ghost use Rattle.au_blocks.specs.Blocks.{Candidate, IsCopies, candidate};
+impl<'a> Model for Alternative<'a> {
+    ghost use Rattle.std.specs.Prelude.{◌<◌, length};
+    ghost use Rattle.au_blocks.specs.Blocks.{Candidate};
+    ghost use Rattle.au_blocks.specs.Laid.{alternative_at};
 
     ghost Value = { Candidate };
 
-    ghost view = { λ a. candidate a.cells.items a.times };
+    ghost view = { λ a. alternative_at a.rows.now a.place };
 
-    ghost invariant = { λ a. IsCopies a.times };
+    ghost invariant = { λ a. a.place < length a.rows.now };
 }
 
-impl Alternative {
-    // The alternative of these cells. It takes no memory.
-    pub(crate) fn of(cells: Vec<Cell>, times: Times) -> Alternative
-        ensures { result ≡ candidate cells.items times }
+impl<'a> Alternative<'a> {
+    // The alternative at a place.
+    pub(crate) fn of(rows: &'a Alternatives, place: usize) -> Alternative<'a>
+        requires { place < length rows.now }
+        ensures { result ≡ alternative_at rows.now place }
     {
-        Alternative { cells, times }
+        Alternative { rows, place }
     }
 
-    /// The cells, in the order of the columns.
-    pub fn cells(&self) -> &[Cell]
-        ensures { result.now ≡ self.now.cells }
+    /// How many cells there are.
+    pub fn width(&self) -> usize
+        ensures { result ≡ length self.now.cells }
     {
-        self.cells.as_slice()
+        self.rows.width(self.place)
     }
 
     /// How many copies there are.
@@ -43,6 +49,30 @@ impl Alternative {
         ensures of { result ≡ self.now.copies }
         ensures copies { IsCopies self.now.copies }
     {
-        self.times
+        self.rows.times(self.place)
+    }
+
+    /// The least value that the cell in a column may have.
+    pub fn lo(&self, column: usize) -> Scalar<'a>
+        requires { column < length self.now.cells }
+        ensures { slice_get (map (λ c. c.lo) self.now.cells) column ≡ Some (scalar_value result) }
+    {
+        self.rows.lo(self.place, column)
+    }
+
+    /// The guess of the value of the cell in a column.
+    pub fn sg(&self, column: usize) -> Scalar<'a>
+        requires { column < length self.now.cells }
+        ensures { slice_get (map (λ c. c.sg) self.now.cells) column ≡ Some (scalar_value result) }
+    {
+        self.rows.sg(self.place, column)
+    }
+
+    /// The greatest value that the cell in a column may have.
+    pub fn hi(&self, column: usize) -> Scalar<'a>
+        requires { column < length self.now.cells }
+        ensures { slice_get (map (λ c. c.hi) self.now.cells) column ≡ Some (scalar_value result) }
+    {
+        self.rows.hi(self.place, column)
     }
 }

@@ -1,47 +1,46 @@
 //! A block of alternative rows.
 ghost use Rattle.std.specs.Prelude.{◌≡◌};
-ghost use Rattle.au_blocks.specs.Blocks.{IsBlock, choices};
+ghost use Rattle.au_blocks.specs.Blocks.{IsBlock};
+ghost use Rattle.au_blocks.specs.Held.{IsWithin, block_at};
 
-use crate::alternative::Alternative;
+use crate::alternatives::Alternatives;
+use crate::candidates::Candidates;
+use crate::extent::Extent;
 use std::marker::Model;
 
-/// Alternative rows, of which one holds, or none where the block is optional. One of these choices is the guess.
+/// A block: alternative rows, of which one holds, or none where it is optional. One of these choices is the guess.
 #[derive(Drop)]
-pub struct Block {
-    alternatives: Vec<Alternative>,
-    optional: bool,
-    guess: Option<usize>,
+pub struct Block<'a> {
+    rows: &'a Alternatives,
+    extent: &'a Extent,
 }
 
-impl Model for Block {
-    ghost use Rattle.au_blocks.specs.Blocks.{Choices, IsBlock, choices};
+impl<'a> Model for Block<'a> {
+    ghost use Rattle.au_blocks.specs.Blocks.{Choices};
+    ghost use Rattle.au_blocks.specs.Held.{IsWithin, block_at};
 
     ghost Value = { Choices };
 
-    ghost view = { λ b. choices b.alternatives.items b.optional b.guess };
+    ghost view = { λ b. block_at b.rows.now b.extent.now };
 
-    ghost invariant = { λ b. IsBlock (choices b.alternatives.items b.optional b.guess) };
+    ghost invariant = { λ b. IsWithin b.rows.now b.extent.now };
 }
 
-impl Block {
-    // The block of these alternatives.
-    pub(crate) fn of(alternatives: Vec<Alternative>, optional: bool, guess: Option<usize>) -> Block
-        requires { IsBlock (choices alternatives.items optional guess) }
-        ensures { result ≡ choices alternatives.items optional guess }
+impl<'a> Block<'a> {
+    // The block at a place among the alternatives of a table.
+    pub(crate) fn of(rows: &'a Alternatives, extent: &'a Extent) -> Block<'a>
+        requires { IsWithin rows.now extent.now }
+        ensures { result ≡ block_at rows.now extent.now }
     {
-        Block {
-            alternatives,
-            optional,
-            guess,
-        }
+        Block { rows, extent }
     }
 
     /// The alternatives, of which there is at least one.
-    pub fn alternatives(&self) -> &[Alternative]
-        ensures of { result.now ≡ self.now.alternatives }
+    pub fn alternatives(&self) -> Candidates<'a>
+        ensures of { result ≡ self.now.alternatives }
         ensures is_block { IsBlock self.now }
     {
-        self.alternatives.as_slice()
+        Candidates::of(self.rows, self.extent.first, self.extent.count)
     }
 
     /// Whether none of the alternatives may hold.
@@ -49,7 +48,7 @@ impl Block {
         ensures of { result ≡ self.now.optional }
         ensures is_block { IsBlock self.now }
     {
-        self.optional
+        self.extent.optional
     }
 
     /// The number of the alternative that is the guess, or `None` where absence is.
@@ -57,6 +56,6 @@ impl Block {
         ensures of { result ≡ self.now.guess }
         ensures is_block { IsBlock self.now }
     {
-        self.guess
+        self.extent.guess
     }
 }

@@ -1,105 +1,86 @@
-//! The blocks of a table file.
-ghost use Rattle.std.specs.Prelude.{◌≡◌, ◌≤◌, ◌⊎◌, ◌∷◌, [], true, false, map, Some, Ok, Err, IfErr, IfOk};
-ghost use Rattle.std.specs.Vec.Iter.{into_iter_items};
-ghost use Rattle.std.specs.List.{list_all};
-ghost use Rattle.au_blocks.specs.Defects.{blocks_defects};
-ghost use Rattle.au_blocks.specs.Blocks.{once};
-ghost use Rattle.au_blocks.specs.Headers.{has_blocks};
-ghost use Rattle.au_blocks.specs.Entries.{entry_blocks, block_entry, has_role};
-ghost use Rattle.au_blocks.specs.Gathered.{all_finished};
-ghost use Rattle.au_blocks.specs.Read.{block_of, first, unless};
+//! The blocks of a table.
+ghost use Rattle.std.specs.Prelude.{◌≡◌, ◌≤◌, ◌<◌, ◌∷◌, [], Some, length, slice_get, take, drop, MatchOption};
+ghost use Rattle.std.specs.List.{All};
+ghost use Rattle.au_blocks.specs.Held.{IsWithin, held};
 
-use crate::alternative::Alternative;
+use crate::alternatives::Alternatives;
 use crate::block::Block;
-use crate::builder::BlockBuilder;
-use crate::column::Column;
-use crate::faults::TableFault;
-use crate::format::Format;
-use crate::gather::{gather, gather_by};
-use crate::plain_pieces::plain_blocks_by;
-use crate::role::Role;
-use crate::times::Times;
-use crate::values::row;
-use au_csv::Rec;
-use au_value::NoMemory;
-use std::alloc::Global;
-use std::thread::Threads;
-use std::vec::IntoIter;
+use crate::extent::Extent;
+use crate::item::item;
+use std::marker::Model;
 
-// The blocks of the records below a header with these columns, or the first defect of one.
-pub(crate) fn blocks(
-    alloc: Global,
-    format: Format,
-    columns: &[Column],
-    rows: IntoIter<Rec>,
-) -> Result<Vec<Block>, TableFault>
-    requires { has_blocks format ≡ true → list_all has_role (into_iter_items rows) ≡ true }
-    ensures blocks { IfOk result (λ bs. unless (first (blocks_defects (entry_blocks format (into_iter_items rows)))) (map (block_of (map (λ c. c.kind) columns.now)) (entry_blocks format (into_iter_items rows))) ≡ Ok bs.items) }
-    ensures fault { IfErr result (λ e. (e ≡ TableFault.NoMemory) ⊎ (first (blocks_defects (entry_blocks format (into_iter_items rows))) ≡ Some e)) }
-{
-    if format.has_blocks() {
-        finish_all(alloc, gather(alloc, format, columns, rows)?)
-    } else {
-        Ok(plain_blocks(alloc, columns, rows)?)
-    }
+/// Some blocks of a table, in their order. Contracts see their list.
+#[derive(Drop)]
+pub struct Blocks<'a> {
+    rows: &'a Alternatives,
+    extents: &'a [Extent],
 }
 
-// The same, where so many workers make the cells.
-pub(crate) fn blocks_by<R: Threads + Sync>(
-    rt: &R,
-    alloc: Global,
-    workers: usize,
-    format: Format,
-    columns: &[Column],
-    rows: &[Rec],
-) -> Result<Vec<Block>, TableFault>
-    requires workers { 1 ≤ workers }
-    requires roles { has_blocks format ≡ true → list_all has_role rows.now ≡ true }
-    ensures blocks { IfOk result (λ bs. unless (first (blocks_defects (entry_blocks format rows.now))) (map (block_of (map (λ c. c.kind) columns.now)) (entry_blocks format rows.now)) ≡ Ok bs.items) }
-    ensures fault { IfErr result (λ e. (e ≡ TableFault.NoMemory) ⊎ (first (blocks_defects (entry_blocks format rows.now)) ≡ Some e)) }
-{
-    if format.has_blocks() {
-        let builders = gather_by(rt, alloc, workers, format, columns, rows)?;
-        finish_all(alloc, builders)
-    } else {
-        Ok(plain_blocks_by(rt, alloc, workers, columns, rows)?)
-    }
+impl<'a> Model for Blocks<'a> {
+    ghost use Rattle.std.specs.Prelude.{List};
+    ghost use Rattle.std.specs.List.{All};
+    ghost use Rattle.au_blocks.specs.Blocks.{Choices};
+    ghost use Rattle.au_blocks.specs.Held.{IsWithin, held};
+
+    ghost Value = { List Choices };
+
+    ghost view = { λ b. held b.rows.now b.extents.now };
+
+    ghost invariant = { λ b. All (IsWithin b.rows.now) b.extents.now };
 }
 
-// The blocks of what was gathered, or the first defect of one.
-fn finish_all(alloc: Global, builders: Vec<BlockBuilder>) -> Result<Vec<Block>, TableFault>
-    ensures blocks { IfOk result (λ bs. all_finished 0 builders.items ≡ Ok bs.items) }
-    ensures fault { IfErr result (λ e. (e ≡ TableFault.NoMemory) ⊎ (all_finished 0 builders.items ≡ Err e)) }
-{
-    let mut blocks = Vec::with_capacity(alloc, builders.len())?;
-    for builder in builders {
-        let number = blocks.len();
-        blocks.push(builder.finish(number)?)?;
+impl<'a> Blocks<'a> {
+    /// The blocks of these places among the alternatives of a table.
+    pub fn of(rows: &'a Alternatives, extents: &'a [Extent]) -> Blocks<'a>
+        requires { All (IsWithin rows.now) extents.now }
+        ensures { result ≡ held rows.now extents.now }
+    {
+        Blocks { rows, extents }
     }
-    Ok(blocks)
-}
 
-// Each record as a block of its own.
-fn plain_blocks(
-    alloc: Global,
-    columns: &[Column],
-    rows: IntoIter<Rec>,
-) -> Result<Vec<Block>, NoMemory>
-    ensures { IfOk result (λ bs. bs.items ≡ map (block_of (map (λ c. c.kind) columns.now)) (entry_blocks Format.Plain (into_iter_items rows))) }
-{
-    let mut blocks = Vec::with_capacity(alloc, rows.len())?;
-    for record in rows {
-        blocks.push(certain(alloc, columns, &record)?)?;
+    /// The alternatives of the table, and the places of these blocks among them.
+    pub fn parts(&self) -> (&'a Alternatives, &'a [Extent])
+        ensures held { held result.0.now result.1.now ≡ self.now }
+        ensures within { All (IsWithin result.0.now) result.1.now }
+    {
+        (self.rows, self.extents)
     }
-    Ok(blocks)
-}
 
-// The block of one marked alternative.
-pub(crate) fn certain(alloc: Global, columns: &[Column], record: &Rec) -> Result<Block, NoMemory>
-    ensures { IfOk result (λ b. b ≡ block_of (map (λ c. c.kind) columns.now) (block_entry Role.Guess once «record».now ∷ [])) }
-{
-    let mut alternatives = Vec::with_capacity(alloc, 1)?;
-    let cells = row(alloc, Format::Plain, columns, record)?;
-    alternatives.push(Alternative::of(cells, Times::once()))?;
-    Ok(Block::of(alternatives, false, Some(0)))
+    /// How many blocks there are.
+    pub fn len(&self) -> usize
+        ensures { result ≡ length self.now }
+    {
+        self.extents.len()
+    }
+
+    /// The first block and the others, or none where there is no block.
+    pub fn split_first(&self) -> Option<(Block<'a>, Blocks<'a>)>
+        ensures { MatchOption result (self.now ≡ []) (λ p. self.now ≡ p.0 ∷ p.1) }
+    {
+        let Some((first, others)) = self.extents.split_first() else {
+            return None;
+        };
+        let block = Block::of(self.rows, first);
+        Some((block, Blocks::of(self.rows, others)))
+    }
+
+    /// The block at a place.
+    pub fn get(&self, place: usize) -> Block<'a>
+        requires { place < length self.now }
+        ensures { slice_get self.now place ≡ Some result }
+    {
+        Block::of(self.rows, item(self.extents, place))
+    }
+
+    /// The first blocks, so many, and the others.
+    pub fn split_at(&self, count: usize) -> (Blocks<'a>, Blocks<'a>)
+        requires { count ≤ length self.now }
+        ensures first { result.0 ≡ take count self.now }
+        ensures others { result.1 ≡ drop count self.now }
+    {
+        let (first, others) = self.extents.split_at(count);
+        let front = Blocks::of(self.rows, first);
+        let back = Blocks::of(self.rows, others);
+        (front, back)
+    }
 }

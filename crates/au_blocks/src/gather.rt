@@ -1,106 +1,89 @@
 //! The records of a block table, gathered by their labels.
-ghost use Rattle.std.specs.Prelude.{◌≡◌, ◌≤◌, ◌++◌, ◌∷◌, [], true, Some, if◌then◌else◌, map, IfOk, IsTrue, OnOk, bytes_eq};
-ghost use Rattle.std.specs.Vec.Iter.{into_iter_items};
+ghost use Rattle.std.specs.Prelude.{◌≡◌, ℕ, ◌++◌, ◌∷◌, [], true, Some, if◌then◌else◌, map, IfOk, IsTrue, OnOk, bytes_eq, nat_lt};
 ghost use Rattle.std.specs.List.{list_all, list_any, position_or_len};
 ghost use Rattle.indexmap.specs.IndexSet.{insert_key};
-ghost use Rattle.au_blocks.specs.Entries.{entry_blocks, copies_in, block_entry, has_role, role_of};
-ghost use Rattle.au_blocks.specs.Headers.{cells_of, has_blocks};
-ghost use Rattle.au_blocks.specs.Gathered.{gathered, nothing, with_entry};
+ghost use Rattle.au_blocks.specs.Entries.{entry_blocks, has_role, is_absent, role_of};
+ghost use Rattle.au_blocks.specs.Headers.{has_blocks};
 ghost use Rattle.au_blocks.specs.Labels.{lent_labels};
-ghost use Rattle.au_blocks.specs.Pieces.{with_alternative};
+ghost use Rattle.au_blocks.specs.Order.{Rise, by_numbers, chosen, lent_numbered, lent_records, numbered as numbered_of, of_number};
+ghost use Rattle.au_blocks.specs.Tallies.{nothing, tally_of};
 
-use crate::builder::BlockBuilder;
-use crate::column::Column;
-use crate::entry::Entry;
-use crate::entry_pieces::{alternative, entries_by};
 use crate::fields::field;
 use crate::format::Format;
 use crate::role::Role;
 use crate::row_faults::role;
-use crate::run_pieces::runs_by;
-use crate::runs::runs;
+use crate::runs::{alternatives_of_runs, runs, tallies_of_runs};
+use crate::tally::Tally;
 use au_csv::Rec;
-use au_value::{NoMemory, Word};
+use au_value::NoMemory;
 use indexmap::IndexSet;
 use std::alloc::Global;
 use std::hash::Hash;
-use std::thread::Threads;
-use std::vec::IntoIter;
 
-// What the records of each label amount to, in the order in which the labels come first.
-pub(crate) fn gather(
+// What the records of each label amount to, in the order in which the labels come first, and the records that are
+// alternatives, block behind block.
+pub(crate) fn gather<'a>(
     alloc: Global,
     format: Format,
-    columns: &[Column],
-    rows: IntoIter<Rec>,
-) -> Result<Vec<BlockBuilder>, NoMemory>
-    requires blocks { has_blocks format ≡ true }
-    requires roles { list_all has_role (into_iter_items rows) ≡ true }
-    ensures { IfOk result (λ bs. bs.items ≡ map (gathered (map (λ c. c.kind) columns.now)) (entry_blocks format (into_iter_items rows))) }
-{
-    let mut labels = IndexSet::new(alloc);
-    let mut builders = Vec::new(alloc);
-    let mut recent = 0;
-    for record in rows {
-        let role = role_in(format, &record);
-        let label = field(&record, 0);
-        recent = place_near(alloc, &mut labels, &mut builders, label, recent)?;
-        add_entry(alloc, format, columns, &mut builders[recent], role, &record)?;
-    }
-    Ok(builders)
-}
-
-// The same by so many workers: they make whole blocks where no label descends, and else the alternatives.
-pub(crate) fn gather_by<R: Threads + Sync>(
-    rt: &R,
-    alloc: Global,
-    workers: usize,
-    format: Format,
-    columns: &[Column],
-    rows: &[Rec],
-) -> Result<Vec<BlockBuilder>, NoMemory>
-    requires workers { 1 ≤ workers }
+    rows: &'a [Rec],
+) -> Result<(Vec<Tally>, Vec<&'a Rec>), NoMemory>
     requires blocks { has_blocks format ≡ true }
     requires roles { list_all has_role rows.now ≡ true }
-    ensures { IfOk result (λ bs. bs.items ≡ map (gathered (map (λ c. c.kind) columns.now)) (entry_blocks format rows.now)) }
+    ensures tallies { IfOk result (λ g. g.0.items ≡ map tally_of (entry_blocks format rows.now)) }
+    ensures records { IfOk result (λ g. lent_records g.1.items ≡ chosen format rows.now) }
 {
     if let Some(found) = runs(alloc, rows)? {
-        return runs_by(rt, alloc, workers, format, columns, &found);
+        let tallies = tallies_of_runs(alloc, format, &found)?;
+        let records = alternatives_of_runs(alloc, format, &found, rows.len())?;
+        return Ok((tallies, records));
     }
-    gather_scattered(rt, alloc, workers, format, columns, rows)
+    let (tallies, numbered) = gather_scattered(alloc, format, rows)?;
+    let records = in_order(alloc, numbered)?;
+    Ok((tallies, records))
 }
 
-// The same, where the records of a label may stand anywhere: the workers make the alternatives, and one thread the blocks.
-fn gather_scattered<R: Threads + Sync>(
-    rt: &R,
+// The same, where the records of a label may stand anywhere. Beside each alternative stands the number of its block.
+fn gather_scattered<'a>(
     alloc: Global,
-    workers: usize,
     format: Format,
-    columns: &[Column],
-    rows: &[Rec],
-) -> Result<Vec<BlockBuilder>, NoMemory>
-    requires workers { 1 ≤ workers }
+    rows: &'a [Rec],
+) -> Result<(Vec<Tally>, Vec<(usize, &'a Rec)>), NoMemory>
     requires blocks { has_blocks format ≡ true }
     requires roles { list_all has_role rows.now ≡ true }
-    ensures { IfOk result (λ bs. bs.items ≡ map (gathered (map (λ c. c.kind) columns.now)) (entry_blocks format rows.now)) }
+    ensures tallies { IfOk result (λ g. g.0.items ≡ map tally_of (entry_blocks format rows.now)) }
+    ensures records { IfOk result (λ g. lent_numbered g.1.items ≡ numbered_of format rows.now) }
 {
-    let mut entries = entries_by(rt, alloc, workers, format, columns, rows)?.into_iter();
     let mut labels = IndexSet::with_capacity(alloc, rows.len())?;
-    let mut builders = Vec::with_capacity(alloc, rows.len())?;
+    let mut tallies = Vec::with_capacity(alloc, rows.len())?;
+    let mut alternatives = Vec::with_capacity(alloc, rows.len())?;
     let mut recent = 0;
     for number in 0..rows.len() {
-        let Some(entry) = entries.next() else {
-            unreachable!()
-        };
-        let label = field(&rows[number], 0);
-        recent = lent_place_near(alloc, &mut labels, &mut builders, label, recent)?;
-        add_made(&mut builders[recent], entry)?;
+        let record = &rows[number];
+        let role = role_in(format, record);
+        recent = place_near(&mut labels, &mut tallies, field(record, 0), recent)?;
+        tallies[recent] = tallies[recent].with(role);
+        put(&mut alternatives, role, recent, record)?;
     }
-    Ok(builders)
+    Ok((tallies, alternatives))
+}
+
+// Puts a record of this role behind others, beside the number of its block, if it is an alternative.
+fn put<'a>(
+    alternatives: &mut Vec<(usize, &'a Rec)>,
+    role: Role,
+    number: usize,
+    record: &'a Rec,
+) -> Result<(), NoMemory>
+    ensures { OnOk result (lent_numbered alternatives.new.items ≡ lent_numbered alternatives.old.items ++ (if is_absent role then [] else (number, «record».now) ∷ [])) }
+{
+    if !role.is_absent() {
+        alternatives.push((number, record))?;
+    }
+    Ok(())
 }
 
 // The role of a record that has one.
-fn role_in(format: Format, record: &Rec) -> Role
+pub(crate) fn role_in(format: Format, record: &Rec) -> Role
     requires blocks { has_blocks format ≡ true }
     requires role { has_role «record».now ≡ true }
     ensures { role_of format «record».now ≡ Some result }
@@ -113,57 +96,25 @@ fn role_in(format: Format, record: &Rec) -> Role
 
 // The place of the block with this label, which is a new one where the label is new. The place that was found last is tried
 // first, since the records of a block mostly follow one another.
-fn place_near(
-    alloc: Global,
-    labels: &mut IndexSet<Word>,
-    builders: &mut Vec<BlockBuilder>,
-    label: &str,
-    recent: usize,
-) -> Result<usize, NoMemory>
-    ensures labels { OnOk result (labels.new.keys ≡ insert_key bytes_eq labels.old.keys label.now) }
-    ensures builders { OnOk result (builders.new.items ≡ builders.old.items ++ (if list_any (bytes_eq label.now) labels.old.keys then [] else nothing ∷ [])) }
-    ensures place { IfOk result (λ place. place ≡ position_or_len (bytes_eq label.now) labels.old.keys) }
-{
-    if stands_at(labels, label, recent) {
-        return Ok(recent);
-    }
-    let at = place_of(alloc, labels, builders, Word::of(alloc, label)?)?;
-    Ok(at)
-}
-
-// Whether a label is the one at a place.
-fn stands_at(labels: &IndexSet<Word>, label: &str, place: usize) -> bool
-    ensures { IsTrue result → (list_any (bytes_eq label.now) labels.now.keys ≡ true) × (place ≡ position_or_len (bytes_eq label.now) labels.now.keys) }
-{
-    let known = labels.as_slice();
-    if place < known.len() {
-        label == known[place].as_str()
-    } else {
-        false
-    }
-}
-
-// The same over labels that are lent from the records, so that no text is made for one.
-fn lent_place_near<'a>(
-    alloc: Global,
+fn place_near<'a>(
     labels: &mut IndexSet<&'a str>,
-    builders: &mut Vec<BlockBuilder>,
+    tallies: &mut Vec<Tally>,
     label: &'a str,
     recent: usize,
 ) -> Result<usize, NoMemory>
     ensures labels { OnOk result (lent_labels labels.new ≡ insert_key bytes_eq (lent_labels labels.old) label.now) }
-    ensures builders { OnOk result (builders.new.items ≡ builders.old.items ++ (if list_any (bytes_eq label.now) (lent_labels labels.old) then [] else nothing ∷ [])) }
+    ensures tallies { OnOk result (tallies.new.items ≡ tallies.old.items ++ (if list_any (bytes_eq label.now) (lent_labels labels.old) then [] else nothing ∷ [])) }
     ensures place { IfOk result (λ place. place ≡ position_or_len (bytes_eq label.now) (lent_labels labels.old)) }
 {
-    if lent_stands_at(labels, label, recent) {
+    if stands_at(labels, label, recent) {
         return Ok(recent);
     }
-    let at = place_of(alloc, labels, builders, label)?;
+    let at = place_of(labels, tallies, label)?;
     Ok(at)
 }
 
-// Whether a label is the one that is lent at a place.
-fn lent_stands_at(labels: &IndexSet<&str>, label: &str, place: usize) -> bool
+// Whether a label is the one at a place.
+fn stands_at(labels: &IndexSet<&str>, label: &str, place: usize) -> bool
     ensures { IsTrue result → (list_any (bytes_eq label.now) (lent_labels labels.now) ≡ true) × (place ≡ position_or_len (bytes_eq label.now) (lent_labels labels.now)) }
 {
     let known = labels.as_slice();
@@ -176,54 +127,47 @@ fn lent_stands_at(labels: &IndexSet<&str>, label: &str, place: usize) -> bool
 
 // The place of the block with this label, by its hash.
 fn place_of<K: Eq + Hash + Drop>(
-    alloc: Global,
     labels: &mut IndexSet<K>,
-    builders: &mut Vec<BlockBuilder>,
+    tallies: &mut Vec<Tally>,
     label: K,
 ) -> Result<usize, NoMemory>
     ensures labels { OnOk result (labels.new.keys ≡ insert_key K.eq labels.old.keys label) }
-    ensures builders { OnOk result (builders.new.items ≡ builders.old.items ++ (if list_any (K.eq label) labels.old.keys then [] else nothing ∷ [])) }
+    ensures tallies { OnOk result (tallies.new.items ≡ tallies.old.items ++ (if list_any (K.eq label) labels.old.keys then [] else nothing ∷ [])) }
     ensures place { IfOk result (λ place. place ≡ position_or_len (K.eq label) labels.old.keys) }
 {
     let (place, new) = labels.insert_full(label)?;
     if new {
-        builders.push(BlockBuilder::new(alloc))?;
+        tallies.push(Tally::nothing())?;
     }
     Ok(place)
 }
 
-// One entry more of a block: of a record with this role.
-pub(crate) fn add_entry(
-    alloc: Global,
-    format: Format,
-    columns: &[Column],
-    builder: &mut BlockBuilder,
-    role: Role,
-    record: &Rec,
-) -> Result<(), NoMemory>
-    ensures { OnOk result (builder.new ≡ with_entry (map (λ c. c.kind) columns.now) builder.old (block_entry role (copies_in format «record».now) (cells_of format «record».now))) }
+// The records by the numbers of their blocks.
+fn in_order<'a>(alloc: Global, numbered: Vec<(usize, &'a Rec)>) -> Result<Vec<&'a Rec>, NoMemory>
+    ensures { IfOk result (λ v. (n : ℕ) → list_all (λ p. nat_lt p.0 n) numbered.entry.items ≡ true → lent_records v.items ≡ by_numbers n (lent_numbered numbered.entry.items)) }
 {
-    if role.is_absent() {
-        builder.add_absence(role.is_marked());
-        return Ok(());
-    }
-    let alternative = alternative(alloc, format, columns, record)?;
-    builder.add_row(role.is_marked(), alternative)
+    let sorted = sorted(numbered)?;
+    taken_apart(alloc, &sorted)
 }
 
-// One entry more of a block, as a worker made it.
-fn add_made(builder: &mut BlockBuilder, entry: Entry) -> Result<(), NoMemory>
-    ensures { OnOk result (builder.new ≡ with_alternative builder.old entry.marked entry.alternative) }
+// Them by the numbers of their blocks. The sort keeps the order of the records of a block.
+fn sorted<'a>(numbered: Vec<(usize, &'a Rec)>) -> Result<Vec<(usize, &'a Rec)>, NoMemory>
+    ensures rise { IfOk result (λ v. Rise v.items) }
+    ensures stable { IfOk result (λ v. (k : ℕ) → of_number k v.items ≡ of_number k numbered.entry.items) }
+    ensures below { IfOk result (λ v. (n : ℕ) → list_all (λ p. nat_lt p.0 n) numbered.entry.items ≡ true → list_all (λ p. nat_lt p.0 n) v.items ≡ true) }
 {
-    let Entry {
-        marked,
-        alternative,
-    } = entry;
-    match alternative {
-        Some(alternative) => builder.add_row(marked, alternative),
-        None => {
-            builder.add_absence(marked);
-            Ok(())
-        }
+    let mut numbered = numbered;
+    numbered.sort_by_key(|record| record.0)?;
+    Ok(numbered)
+}
+
+// The records without the numbers.
+fn taken_apart<'a>(alloc: Global, numbered: &[(usize, &'a Rec)]) -> Result<Vec<&'a Rec>, NoMemory>
+    ensures { IfOk result (λ v. lent_records v.items ≡ map (λ p. p.1) (lent_numbered numbered.now)) }
+{
+    let mut records = Vec::with_capacity(alloc, numbered.len())?;
+    for place in 0..numbered.len() {
+        records.push(numbered[place].1)?;
     }
+    Ok(records)
 }

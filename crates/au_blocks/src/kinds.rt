@@ -98,7 +98,7 @@ fn any_alternative(format: Format, rows: &[Rec]) -> bool
 }
 
 // Whether a record is an alternative.
-fn is_alternative(format: Format, record: &Rec) -> bool
+pub(crate) fn is_alternative(format: Format, record: &Rec) -> bool
     ensures { result ≡ is_alternative_of format «record».now }
 {
     match role(format, record) {

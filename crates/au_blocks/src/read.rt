@@ -1,13 +1,13 @@
 //! The block table of a file's bytes.
 ghost use Rattle.std.specs.Prelude.{◌≡◌, ◌≤◌, ◌⊎◌, ◌∷◌, Some, Ok, Err, IfOk, IfErr, drop};
-ghost use Rattle.std.specs.Vec.Iter.{into_iter_items};
 ghost use Rattle.au_csv.specs.Texts.{text_records};
 ghost use Rattle.au_blocks.specs.Defects.{table_defects};
 ghost use Rattle.au_blocks.specs.Read.{contents, first, table_of, unless};
 
-use crate::blocks::{blocks, blocks_by};
 use crate::faults::TableFault;
 use crate::format::Format;
+use crate::layout::layout;
+use crate::rows::{alternatives, alternatives_by};
 use crate::schema::{schema, schema_by};
 use crate::table::Table;
 use au_csv::{Rec, records, records_by};
@@ -15,7 +15,6 @@ use au_par::let_go;
 use au_value::Word;
 use std::alloc::Global;
 use std::thread::Threads;
-use std::vec::IntoIter;
 
 /// The block table of the bytes of a table file.
 ///
@@ -32,8 +31,7 @@ pub fn read_table(alloc: Global, bytes: &[u8]) -> Result<Table, TableFault>
     ensures fault { IfErr result (λ e. (e ≡ TableFault.NoMemory) ⊎ (table_of bytes.now ≡ Err e)) }
 {
     let rows = records(alloc, bytes)?;
-    let header = header_of(alloc, rows.as_slice())?;
-    table_under(alloc, header.as_slice(), rows)
+    table_of_records(alloc, rows.as_slice())
 }
 
 /// The table of [`read_table`], whose records so many workers judge and make cells of.
@@ -77,24 +75,25 @@ fn below(rows: &[Rec]) -> &[Rec]
     }
 }
 
-// The same, taken out.
-fn taken_below(rows: Vec<Rec>) -> IntoIter<Rec>
-    ensures { into_iter_items result ≡ drop 1 rows.items }
+// The block table of these records, the header first.
+fn table_of_records(alloc: Global, rows: &[Rec]) -> Result<Table, TableFault>
+    ensures table { IfOk result (λ t. unless (first (table_defects rows.now)) (contents rows.now) ≡ Ok t) }
+    ensures fault { IfErr result (λ e. (e ≡ TableFault.NoMemory) ⊎ (first (table_defects rows.now) ≡ Some e)) }
 {
-    let mut others = rows.into_iter();
-    let _ = others.next();
-    others
+    let header = header_of(alloc, rows)?;
+    table_under(alloc, header.as_slice(), below(rows))
 }
 
-// The block table of a header and the records, of which it is the first.
-fn table_under(alloc: Global, header: &[Word], rows: Vec<Rec>) -> Result<Table, TableFault>
-    ensures table { IfOk result (λ t. unless (first (table_defects (header.now ∷ drop 1 rows.items))) (contents (header.now ∷ drop 1 rows.items)) ≡ Ok t) }
-    ensures fault { IfErr result (λ e. (e ≡ TableFault.NoMemory) ⊎ (first (table_defects (header.now ∷ drop 1 rows.items)) ≡ Some e)) }
+// The block table of a header and the records below it.
+fn table_under(alloc: Global, header: &[Word], rows: &[Rec]) -> Result<Table, TableFault>
+    ensures table { IfOk result (λ t. unless (first (table_defects (header.now ∷ rows.now))) (contents (header.now ∷ rows.now)) ≡ Ok t) }
+    ensures fault { IfErr result (λ e. (e ≡ TableFault.NoMemory) ⊎ (first (table_defects (header.now ∷ rows.now)) ≡ Some e)) }
 {
-    let columns = schema(alloc, header, below(rows.as_slice()))?;
+    let columns = schema(alloc, header, rows)?;
     let format = Format::of(header);
-    let blocks = blocks(alloc, format, columns.as_slice(), taken_below(rows))?;
-    Ok(Table::of(columns, blocks))
+    let (extents, records) = layout(alloc, format, rows)?;
+    let alternatives = alternatives(alloc, format, columns.as_slice(), records.as_slice())?;
+    Ok(Table::of(columns, alternatives, extents))
 }
 
 // The block table of these records, the header first, of which so many workers judge the others and make the cells.
@@ -126,6 +125,8 @@ fn table_by<R: Threads + Sync>(
 {
     let columns = schema_by(rt, alloc, workers, header, rows)?;
     let format = Format::of(header);
-    let blocks = blocks_by(rt, alloc, workers, format, columns.as_slice(), rows)?;
-    Ok(Table::of(columns, blocks))
+    let (extents, records) = layout(alloc, format, rows)?;
+    let (named, lent) = (columns.as_slice(), records.as_slice());
+    let alternatives = alternatives_by(rt, alloc, workers, format, named, lent)?;
+    Ok(Table::of(columns, alternatives, extents))
 }

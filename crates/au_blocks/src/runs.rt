@@ -1,8 +1,18 @@
-//! Records whose labels never descend, cut where the label changes.
-ghost use Rattle.std.specs.Prelude.{◌≡◌, IfOk, IfSome};
+//! Records whose labels never descend, cut where the label changes, and what they amount to.
+ghost use Rattle.std.specs.Prelude.{◌≡◌, ◌≤◌, ◌++◌, true, filter, flat_map, map, IfOk, IfSome, OnOk};
+ghost use Rattle.std.specs.List.{list_all};
+ghost use Rattle.au_blocks.specs.Entries.{entries_of, has_role};
+ghost use Rattle.au_blocks.specs.Headers.{has_blocks};
+ghost use Rattle.au_blocks.specs.Inferring.{is_alternative as is_alternative_of};
+ghost use Rattle.au_blocks.specs.Order.{lent_records};
 ghost use Rattle.au_blocks.specs.Runs.{by_labels, label_order, lent_runs};
+ghost use Rattle.au_blocks.specs.Tallies.{tally_of};
 
 use crate::fields::field;
+use crate::format::Format;
+use crate::kinds::is_alternative;
+use crate::row_faults::role;
+use crate::tally::Tally;
 use au_csv::Rec;
 use au_value::NoMemory;
 use std::alloc::Global;
@@ -42,4 +52,64 @@ fn compare_labels(a: &str, b: &str) -> Ordering
         Ordering::Equal => a.cmp(b),
         other => other,
     }
+}
+
+// What each run amounts to.
+pub(crate) fn tallies_of_runs(
+    alloc: Global,
+    format: Format,
+    runs: &[&[Rec]],
+) -> Result<Vec<Tally>, NoMemory>
+    ensures { IfOk result (λ ts. ts.items ≡ map (λ run. tally_of (entries_of format run.now)) runs.now) }
+{
+    let mut tallies = Vec::with_capacity(alloc, runs.len())?;
+    for run in runs {
+        tallies.push(tally(format, run))?;
+    }
+    Ok(tallies)
+}
+
+// What the records of a run amount to.
+fn tally(format: Format, run: &[Rec]) -> Tally
+    ensures { result ≡ tally_of (entries_of format run.now) }
+{
+    let mut tally = Tally::nothing();
+    for place in 0..run.len() {
+        if let Some(role) = role(format, &run[place]) {
+            tally = tally.with(role);
+        }
+    }
+    tally
+}
+
+// The records that are alternatives, run behind run, of which there are at most so many.
+pub(crate) fn alternatives_of_runs<'a>(
+    alloc: Global,
+    format: Format,
+    runs: &[&'a [Rec]],
+    count: usize,
+) -> Result<Vec<&'a Rec>, NoMemory>
+    ensures { IfOk result (λ v. lent_records v.items ≡ flat_map (λ run. filter (is_alternative_of format) run.now) runs.now) }
+{
+    let mut records = Vec::with_capacity(alloc, count)?;
+    for run in runs {
+        put_alternatives(format, run, &mut records)?;
+    }
+    Ok(records)
+}
+
+// Puts those of a run behind others.
+fn put_alternatives<'a>(
+    format: Format,
+    run: &'a [Rec],
+    records: &mut Vec<&'a Rec>,
+) -> Result<(), NoMemory>
+    ensures { OnOk result (lent_records records.new.items ≡ lent_records records.old.items ++ filter (is_alternative_of format) run.now) }
+{
+    for place in 0..run.len() {
+        if is_alternative(format, &run[place]) {
+            records.push(&run[place])?;
+        }
+    }
+    Ok(())
 }

@@ -1,6 +1,6 @@
 //! How often something was seen.
 ghost use Rattle.std.specs.Prelude.{◌≡◌};
-ghost use Rattle.au_blocks.specs.Gathered.{more as more_of, is_again as is_again_of, is_never as is_never_of};
+ghost use Rattle.au_blocks.specs.Tallies.{more as more_of, is_again as is_again_of, is_never as is_never_of};
 
 /// How often something was seen: beyond once, it doesn't matter.
 #[derive(Clone, Copy)]

@@ -1,10 +1,13 @@
 //! A table of blocks.
 ghost use Rattle.std.specs.Prelude.{◌≡◌};
+ghost use Rattle.au_blocks.specs.Held.{held};
+ghost use Rattle.au_blocks.specs.Laid.{IsLaid};
 ghost use Rattle.au_blocks.specs.Tables.{IsBlockTable, table};
 
-use crate::block::Block as Extent;
+use crate::alternatives::Alternatives;
+use crate::blocks::Blocks;
 use crate::column::Column;
-use crate::view::{Alternatives, Blocks};
+use crate::extent::Extent;
 use std::marker::Model;
 
 /// Columns, and blocks whose rows have one value for each column, of its kind.
@@ -12,29 +15,31 @@ use std::marker::Model;
 pub struct Table {
     columns: Vec<Column>,
     rows: Alternatives,
-    blocks: Vec<Extent>,
+    extents: Vec<Extent>,
 }
 
 impl Model for Table {
-    ghost use Rattle.au_blocks.specs.Tables.{BlockTable, IsBlockTable, table};
+    ghost use Rattle.au_blocks.specs.Held.{held};
+    ghost use Rattle.au_blocks.specs.Laid.{IsLaid};
+    ghost use Rattle.au_blocks.specs.Tables.{BlockTable, table};
 
     ghost Value = { BlockTable };
 
-    ghost view = { λ t. table t.columns.items t.blocks.items };
+    ghost view = { λ t. table t.columns.items (held t.rows t.extents.items) };
 
-    ghost invariant = { λ t. IsBlockTable (table t.columns.items t.blocks.items) };
+    ghost invariant = { λ t. IsLaid t.columns.items t.rows t.extents.items };
 }
 
 impl Table {
-    // The table of these columns and blocks.
-    pub(crate) fn of(columns: Vec<Column>, blocks: Vec<Extent>) -> Table
-        requires { IsBlockTable (table columns.items blocks.items) }
-        ensures { result ≡ table columns.items blocks.items }
+    // The table of these columns, and of blocks at these places among these alternatives.
+    pub(crate) fn of(columns: Vec<Column>, rows: Alternatives, extents: Vec<Extent>) -> Table
+        requires { IsLaid columns.items rows extents.items }
+        ensures { result ≡ table columns.items (held rows extents.items) }
     {
         Table {
             columns,
-            rows: Alternatives::none(),
-            blocks,
+            rows,
+            extents,
         }
     }
 
@@ -51,6 +56,6 @@ impl Table {
         ensures of { result ≡ self.now.blocks }
         ensures is_table { IsBlockTable self.now }
     {
-        Blocks::of(&self.rows, self.blocks.as_slice())
+        Blocks::of(&self.rows, self.extents.as_slice())
     }
 }

@@ -44,6 +44,18 @@ impl Times {
         }
     }
 
+    // The same numbers.
+    pub(crate) fn copied(&self) -> Times
+        ensures of { result ≡ self.now }
+        ensures copies { IsCopies self.now }
+    {
+        Times {
+            least: self.least,
+            guess: self.guess,
+            most: self.most,
+        }
+    }
+
     /// The least number of copies.
     pub fn least(&self) -> u64
         ensures of { result ≡ self.now.least }

@@ -1,38 +1,16 @@
 //! Texts as cells of their columns.
-ghost use Rattle.std.specs.Prelude.{◌≡◌, map, true, unwrap_or, IfOk};
-ghost use Rattle.au_blocks.specs.Headers.{cells_of};
-ghost use Rattle.au_blocks.specs.Read.{cell as cell_of, row as row_of};
+ghost use Rattle.std.specs.Prelude.{◌≡◌, true, unwrap_or, IfOk};
+ghost use Rattle.au_blocks.specs.Read.{cell as cell_of};
 ghost use Rattle.au_blocks.specs.Spellings.{is_number_kind, range_written as range_written_of};
 ghost use Rattle.au_value.specs.Ranges.{certain};
 
 use crate::cell::Cell;
-use crate::column::Column;
-use crate::fields::{cell_count, cell_text};
-use crate::format::Format;
 use crate::spellings::{flag_written, number_written, range_written};
-use au_csv::Rec;
 use au_value::{Kind, NoMemory, Value, Word};
 use std::alloc::Global;
 
-// The row of a record: a cell for each column.
-pub(crate) fn row(
-    alloc: Global,
-    format: Format,
-    columns: &[Column],
-    record: &Rec,
-) -> Result<Vec<Cell>, NoMemory>
-    ensures { IfOk result (λ cells. cells.items ≡ row_of (map (λ c. c.kind) columns.now) (cells_of format «record».now)) }
-{
-    let mut cells = Vec::with_capacity(alloc, columns.len())?;
-    for place in 0..columns.len().min(cell_count(format, record)) {
-        let text = cell_text(format, record, place);
-        cells.push(cell(alloc, columns[place].kind, text)?)?;
-    }
-    Ok(cells)
-}
-
 // The cell of a text: of the value that it writes, or else the range. Where it writes neither, it stays a text.
-fn cell(alloc: Global, kind: Kind, text: &str) -> Result<Cell, NoMemory>
+pub(crate) fn cell(alloc: Global, kind: Kind, text: &str) -> Result<Cell, NoMemory>
     ensures { IfOk result (λ c. c ≡ cell_of (kind, text.now)) }
 {
     match kind {

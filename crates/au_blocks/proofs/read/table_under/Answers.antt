@@ -1,25 +1,36 @@
 -- The table of records without a defect.
-use Rattle.std.proofs.Common.{◌∙◌, Ok, drop, sym, ap}
-use Rattle.au_blocks.specs.Headers.{has_blocks}
-use Rattle.au_blocks.proofs.WellFormed.{roles-of}
+use Rattle.std.proofs.Common.{◌∙◌, Ok, length, sym, ap}
+use Rattle.au_blocks.specs.Columns.{is_wide}
+use Rattle.au_blocks.specs.Headers.{format_of, has_blocks}
+use Rattle.au_blocks.specs.Read.{header_columns}
 use Rattle.au_blocks.proofs.TableParts.{parts_fit, parts_are}
+use Rattle.au_blocks.proofs.WellFormed.{roles-of, widths-of}
+use Rattle.au_blocks.proofs.Widths.{all-chosen}
 use Rattle.au_blocks.proofs.read.table_under.Goals as goal
 
-pub blocks-requires : goal.blocks-requires
-blocks-requires c block =
-    let sound = rw (c.below.ensures, c.as_slice.ensures.value) at c.in_ok-columns.ensures.sound in
-    rw (c.taken_below.ensures) (roles-of c.args.header.now (drop 1 c.args.rows.items) sound (sym (ap has_blocks c.of-format.ensures) ∙ block))
+pub layout-requires : goal.layout-requires
+layout-requires c block = roles-of c.args.header.now c.args.rows.now c.in_ok-columns.ensures.sound (sym (ap has_blocks c.of-format.ensures) ∙ block)
+
+pub alternatives-requires : goal.alternatives-requires
+alternatives-requires c =
+    let header = c.args.header.now in
+    let rows = c.args.rows.now in
+    let wide = widths-of header rows c.in_ok-columns.ensures.sound in
+    rw (c.as_slice.ensures.value, c.in_ok-columns.ensures.columns, c.as_slice-2.ensures.value, c.in_ok-extents.ensures.records, c.of-format.ensures)
+    (all-chosen (is_wide (format_of header) (length (header_columns header rows))) (format_of header) rows wide)
 
 pub of-requires : goal.of-requires
 of-requires c =
-    let sound = rw (c.below.ensures, c.as_slice.ensures.value) at c.in_ok-columns.ensures.sound in
-    let columns = rw (c.below.ensures, c.as_slice.ensures.value) at c.in_ok-columns.ensures.columns in
-    let made = rw (c.of-format.ensures, c.as_slice-2.ensures.value, c.taken_below.ensures) at c.in_ok-blocks.ensures.blocks in
-    parts_fit c.args.header.now (drop 1 c.args.rows.items) c.in_ok-columns.columns.items c.in_ok-blocks.blocks.items sound columns made
+    let none = rw c.of-format.ensures at c.in_ok-extents.ensures.sound in
+    let placed = rw c.of-format.ensures at c.in_ok-extents.ensures.extents in
+    let made = rw (c.as_slice.ensures.value, c.as_slice-2.ensures.value, c.in_ok-extents.ensures.records, c.of-format.ensures) at c.in_ok-alternatives.ensures in
+    parts_fit c.args.header.now c.args.rows.now c.in_ok-columns.columns.items c.in_ok-alternatives.alternatives c.in_ok-extents.extents.items
+    c.in_ok-columns.ensures.sound c.in_ok-columns.ensures.columns none made placed
 
 pub returns-clause-table : goal.returns-clause-table
 returns-clause-table c =
-    let sound = rw (c.below.ensures, c.as_slice.ensures.value) at c.in_ok-columns.ensures.sound in
-    let columns = rw (c.below.ensures, c.as_slice.ensures.value) at c.in_ok-columns.ensures.columns in
-    let made = rw (c.of-format.ensures, c.as_slice-2.ensures.value, c.taken_below.ensures) at c.in_ok-blocks.ensures.blocks in
-    parts_are c.args.header.now (drop 1 c.args.rows.items) c.in_ok-columns.columns.items c.in_ok-blocks.blocks.items sound columns made ∙ ap Ok (sym c.of.ensures)
+    let none = rw c.of-format.ensures at c.in_ok-extents.ensures.sound in
+    let placed = rw c.of-format.ensures at c.in_ok-extents.ensures.extents in
+    let made = rw (c.as_slice.ensures.value, c.as_slice-2.ensures.value, c.in_ok-extents.ensures.records, c.of-format.ensures) at c.in_ok-alternatives.ensures in
+    parts_are c.args.header.now c.args.rows.now c.in_ok-columns.columns.items c.in_ok-alternatives.alternatives c.in_ok-extents.extents.items
+    c.in_ok-columns.ensures.sound c.in_ok-columns.ensures.columns none made placed ∙ ap Ok (sym c.of.ensures)

@@ -1,0 +1,9 @@
+use Rattle.std.proofs.Common.{◌≡◌, ◌++◌, drop, map}
+use Rattle.au_value.specs.declared.value.Value.TheVariants as value
+use Rattle.au_value.specs.Ranges.{certain}
+use Rattle.au_blocks.specs.Columns.{column_cells}
+use Rattle.au_blocks.proofs.filling.narrow.Given as goal
+
+-- the cells so far stand before those of the records that are left
+abbrev pub invariant-loop-record : goal.invariant-loop-record
+invariant-loop-record l = map (λ n. certain (value.Int n)) l.numbers.items ++ column_cells l.format l.kind l.place (drop l.record-index l.records) ≡ column_cells l.format l.kind l.place l.records
