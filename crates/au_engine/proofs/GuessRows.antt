@@ -1,9 +1,8 @@
 -- The tables' rows in the guess world: what stands there of a block, and that the rows have the columns' kinds.
-use Rattle.std.specs.Prelude.{◌≡◌, ℕ, zero, suc, ◌<◌, true, List, [], ◌∷◌, length, map, replicate, Option, Some, None, option_and_then, option_map, slice_get}
+use Rattle.std.specs.Prelude.{◌≡◌, ℕ, zero, suc, true, List, [], ◌∷◌, map, replicate, Option, Some, None, option_and_then, option_map, slice_get}
 use Rattle.std.specs.List.{AllByRecursion, AllZip, list_all}
-use Rattle.std.proofs.Common.{refl, get_or}
+use Rattle.std.proofs.Common.{refl}
 use Rattle.std.proofs.lemmas.Bool.{and_parts}
-use Rattle.std.proofs.lemmas.Option.{slice_get_read}
 use Rattle.au_value.specs.declared.kinds.Kind.{Kind}
 use Rattle.au_value.specs.Order.{kind_of}
 use Rattle.au_value.specs.Ranges.{Span, guesses}
@@ -13,16 +12,6 @@ use Rattle.au_blocks.specs.Tables.{BlockTable, IsBlockTable, column_kinds, fits_
 use Rattle.au_blocks.specs.Worlds.{chosen, guess_choice, guess_world, rows_in, taken, tables_in}
 use Rattle.au_plain.specs.PlanKinds.{HaveKinds}
 use Rattle.au_translate.proofs.Alternatives.{is_of}
-
--- ---- of one block
-
--- one whose marked choice is absence has no row, and any other the guesses of the marked alternative
-pub unmarked : (b : Choices) → b.guess ≡ None → chosen (guess_choice b) ≡ []
-unmarked b marked = rw marked refl
-
-pub marked_rows : (b : Choices) (at : ℕ) (a : Candidate) → b.guess ≡ Some at → at < length b.alternatives → a ≡ get_or b.alternatives at a
-    → chosen (guess_choice b) ≡ replicate a.copies.guess (guesses a.cells)
-marked_rows b at a marked within is = rw (marked, slice_get_read b.alternatives (length b.alternatives) at a refl within is) refl
 
 -- a fact of a row is one of its copies
 pub all_copies : {A : Type 0} (P : A → Type 0) (n : ℕ) (x : A) → P x → AllByRecursion P (replicate n x)

@@ -14,13 +14,13 @@ use Rattle.au_engine.specs.declared.running.input.Content.TheVariants as code
 
 abbrev pub content_rows : Content → Rows
 content_rows (code.Rows rows) = rows_of rows
-content_rows (code.Blocks columns blocks kept) = kept_rows kept.now (encode (bounded_blocks blocks.now))
-content_rows (code.Guesses blocks) = counted_guesses blocks.now
-content_rows (code.Certain blocks) = certain_guesses blocks.now
+content_rows (code.Blocks columns blocks kept) = kept_rows kept.now (encode (bounded_blocks blocks))
+content_rows (code.Guesses blocks) = counted_guesses blocks
+content_rows (code.Certain blocks) = certain_guesses blocks
 
 -- the rows that are there hold no number outside the range, and the blocks are those of a table of these columns
 abbrev pub IsContent : Content → Type 0
 IsContent (code.Rows rows) = FitRows (rows_of rows)
-IsContent (code.Blocks columns blocks kept) = IsBlockTable (table columns.now blocks.now)
+IsContent (code.Blocks columns blocks kept) = IsBlockTable (table columns.now blocks)
 IsContent (code.Guesses blocks) = ⊤
 IsContent (code.Certain blocks) = ⊤

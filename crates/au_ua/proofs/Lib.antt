@@ -1,6 +1,7 @@
 mod AllPlaces
 mod BlockCounts
 pub mod BlockRows
+mod CellsLeft
 mod CertainValues
 pub mod CountedAnswers
 mod CountedFits

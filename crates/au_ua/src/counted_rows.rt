@@ -10,21 +10,21 @@ ghost use Rattle.au_ua.specs.UaTables.{block_rows, ua_blocks};
 
 use crate::tables::{guesses, marked};
 use au_annot::{Annot, Count, Pair};
-use au_blocks::{Block, Cell};
+use au_blocks::{Alternative, Block, Blocks};
 use au_plain::PRow;
 use au_translate::read_cells;
-use au_value::{NoMemory, Value, copy};
+use au_value::{NoMemory, Value};
 use std::alloc::Global;
 
 /// The rows of [`ua_table`](crate::ua_table) of some blocks as plain rows: the values, and behind them how many copies of
 /// them are there in every world at least, and how many in the guess world.
-pub fn counted_blocks(alloc: Global, blocks: &[Block]) -> Result<Vec<PRow>, NoMemory>
+pub fn counted_blocks(alloc: Global, blocks: &Blocks<'_>) -> Result<Vec<PRow>, NoMemory>
     ensures rows { IfOk result (λ rows. map (λ row. row.items) rows.items ≡ counts_rows (map two_counts (ua_blocks blocks.now))) }
     ensures fit { OnOk result (FitRows (counts_rows (map two_counts (ua_blocks blocks.now)))) }
 {
     let mut rows = Vec::with_capacity(alloc, blocks.len())?;
-    for block in blocks {
-        push_block(alloc, &mut rows, block)?;
+    for place in 0..blocks.len() {
+        push_block(alloc, &mut rows, &blocks.get(place))?;
     }
     Ok(rows)
 }
@@ -35,29 +35,29 @@ pub fn counted_blocks(alloc: Global, blocks: &[Block]) -> Result<Vec<PRow>, NoMe
 /// It copies each value once, and of a column of which no place is kept it reads nothing.
 pub fn counted_places(
     alloc: Global,
-    blocks: &[Block],
+    blocks: &Blocks<'_>,
     places: &[usize],
 ) -> Result<Vec<PRow>, NoMemory>
     ensures rows { IfOk result (λ rows. map (λ row. row.items) rows.items ≡ map (kept places.now) (counts_rows (map two_counts (ua_blocks blocks.now)))) }
     ensures fit { OnOk result (FitRows (counts_rows (map two_counts (ua_blocks blocks.now)))) }
 {
     let mut rows = Vec::with_capacity(alloc, blocks.len())?;
-    for block in blocks {
-        push_kept(alloc, &mut rows, block, places)?;
+    for place in 0..blocks.len() {
+        push_kept(alloc, &mut rows, &blocks.get(place), places)?;
     }
     Ok(rows)
 }
 
 // What is marked of a block behind the others, if it has a copy.
-fn push_block(alloc: Global, rows: &mut Vec<PRow>, block: &Block) -> Result<(), NoMemory>
+fn push_block(alloc: Global, rows: &mut Vec<PRow>, block: &Block<'_>) -> Result<(), NoMemory>
     ensures rows { OnOk result (map (λ row. row.items) rows.new.items ≡ map (λ row. row.items) rows.old.items ++ counts_rows (map two_counts (block_rows block.now))) }
     ensures fit { OnOk result (FitRows (counts_rows (map two_counts (block_rows block.now)))) }
 {
-    let Some((cells, pair)) = marked(block) else {
+    let Some((alternative, pair)) = marked(block) else {
         return Ok(());
     };
-    read_row(cells, pair);
-    rows.push(whole_row(alloc, cells, pair)?)?;
+    read_row(&alternative, pair);
+    rows.push(whole_row(alloc, &alternative, pair)?)?;
     Ok(())
 }
 
@@ -65,58 +65,64 @@ fn push_block(alloc: Global, rows: &mut Vec<PRow>, block: &Block) -> Result<(), 
 fn push_kept(
     alloc: Global,
     rows: &mut Vec<PRow>,
-    block: &Block,
+    block: &Block<'_>,
     places: &[usize],
 ) -> Result<(), NoMemory>
     ensures rows { OnOk result (map (λ row. row.items) rows.new.items ≡ map (λ row. row.items) rows.old.items ++ map (kept places.now) (counts_rows (map two_counts (block_rows block.now)))) }
     ensures fit { OnOk result (FitRows (counts_rows (map two_counts (block_rows block.now)))) }
 {
-    let Some((cells, pair)) = marked(block) else {
+    let Some((alternative, pair)) = marked(block) else {
         return Ok(());
     };
-    read_row(cells, pair);
-    rows.push(kept_row(alloc, cells, pair, places)?)?;
+    read_row(&alternative, pair);
+    rows.push(kept_row(alloc, &alternative, pair, places)?)?;
     Ok(())
 }
 
-// Nothing but that the numbers of the row of some cells and a pair lie in the range of 128 bits.
-fn read_row(cells: &[Cell], pair: Pair)
-    ensures { row_fits (counts_row (two_counts (entry (guesses_of cells.now) pair))) ≡ true }
+// Nothing but that the numbers of the row of an alternative and a pair lie in the range of 128 bits.
+fn read_row(alternative: &Alternative<'_>, pair: Pair)
+    ensures { row_fits (counts_row (two_counts (entry (guesses_of alternative.now.cells) pair))) ≡ true }
 {
-    read_cells(cells);
+    read_cells(alternative);
     let _certain = pair.certain();
     let _guess = pair.guess();
 }
 
-// The guesses of some cells, and the two counts of a pair.
-fn whole_row(alloc: Global, cells: &[Cell], pair: Pair) -> Result<PRow, NoMemory>
-    ensures { IfOk result (λ row. row.items ≡ counts_row (two_counts (entry (guesses_of cells.now) pair))) }
+// The guesses of an alternative, and the two counts of a pair.
+fn whole_row(alloc: Global, alternative: &Alternative<'_>, pair: Pair) -> Result<PRow, NoMemory>
+    ensures { IfOk result (λ row. row.items ≡ counts_row (two_counts (entry (guesses_of alternative.now.cells) pair))) }
 {
-    let mut row = guesses(alloc, cells, 2)?;
+    let mut row = guesses(alloc, alternative, 2)?;
     row.push(count_value(pair.certain()))?;
     row.push(count_value(pair.guess()))?;
     Ok(row)
 }
 
 // The values in these places of that row.
-fn kept_row(alloc: Global, cells: &[Cell], pair: Pair, places: &[usize]) -> Result<PRow, NoMemory>
-    ensures { IfOk result (λ row. row.items ≡ kept places.now (counts_row (two_counts (entry (guesses_of cells.now) pair)))) }
+fn kept_row(
+    alloc: Global,
+    alternative: &Alternative<'_>,
+    pair: Pair,
+    places: &[usize],
+) -> Result<PRow, NoMemory>
+    ensures { IfOk result (λ row. row.items ≡ kept places.now (counts_row (two_counts (entry (guesses_of alternative.now.cells) pair)))) }
 {
     let mut row = Vec::with_capacity(alloc, places.len())?;
     for place in places {
-        row.push(value_in(cells, pair, *place)?)?;
+        row.push(value_in(alternative, pair, *place)?)?;
     }
     Ok(row)
 }
 
 // The value in a place of that row.
-fn value_in(cells: &[Cell], pair: Pair, place: usize) -> Result<Value, NoMemory>
-    ensures { IfOk result (λ v. v ≡ value_at (counts_row (two_counts (entry (guesses_of cells.now) pair))) place) }
+fn value_in(alternative: &Alternative<'_>, pair: Pair, place: usize) -> Result<Value, NoMemory>
+    ensures { IfOk result (λ v. v ≡ value_at (counts_row (two_counts (entry (guesses_of alternative.now.cells) pair))) place) }
 {
-    if place < cells.len() {
-        return copy(cells[place].sg());
+    let width = alternative.width();
+    if place < width {
+        return alternative.sg(place).to_value();
     }
-    Ok(count_in(pair, place - cells.len()))
+    Ok(count_in(pair, place - width))
 }
 
 // The certain count or the guess of a pair, and 0 past them.

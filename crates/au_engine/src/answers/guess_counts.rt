@@ -10,21 +10,21 @@ ghost use Rattle.au_plain.specs.PlanKinds.{FitRows, row_fits};
 ghost use Rattle.au_exec.specs.Outcomes.{rows_of};
 ghost use Rattle.au_engine.specs.CountedTables.{counted_guesses, guess_row};
 
-use crate::answers::guess_rows::{copied, guesses};
-use au_blocks::{Alternative, Block, Cell};
+use crate::answers::guess_rows::{guesses, read_value};
+use au_blocks::{Alternative, Block, Blocks};
 use au_plain::PRow;
 use au_value::{NoMemory, Value};
 use std::alloc::Global;
 
 /// The rows of blocks in the guess world, in block order, each with the number of its copies behind its values. A block
 /// that has no copy there has no row.
-pub(crate) fn all_guesses(alloc: Global, blocks: &[Block]) -> Result<Vec<PRow>, NoMemory>
+pub(crate) fn all_guesses(alloc: Global, blocks: &Blocks<'_>) -> Result<Vec<PRow>, NoMemory>
     ensures rows { IfOk result (λ v. rows_of v ≡ counted_guesses blocks.now) }
     ensures fit { OnOk result (FitRows (counted_guesses blocks.now)) }
 {
     let mut rows = Vec::with_capacity(alloc, blocks.len())?;
-    for block in blocks {
-        push_whole(alloc, &mut rows, block)?;
+    for place in 0..blocks.len() {
+        push_whole(alloc, &mut rows, &blocks.get(place))?;
     }
     Ok(rows)
 }
@@ -32,28 +32,28 @@ pub(crate) fn all_guesses(alloc: Global, blocks: &[Block]) -> Result<Vec<PRow>, 
 /// Of these rows the values in some places.
 pub(crate) fn kept_guesses(
     alloc: Global,
-    blocks: &[Block],
+    blocks: &Blocks<'_>,
     places: &[usize],
 ) -> Result<Vec<PRow>, NoMemory>
     ensures rows { IfOk result (λ v. rows_of v ≡ map (kept places.now) (counted_guesses blocks.now)) }
     ensures fit { OnOk result (FitRows (counted_guesses blocks.now)) }
 {
     let mut rows = Vec::with_capacity(alloc, blocks.len())?;
-    for block in blocks {
-        push_kept(alloc, &mut rows, block, places)?;
+    for place in 0..blocks.len() {
+        push_kept(alloc, &mut rows, &blocks.get(place), places)?;
     }
     Ok(rows)
 }
 
 // A block's row behind the others, if it has a copy.
-fn push_whole(alloc: Global, rows: &mut Vec<PRow>, block: &Block) -> Result<(), NoMemory>
+fn push_whole(alloc: Global, rows: &mut Vec<PRow>, block: &Block<'_>) -> Result<(), NoMemory>
     ensures rows { OnOk result (rows_of rows.new ≡ rows_of rows.old ++ counted_guesses (block.now ∷ [])) }
     ensures fit { OnOk result (FitRows (counted_guesses (block.now ∷ []))) }
 {
     let Some(alternative) = guessed(block) else {
         return Ok(());
     };
-    rows.push(whole_row(alloc, alternative)?)?;
+    rows.push(whole_row(alloc, &alternative)?)?;
     Ok(())
 }
 
@@ -61,7 +61,7 @@ fn push_whole(alloc: Global, rows: &mut Vec<PRow>, block: &Block) -> Result<(), 
 fn push_kept(
     alloc: Global,
     rows: &mut Vec<PRow>,
-    block: &Block,
+    block: &Block<'_>,
     places: &[usize],
 ) -> Result<(), NoMemory>
     ensures rows { OnOk result (rows_of rows.new ≡ rows_of rows.old ++ map (kept places.now) (counted_guesses (block.now ∷ []))) }
@@ -70,18 +70,18 @@ fn push_kept(
     let Some(alternative) = guessed(block) else {
         return Ok(());
     };
-    rows.push(kept_row(alloc, alternative, places)?)?;
+    rows.push(kept_row(alloc, &alternative, places)?)?;
     Ok(())
 }
 
 // The alternative that is guessed of a block, if there is a copy of it.
-fn guessed(block: &Block) -> Option<&Alternative>
-    ensures { MatchOption result (counted_guesses (block.now ∷ []) ≡ []) (λ a. counted_guesses (block.now ∷ []) ≡ guess_row a.now ∷ []) }
+fn guessed<'a>(block: &Block<'a>) -> Option<Alternative<'a>>
+    ensures { MatchOption result (counted_guesses (block.now ∷ []) ≡ []) (λ a. counted_guesses (block.now ∷ []) ≡ guess_row a ∷ []) }
 {
     let Some(at) = block.guess() else {
         return None;
     };
-    let alternative = &block.alternatives()[at];
+    let alternative = block.alternatives().get(at);
     if alternative.times().guess() == 0 {
         return None;
     }
@@ -89,17 +89,21 @@ fn guessed(block: &Block) -> Option<&Alternative>
 }
 
 // The guesses of an alternative, and the number of its copies.
-fn whole_row(alloc: Global, alternative: &Alternative) -> Result<PRow, NoMemory>
+fn whole_row(alloc: Global, alternative: &Alternative<'_>) -> Result<PRow, NoMemory>
     ensures row { IfOk result (λ v. v.items ≡ guess_row alternative.now) }
     ensures fits { OnOk result (row_fits (guess_row alternative.now) ≡ true) }
 {
-    let mut row = guesses(alloc, alternative.cells())?;
+    let mut row = guesses(alloc, alternative)?;
     row.push(count_of(alternative))?;
     Ok(row)
 }
 
 // The values in some places of that row.
-fn kept_row(alloc: Global, alternative: &Alternative, places: &[usize]) -> Result<PRow, NoMemory>
+fn kept_row(
+    alloc: Global,
+    alternative: &Alternative<'_>,
+    places: &[usize],
+) -> Result<PRow, NoMemory>
     ensures row { IfOk result (λ v. v.items ≡ kept places.now (guess_row alternative.now)) }
     ensures fits { OnOk result (row_fits (guess_row alternative.now) ≡ true) }
 {
@@ -112,21 +116,21 @@ fn kept_row(alloc: Global, alternative: &Alternative, places: &[usize]) -> Resul
 }
 
 // The value in a place of that row, and 0 past its end.
-fn value_in(alternative: &Alternative, place: usize) -> Result<Value, NoMemory>
+fn value_in(alternative: &Alternative<'_>, place: usize) -> Result<Value, NoMemory>
     ensures { IfOk result (λ v. v ≡ value_at (guess_row alternative.now) place) }
 {
-    let cells = alternative.cells();
-    if place < cells.len() {
-        return copied(cells[place].sg());
+    let width = alternative.width();
+    if place < width {
+        return alternative.sg(place).to_value();
     }
-    if place == cells.len() {
+    if place == width {
         return Ok(count_of(alternative));
     }
     Ok(Value::Int(0))
 }
 
 // The guessed number of an alternative's copies.
-fn count_of(alternative: &Alternative) -> Value
+fn count_of(alternative: &Alternative<'_>) -> Value
     ensures value { result ≡ Value.Int (pos alternative.now.copies.guess) }
     ensures fits { fit (number_if_any result) ≡ true }
 {
@@ -134,30 +138,18 @@ fn count_of(alternative: &Alternative) -> Value
 }
 
 // Nothing but that the numbers of that row lie in the range of 128 bits. That is known of a number once it is read.
-fn read_row(alternative: &Alternative)
+fn read_row(alternative: &Alternative<'_>)
     ensures { row_fits (guess_row alternative.now) ≡ true }
 {
-    read_guesses(alternative.cells());
+    read_guesses(alternative);
     let _count = count_of(alternative);
 }
 
 // The same of the guesses.
-fn read_guesses(cells: &[Cell])
-    ensures { row_fits (guesses_of cells.now) ≡ true }
+fn read_guesses(alternative: &Alternative<'_>)
+    ensures { row_fits (guesses_of alternative.now.cells) ≡ true }
 {
-    for cell in cells {
-        read_value(cell.sg());
-    }
-}
-
-// A value, which may be a number.
-fn read_value(value: &Value)
-    ensures { fit (number_if_any value.now) ≡ true }
-{
-    match value {
-        Value::Int(n) => {
-            let _n = *n;
-        }
-        Value::Text(_) | Value::Flag(_) => {}
+    for column in 0..alternative.width() {
+        read_value(alternative.sg(column));
     }
 }

@@ -3,6 +3,7 @@ ghost use Rattle.std.specs.Prelude.{◌≡◌, ◌++◌, IfOk, OnOk, map, replic
 ghost use Rattle.std.specs.List.{AllByRecursion};
 ghost use Rattle.au_value.specs.Order.{data_kind};
 ghost use Rattle.au_value.specs.Ranges.{guesses as guesses_of};
+ghost use Rattle.au_blocks.specs.Scalars.{scalar_value};
 ghost use Rattle.au_blocks.specs.Tables.{IsBlockTable};
 ghost use Rattle.au_blocks.specs.Worlds.{chosen, guess_choice, rows_in};
 ghost use Rattle.au_expr.specs.Figures.{fit};
@@ -12,9 +13,9 @@ ghost use Rattle.au_exec.specs.Outcomes.{rows_of};
 ghost use Rattle.au_engine.specs.Answers.{blocks_of, guess_tables as guess_tables_of};
 ghost use Rattle.au_engine.specs.Exchange.{value_kinds as value_kinds_of};
 
-use au_blocks::{Alternative, Block, Cell, Column, Table};
+use au_blocks::{Alternative, Block, Blocks, Column, Scalar, Table};
 use au_plain::PRow;
-use au_value::{Kind, NoMemory, Value, Word, copy};
+use au_value::{Kind, NoMemory, Word};
 use std::alloc::Global;
 
 /// The kinds of the values of columns.
@@ -53,69 +54,73 @@ pub(crate) fn guess_tables(
 {
     let mut rows = Vec::new(alloc);
     for table in tables {
-        rows.push(guess_rows(alloc, table.1.blocks())?)?;
+        rows.push(guess_rows(alloc, &table.1.blocks())?)?;
     }
     Ok(rows)
 }
 
 // The rows of blocks in the guess world.
-fn guess_rows(alloc: Global, blocks: &[Block]) -> Result<Vec<PRow>, NoMemory>
+fn guess_rows(alloc: Global, blocks: &Blocks<'_>) -> Result<Vec<PRow>, NoMemory>
     ensures rows { IfOk result (λ v. rows_of v ≡ rows_in blocks.now (map guess_choice blocks.now)) }
     ensures fit { IfOk result (λ v. FitRows (rows_of v)) }
 {
     let mut rows = Vec::new(alloc);
-    for block in blocks {
-        push_guess(alloc, &mut rows, block)?;
+    for place in 0..blocks.len() {
+        push_guess(alloc, &mut rows, &blocks.get(place))?;
     }
     Ok(rows)
 }
 
 // A block's row in the guess world behind the others, as often as it is guessed.
-fn push_guess(alloc: Global, rows: &mut Vec<PRow>, block: &Block) -> Result<(), NoMemory>
+fn push_guess(alloc: Global, rows: &mut Vec<PRow>, block: &Block<'_>) -> Result<(), NoMemory>
     ensures rows { OnOk result (rows_of rows.new ≡ rows_of rows.old ++ chosen (guess_choice block.now)) }
     ensures fit { OnOk result (FitRows (chosen (guess_choice block.now))) }
 {
     let Some(at) = block.guess() else {
         return Ok(());
     };
-    push_copies(alloc, rows, &block.alternatives()[at])
+    push_copies(alloc, rows, &block.alternatives().get(at))
 }
 
 // The guesses of an alternative behind other rows, as often as it is guessed.
 fn push_copies(
     alloc: Global,
     rows: &mut Vec<PRow>,
-    alternative: &Alternative,
+    alternative: &Alternative<'_>,
 ) -> Result<(), NoMemory>
     ensures rows { OnOk result (rows_of rows.new ≡ rows_of rows.old ++ replicate alternative.now.copies.guess (guesses_of alternative.now.cells)) }
     ensures fit { OnOk result (FitRows (replicate alternative.now.copies.guess (guesses_of alternative.now.cells))) }
 {
     let count = alternative.times().guess();
     for _ in 0..count {
-        rows.push(guesses(alloc, alternative.cells())?)?;
+        rows.push(guesses(alloc, alternative)?)?;
     }
     Ok(())
 }
 
-/// The guesses of some cells, whose numbers lie in 128 bits.
-pub(crate) fn guesses(alloc: Global, cells: &[Cell]) -> Result<PRow, NoMemory>
-    ensures row { IfOk result (λ v. v.items ≡ guesses_of cells.now) }
-    ensures fits { OnOk result (row_fits (guesses_of cells.now) ≡ true) }
+/// The guesses of an alternative, whose numbers lie in 128 bits.
+pub(crate) fn guesses(alloc: Global, alternative: &Alternative<'_>) -> Result<PRow, NoMemory>
+    ensures row { IfOk result (λ v. v.items ≡ guesses_of alternative.now.cells) }
+    ensures fits { OnOk result (row_fits (guesses_of alternative.now.cells) ≡ true) }
 {
-    let mut guesses = Vec::with_capacity(alloc, cells.len())?;
-    for cell in cells {
-        guesses.push(copied(cell.sg())?)?;
+    let width = alternative.width();
+    let mut guesses = Vec::with_capacity(alloc, width)?;
+    for column in 0..width {
+        let value = alternative.sg(column);
+        read_value(value);
+        guesses.push(value.to_value()?)?;
     }
     Ok(guesses)
 }
 
-/// A copy of a value. Its number, if it is one, lies in the range of its type.
-pub(crate) fn copied(value: &Value) -> Result<Value, NoMemory>
-    ensures value { IfOk result (λ v. v ≡ value.now) }
-    ensures fits { fit (number_if_any value.now) ≡ true }
+/// Nothing but that the number of a value, if it is one, lies in the range of its type.
+pub(crate) fn read_value(value: Scalar<'_>)
+    ensures { fit (number_if_any (scalar_value value.entry)) ≡ true }
 {
     match value {
-        Value::Int(n) => Ok(Value::Int(*n)),
-        Value::Text(_) | Value::Flag(_) => copy(value),
+        Scalar::Int(n) => {
+            let _n = n;
+        }
+        Scalar::Text(_) | Scalar::Flag(_) => {}
     }
 }

@@ -98,7 +98,7 @@ fn put_table<'a>(
     let columns = table.1.columns();
     let blocks = table.1.blocks();
     // Read for the proof alone: all numbers lie in their range.
-    read_numbers(columns, blocks);
+    read_numbers(columns, &blocks);
     let mut inputs = inputs;
     inputs.push(Input::of_blocks(columns, blocks, kept))?;
     Ok(inputs)

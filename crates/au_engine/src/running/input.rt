@@ -9,7 +9,7 @@ ghost use Rattle.au_engine.specs.CountedTables.{certain_guesses, counted_guesses
 ghost use Rattle.au_engine.specs.InputRows.{content_rows, IsContent};
 ghost use Rattle.au_program.specs.KeptRows.{kept_rows};
 
-use au_blocks::{Block, Column};
+use au_blocks::{Blocks, Column};
 use au_plain::PRow;
 use std::marker::Model;
 
@@ -25,9 +25,9 @@ pub(crate) struct Input<'a> {
 #[derive(Drop)]
 pub(crate) enum Content<'a> {
     Rows(Vec<PRow>),
-    Blocks(&'a [Column], &'a [Block], &'a Option<Vec<usize>>),
-    Guesses(&'a [Block]),
-    Certain(&'a [Block]),
+    Blocks(&'a [Column], Blocks<'a>, &'a Option<Vec<usize>>),
+    Guesses(Blocks<'a>),
+    Certain(Blocks<'a>),
 }
 
 impl<'a> Model for Input<'a> {
@@ -57,11 +57,11 @@ impl<'a> Input<'a> {
     /// kept, or all.
     pub(crate) fn of_blocks(
         columns: &'a [Column],
-        blocks: &'a [Block],
+        blocks: Blocks<'a>,
         kept: &'a Option<Vec<usize>>,
     ) -> Input<'a>
-        requires { IsBlockTable (table columns.now blocks.now) }
-        ensures { result ≡ kept_rows kept.now (encode (bounded_blocks blocks.now)) }
+        requires { IsBlockTable (table columns.now blocks) }
+        ensures { result ≡ kept_rows kept.now (encode (bounded_blocks blocks.entry)) }
     {
         Input {
             content: Content::Blocks(columns, blocks, kept),
@@ -69,8 +69,8 @@ impl<'a> Input<'a> {
     }
 
     /// The rows of some blocks in the guess world, in block order, each with the number of its copies.
-    pub(crate) fn of_guesses(blocks: &'a [Block]) -> Input<'a>
-        ensures { result ≡ counted_guesses blocks.now }
+    pub(crate) fn of_guesses(blocks: Blocks<'a>) -> Input<'a>
+        ensures { result ≡ counted_guesses blocks.entry }
     {
         Input {
             content: Content::Guesses(blocks),
@@ -78,8 +78,8 @@ impl<'a> Input<'a> {
     }
 
     /// The same with how many of the copies are certain before how many are guessed.
-    pub(crate) fn of_certain(blocks: &'a [Block]) -> Input<'a>
-        ensures { result ≡ certain_guesses blocks.now }
+    pub(crate) fn of_certain(blocks: Blocks<'a>) -> Input<'a>
+        ensures { result ≡ certain_guesses blocks.entry }
     {
         Input {
             content: Content::Certain(blocks),

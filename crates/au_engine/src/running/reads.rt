@@ -13,7 +13,7 @@ ghost use Rattle.au_program.specs.KeptRows.{kept_rows};
 use crate::answers::guess_counts::{all_guesses, kept_guesses};
 use crate::running::input::{Content, Input};
 use crate::running::runner::Runner;
-use au_blocks::{Block, Column};
+use au_blocks::{Blocks, Column};
 use au_par::Gate;
 use au_physical::Physical;
 use au_plain::PRow;
@@ -72,10 +72,10 @@ fn rows_read<R: Threads + Sync, G: Gate + Sync>(
     match input.into_content() {
         Content::Rows(rows) => Ok(rows),
         Content::Blocks(columns, blocks, kept) => {
-            blocks_read(runner, alloc, columns, blocks, kept)
+            blocks_read(runner, alloc, columns, &blocks, kept)
         }
-        Content::Guesses(blocks) => guesses_read(alloc, plan, number, blocks),
-        Content::Certain(blocks) => certain_read(alloc, plan, number, blocks),
+        Content::Guesses(blocks) => guesses_read(alloc, plan, number, &blocks),
+        Content::Certain(blocks) => certain_read(alloc, plan, number, &blocks),
     }
 }
 
@@ -84,7 +84,7 @@ fn blocks_read<R: Threads + Sync, G: Gate + Sync>(
     runner: &Runner<'_, R, G>,
     alloc: Global,
     columns: &[Column],
-    blocks: &[Block],
+    blocks: &Blocks<'_>,
     kept: &Option<Vec<usize>>,
 ) -> Result<Vec<PRow>, NoMemory>
     requires { IsBlockTable (table_of columns.now blocks.now) }
@@ -104,7 +104,7 @@ fn guesses_read(
     alloc: Global,
     plan: &mut Physical,
     number: usize,
-    blocks: &[Block],
+    blocks: &Blocks<'_>,
 ) -> Result<Vec<PRow>, NoMemory>
     ensures reads { IfOk result (λ v. Reads number (counted_guesses blocks.now) (rows_of v) (physical_tree plan.old) (physical_tree plan.new)) }
     ensures fit { OnOk result (FitRows (counted_guesses blocks.now)) }
@@ -121,7 +121,7 @@ fn certain_read(
     alloc: Global,
     plan: &mut Physical,
     number: usize,
-    blocks: &[Block],
+    blocks: &Blocks<'_>,
 ) -> Result<Vec<PRow>, NoMemory>
     ensures reads { IfOk result (λ v. Reads number (certain_guesses blocks.now) (rows_of v) (physical_tree plan.old) (physical_tree plan.new)) }
     ensures fit { OnOk result (FitRows (certain_guesses blocks.now)) }

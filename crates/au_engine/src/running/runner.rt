@@ -17,7 +17,7 @@ ghost use Rattle.au_exec.specs.Outcomes.{rows_of};
 use crate::running::decoded::{Decoding, put_together};
 use au_algebra::Rel;
 use au_annot::Triple;
-use au_blocks::{Block, Column};
+use au_blocks::{Blocks, Column};
 use au_encode::{decode, decode_rows};
 use au_exec::Run;
 use au_expr::EvalFault;
@@ -144,7 +144,7 @@ impl<'a, R: Threads + Sync, G: Gate + Sync> Runner<'a, R, G> {
         &self,
         alloc: Global,
         columns: &[Column],
-        blocks: &[Block],
+        blocks: &Blocks<'_>,
     ) -> Result<Vec<PRow>, NoMemory>
         requires table { IsBlockTable (table_of columns.now blocks.now) }
         ensures rows { IfOk result (λ rows. rows_of rows ≡ encode (bounded_blocks blocks.now)) }
@@ -159,7 +159,7 @@ impl<'a, R: Threads + Sync, G: Gate + Sync> Runner<'a, R, G> {
         &self,
         alloc: Global,
         columns: &[Column],
-        blocks: &[Block],
+        blocks: &Blocks<'_>,
         places: &[usize],
     ) -> Result<Vec<PRow>, NoMemory>
         requires table { IsBlockTable (table_of columns.now blocks.now) }

@@ -21,7 +21,7 @@ ghost use denote.Param.Send.{IsSync};
 use crate::running::runner::Runner;
 use au_algebra::{Gathered, Query, Rel, normal};
 use au_annot::Triple;
-use au_blocks::{Block, Column, Table};
+use au_blocks::{Blocks, Column, Table};
 use au_encode::decode;
 use au_exec::Chain;
 use au_expr::EvalFault;
@@ -82,7 +82,7 @@ fn slice_of<R: Threads + Sync>(
     query: &Query,
     slicer: &Slicer,
     columns: &[Column],
-    blocks: &[Block],
+    blocks: &Blocks<'_>,
 ) -> Result<Rel<Range, Triple>, EvalFault>
     requires by_row { WorksByRow (tree query.now) }
     requires slicer { SlicesBy (tree query.now) columns.now slicer.now }
@@ -108,7 +108,7 @@ fn slice_by_plan<R: Threads + Sync>(
     query: &Query,
     slicer: &Slicer,
     columns: &[Column],
-    blocks: &[Block],
+    blocks: &Blocks<'_>,
 ) -> Result<Rel<Range, Triple>, EvalFault>
     requires by_row { WorksByRow (tree query.now) }
     requires slicer { SlicesBy (tree query.now) columns.now slicer.now }
@@ -137,7 +137,7 @@ fn encoded_slice<R: Threads + Sync>(
     alloc: Global,
     kept: &Option<Vec<usize>>,
     columns: &[Column],
-    blocks: &[Block],
+    blocks: &Blocks<'_>,
 ) -> Result<Vec<PRow>, NoMemory>
     requires { IsBlockTable (table_of columns.now blocks.now) }
     ensures { IfOk result (λ v. rows_of v ≡ kept_rows kept.now (encode (bounded_blocks blocks.now))) }
@@ -155,7 +155,7 @@ fn settled_slice<R: Threads + Sync>(
     query: &Query,
     slicer: &Slicer,
     columns: &[Column],
-    blocks: &[Block],
+    blocks: &Blocks<'_>,
 ) -> Result<Rel<Range, Triple>, EvalFault>
     requires by_row { WorksByRow (tree query.now) }
     requires slicer { SlicesBy (tree query.now) columns.now slicer.now }
@@ -175,11 +175,11 @@ fn settled_slice<R: Threads + Sync>(
 }
 
 // The first blocks, at most so many, and the others.
-fn first_slice(blocks: &[Block], size: usize) -> (&[Block], &[Block])
+fn first_slice<'a>(blocks: &Blocks<'a>, size: usize) -> (Blocks<'a>, Blocks<'a>)
     requires blocks { 0 < length blocks.now }
     requires size { 0 < size }
-    ensures parts { result.0.now ++ result.1.now ≡ blocks.now }
-    ensures others { length result.1.now < length blocks.now }
+    ensures parts { result.0 ++ result.1 ≡ blocks.now }
+    ensures others { length result.1 < length blocks.now }
 {
     blocks.split_at(blocks.len().min(size))
 }
@@ -191,7 +191,7 @@ fn with_slice<R: Threads + Sync>(
     query: &Query,
     slicer: &Slicer,
     columns: &[Column],
-    blocks: &[Block],
+    blocks: &Blocks<'_>,
     before: Gathered,
 ) -> Result<Gathered, EvalFault>
     requires by_row { WorksByRow (tree query.now) }
@@ -211,6 +211,14 @@ fn with_slice<R: Threads + Sync>(
     }
 }
 
+// These blocks, lent once more.
+fn lent<'a>(blocks: &Blocks<'a>) -> Blocks<'a>
+    ensures { result ≡ blocks.now }
+{
+    let (rows, extents) = blocks.parts();
+    Blocks::of(rows, extents)
+}
+
 // What is gathered of a tree that works row by row over some blocks, in slices of so many: the rows of each slice are let go
 // before those of the next are made.
 fn in_slices<R: Threads + Sync>(
@@ -219,7 +227,7 @@ fn in_slices<R: Threads + Sync>(
     query: &Query,
     slicer: &Slicer,
     columns: &[Column],
-    blocks: &[Block],
+    blocks: &Blocks<'_>,
     size: usize,
 ) -> Result<Gathered, EvalFault>
     requires works { WorksOver (tree query.now) columns.now blocks.now }
@@ -228,10 +236,10 @@ fn in_slices<R: Threads + Sync>(
     ensures { Gathers (tree query.now) blocks.now result }
 {
     let mut gathered = Gathered::new(alloc);
-    let mut rest = blocks;
-    while !rest.is_empty() {
-        let (slice, others) = first_slice(rest, size);
-        gathered = match with_slice(rt, alloc, query, slicer, columns, slice, gathered) {
+    let mut rest = lent(blocks);
+    while rest.len() > 0 {
+        let (slice, others) = first_slice(&rest, size);
+        gathered = match with_slice(rt, alloc, query, slicer, columns, &slice, gathered) {
             Ok(gathered) => gathered,
             Err(fault) => return Err(fault),
         };
@@ -249,7 +257,7 @@ fn by_shares<R: Threads + Sync>(
     query: &Query,
     slicer: &Slicer,
     columns: &[Column],
-    blocks: &[Block],
+    blocks: &Blocks<'_>,
     workers: usize,
 ) -> Result<Gathered, EvalFault>
     requires workers { 1 ≤ workers }
@@ -260,7 +268,9 @@ fn by_shares<R: Threads + Sync>(
     if workers == 1 {
         return in_slices(rt, alloc, query, slicer, columns, blocks, SLICE);
     }
-    let (others, share) = last_share(blocks, workers);
+    let parts = last_share(blocks, workers);
+    let others = &parts.0;
+    let share = &parts.1;
     let left = workers - 1;
     let back = move || -> Result<Gathered, EvalFault>
         requires { IsSync R.row × WorksOver (tree query.now) columns.now share.now × SlicesBy (tree query.now) columns.now slicer.now }
@@ -275,9 +285,9 @@ fn by_shares<R: Threads + Sync>(
 }
 
 // The blocks of all workers but the last, and those of the last.
-fn last_share(blocks: &[Block], workers: usize) -> (&[Block], &[Block])
+fn last_share<'a>(blocks: &Blocks<'a>, workers: usize) -> (Blocks<'a>, Blocks<'a>)
     requires { 1 ≤ workers }
-    ensures { result.0.now ++ result.1.now ≡ blocks.now }
+    ensures { result.0 ++ result.1 ≡ blocks.now }
 {
     let share = blocks.len() / workers;
     blocks.split_at(blocks.len() - share)
@@ -319,7 +329,7 @@ pub(crate) fn by_slices<R: Threads + Sync, G: Gate + Sync>(
     let columns = table.columns();
     let blocks = table.blocks();
     let (rt, workers) = runner.sharing(blocks.len());
-    match by_shares(rt, alloc, query, slicer, columns, blocks, workers) {
+    match by_shares(rt, alloc, query, slicer, columns, &blocks, workers) {
         Ok(gathered) => Ok(gathered.into_rows()),
         Err(fault) => Err(fault),
     }

@@ -7,8 +7,8 @@ use Rattle.au_ua.specs.UaTables.{ua_blocks}
 use Rattle.au_ua.proofs.CountedFits.{FitMarked}
 use Rattle.au_ua.proofs.counted_rows.counted_places.Given as goal
 
-abbrev pub invariant-loop-block : goal.invariant-loop-block
-invariant-loop-block l = record {
-  rows : map (λ row. row.items) l.rows.items ++ map (kept l.places) (counts_rows (map two_counts (ua_blocks (drop l.block-index l.blocks)))) ≡ map (kept l.places) (counts_rows (map two_counts (ua_blocks l.blocks)));
-  fit : AllByRecursion FitMarked (drop l.block-index l.blocks) → AllByRecursion FitMarked l.blocks;
+abbrev pub invariant-loop-place : goal.invariant-loop-place
+invariant-loop-place l = record {
+  rows : map (λ row. row.items) l.rows.items ++ map (kept l.places) (counts_rows (map two_counts (ua_blocks (drop l.place l.blocks)))) ≡ map (kept l.places) (counts_rows (map two_counts (ua_blocks l.blocks)));
+  fit : AllByRecursion FitMarked (drop l.place l.blocks) → AllByRecursion FitMarked l.blocks;
 }

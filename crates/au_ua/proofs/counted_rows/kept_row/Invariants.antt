@@ -8,4 +8,4 @@ use Rattle.au_ua.proofs.counted_rows.kept_row.Given as goal
 
 abbrev pub invariant-loop-place : goal.invariant-loop-place
 invariant-loop-place l =
-    l.row.items ++ kept (drop l.place-index l.places) (counts_row (two_counts (entry (guesses l.cells) l.pair))) ≡ kept l.places (counts_row (two_counts (entry (guesses l.cells) l.pair)))
+    l.row.items ++ kept (drop l.place-index l.places) (counts_row (two_counts (entry (guesses l.alternative.cells) l.pair))) ≡ kept l.places (counts_row (two_counts (entry (guesses l.alternative.cells) l.pair)))

@@ -3,5 +3,5 @@ use Rattle.std.proofs.Common.{◌≡◌, ◌++◌, drop}
 use Rattle.au_value.specs.Ranges.{guesses}
 use Rattle.au_ua.proofs.tables.guesses.Given as goal
 
-abbrev pub invariant-loop-cell : goal.invariant-loop-cell
-invariant-loop-cell l = l.guesses.items ++ guesses (drop l.cell-index l.cells) ≡ guesses l.cells
+abbrev pub invariant-loop-column : goal.invariant-loop-column
+invariant-loop-column l = l.guesses.items ++ drop l.column (guesses l.alternative.cells) ≡ guesses l.alternative.cells

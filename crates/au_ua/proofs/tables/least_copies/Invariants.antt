@@ -4,5 +4,5 @@ use Rattle.std.specs.Prelude.{fold}
 use Rattle.au_translate.specs.Translate.{least_number}
 use Rattle.au_ua.proofs.tables.least_copies.Given as goal
 
-abbrev pub invariant-loop-alternative : goal.invariant-loop-alternative
-invariant-loop-alternative l = fold min l.least (map (λ a. a.copies.least) (drop l.alternative-index (drop 1 l.alternatives))) ≡ least_number (map (λ a. a.copies.least) l.alternatives)
+abbrev pub invariant-loop-place : goal.invariant-loop-place
+invariant-loop-place l = fold min l.least (map (λ a. a.copies.least) (drop l.place l.alternatives)) ≡ least_number (map (λ a. a.copies.least) l.alternatives)

@@ -1,6 +1,6 @@
 -- The row of the marked alternative.
-use Rattle.std.proofs.Common.{◌≡◌, Some, sym, ◌∙◌, ap, subst, get_or}
-use Rattle.au_blocks.specs.Blocks.{MayMark}
+use Rattle.std.proofs.Common.{sym, ◌∙◌, ap}
+use Rattle.std.specs.Prelude.{slice_get}
 use Rattle.au_engine.proofs.GuessedRows.{no_copy, none_guessed, one_guessed}
 use Rattle.au_engine.proofs.answers.guess_counts.guessed.Goals as goal
 
@@ -9,18 +9,14 @@ returns-in_default c = none_guessed c.args.block.now (sym c.guess.ensures.of ∙
 
 pub returns-then-guess-eq0 : goal.returns-then-guess-eq0
 returns-then-guess-eq0 c =
-    let b = c.args.block.now in
-    let a = c.index-alternatives-at.result in
-    let marked : b.guess ≡ Some c.in-Some.at = sym c.guess.ensures.of ∙ c.in-Some.is in
-    let within = subst (MayMark b) marked c.alternatives.ensures.is_block.guess in
-    let is = c.index-alternatives-at.is ∙ ap (λ xs. get_or xs c.in-Some.at a) c.alternatives.ensures.of in
-    no_copy b c.in-Some.at a marked within is (ap (λ t. t.guess) (sym c.times.ensures.of) ∙ sym c.guess-2.ensures.of ∙ c.if-guess-eq0.true)
+    let at = c.in-Some.at in
+    let marked = sym c.guess.ensures.of ∙ c.in-Some.is in
+    let is = ap (λ xs. slice_get xs at) (sym c.alternatives.ensures.of) ∙ c.get-alternative.ensures in
+    no_copy c.args.block.now at c.get-alternative.result marked is (ap (λ t. t.guess) (sym c.times.ensures.of) ∙ sym c.guess-2.ensures.of ∙ c.if-guess-eq0.true)
 
 pub returns : goal.returns
 returns c =
-    let b = c.args.block.now in
-    let a = c.index-alternatives-at.result in
-    let marked : b.guess ≡ Some c.in-Some.at = sym c.guess.ensures.of ∙ c.in-Some.is in
-    let within = subst (MayMark b) marked c.alternatives.ensures.is_block.guess in
-    let is = c.index-alternatives-at.is ∙ ap (λ xs. get_or xs c.in-Some.at a) c.alternatives.ensures.of in
-    one_guessed b c.in-Some.at a marked within is (λ e. c.if-guess-eq0.false (c.guess-2.ensures.of ∙ ap (λ t. t.guess) c.times.ensures.of ∙ e))
+    let at = c.in-Some.at in
+    let marked = sym c.guess.ensures.of ∙ c.in-Some.is in
+    let is = ap (λ xs. slice_get xs at) (sym c.alternatives.ensures.of) ∙ c.get-alternative.ensures in
+    one_guessed c.args.block.now at c.get-alternative.result marked is (λ e. c.if-guess-eq0.false (c.guess-2.ensures.of ∙ ap (λ t. t.guess) c.times.ensures.of ∙ e))

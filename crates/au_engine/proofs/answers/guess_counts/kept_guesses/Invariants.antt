@@ -6,8 +6,8 @@ use Rattle.au_exec.specs.Outcomes.{rows_of}
 use Rattle.au_engine.specs.CountedTables.{counted_guesses}
 use Rattle.au_engine.proofs.answers.guess_counts.kept_guesses.Given as goal
 
-abbrev pub invariant-loop-block : goal.invariant-loop-block
-invariant-loop-block l = record {
-  rows : rows_of l.rows ++ map (kept l.places) (counted_guesses (drop l.block-index l.blocks)) ≡ map (kept l.places) (counted_guesses l.blocks);
-  fit : FitRows (counted_guesses (drop l.block-index l.blocks)) → FitRows (counted_guesses l.blocks);
+abbrev pub invariant-loop-place : goal.invariant-loop-place
+invariant-loop-place l = record {
+  rows : rows_of l.rows ++ map (kept l.places) (counted_guesses (drop l.place l.blocks)) ≡ map (kept l.places) (counted_guesses l.blocks);
+  fit : FitRows (counted_guesses (drop l.place l.blocks)) → FitRows (counted_guesses l.blocks);
 }

@@ -5,8 +5,8 @@ use Rattle.au_plain.specs.PlanKinds.{FitRows}
 use Rattle.au_exec.specs.Outcomes.{rows_of}
 use Rattle.au_engine.proofs.answers.guess_rows.guess_rows.Given as goal
 
-abbrev pub invariant-loop-block : goal.invariant-loop-block
-invariant-loop-block l = record {
-  rows : rows_of l.rows ++ rows_in (drop l.block-index l.blocks) (map guess_choice (drop l.block-index l.blocks)) ≡ rows_in l.blocks (map guess_choice l.blocks);
+abbrev pub invariant-loop-place : goal.invariant-loop-place
+invariant-loop-place l = record {
+  rows : rows_of l.rows ++ rows_in (drop l.place l.blocks) (map guess_choice (drop l.place l.blocks)) ≡ rows_in l.blocks (map guess_choice l.blocks);
   fit : FitRows (rows_of l.rows);
 }

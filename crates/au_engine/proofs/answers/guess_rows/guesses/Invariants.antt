@@ -4,8 +4,8 @@ use Rattle.au_value.specs.Ranges.{guesses}
 use Rattle.au_plain.specs.PlanKinds.{row_fits}
 use Rattle.au_engine.proofs.answers.guess_rows.guesses.Given as goal
 
-abbrev pub invariant-loop-cell : goal.invariant-loop-cell
-invariant-loop-cell l = record {
-  values : l.guesses.items ++ guesses (drop l.cell-index l.cells) ≡ guesses l.cells;
+abbrev pub invariant-loop-column : goal.invariant-loop-column
+invariant-loop-column l = record {
+  values : l.guesses.items ++ drop l.column (guesses l.alternative.cells) ≡ guesses l.alternative.cells;
   fits : row_fits l.guesses.items ≡ true;
 }

@@ -9,14 +9,14 @@ pub join-last-requires-after_bounds : goal.join-last-requires-after_bounds
 join-last-requires-after_bounds g t c κs within =
     let q = tree c.args.query.now in
     let columns = c.args.columns.now in
-    let front = c.last_share.result.0.now in
-    let back = c.last_share.result.1.now in
-    let first = front_works q columns front back c.args.blocks.now c.last_share.ensures c.requires.works in
-    let second = back_works q columns front back c.args.blocks.now c.last_share.ensures c.requires.works in
+    let front = c.last_share-parts.result.0 in
+    let back = c.last_share-parts.result.1 in
+    let first = front_works q columns front back c.args.blocks.now c.last_share-parts.ensures c.requires.works in
+    let second = back_works q columns front back c.args.blocks.now c.last_share-parts.ensures c.requires.works in
     let slices = c.requires.slicer in
     search (rules, sendable) depth 20
 
 pub returns : goal.returns
 returns g t c =
-    gathers_both (tree c.args.query.now) c.requires.works.0 c.args.blocks.now c.last_share.result.0.now c.last_share.result.1.now c.last_share.ensures
+    gathers_both (tree c.args.query.now) c.requires.works.0 c.args.blocks.now c.last_share-parts.result.0 c.last_share-parts.result.1 c.last_share-parts.ensures
     _ _ _ c.join-last.ensures.second c.join-last.ensures.first c.put_behind.ensures

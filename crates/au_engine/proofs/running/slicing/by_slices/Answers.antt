@@ -14,7 +14,7 @@ pub by_shares-requires-clause-works : goal.by_shares-requires-clause-works
 by_shares-requires-clause-works g c κs within = (
   c.requires.by_row,
   subst IsBlockTable (λ i. table (sym c.columns-columns.ensures.of i) (sym c.blocks-blocks.ensures.of i)) c.columns-columns.ensures.is_table,
-  subst (λ columns. IsTyped (column_kinds (table columns c.blocks-blocks.result.now) ∷ []) (over_one (tree c.args.query.now))) (sym c.columns-columns.ensures.of) c.requires.typed,
+  subst (λ columns. IsTyped (column_kinds (table columns c.blocks-blocks.result) ∷ []) (over_one (tree c.args.query.now))) (sym c.columns-columns.ensures.of) c.requires.typed,
 )
 
 pub by_shares-requires-clause-slicer : goal.by_shares-requires-clause-slicer

@@ -4,4 +4,4 @@ use Rattle.std.proofs.lemmas.List.{take-append-drop}
 use Rattle.au_engine.proofs.running.slicing.first_slice.Goals as goal
 
 pub returns-clause-parts : goal.returns-clause-parts
-returns-clause-parts c = (λ i. c.split_at.ensures.front i ++ c.split_at.ensures.back i) ∙ take-append-drop c.min.result c.args.blocks.now
+returns-clause-parts c = (λ i. c.split_at.ensures.first i ++ c.split_at.ensures.others i) ∙ take-append-drop c.min.result c.args.blocks.now
