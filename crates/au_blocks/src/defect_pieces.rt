@@ -23,14 +23,14 @@ struct Judging<'a> {
     written: &'a [Option<Kind>],
 }
 
-impl<'a> Piece<Rec, TableFault> for Judging<'a> {
+impl<'a> Piece<Rec<'_>, TableFault> for Judging<'a> {
     ghost takes = { λ _ _. ⊤ };
 
     ghost results = { λ w rows. defects_of w.format w.width w.written.now rows };
 
     ghost overflows = { λ _ _. false };
 
-    fn work(&self, alloc: Global, rows: &[Rec]) -> Result<Vec<TableFault>, EvalFault> {
+    fn work(&self, alloc: Global, rows: &[Rec<'_>]) -> Result<Vec<TableFault>, EvalFault> {
         match defects(alloc, self.format, self.width, self.written, rows) {
             Ok(defects) => Ok(defects),
             Err(NoMemory) => Err(EvalFault::NoMemory),
@@ -53,7 +53,7 @@ pub(crate) fn row_fault_by<R: Threads + Sync>(
     format: Format,
     width: usize,
     written: &[Option<Kind>],
-    rows: &[Rec],
+    rows: &[Rec<'_>],
 ) -> Result<Option<TableFault>, NoMemory>
     requires workers { 1 ≤ workers }
     ensures { IfOk result (λ f. f ≡ first (rows_defects format width written.now rows.now)) }
@@ -73,7 +73,7 @@ fn defects_by<R: Threads + Sync>(
     format: Format,
     width: usize,
     written: &[Option<Kind>],
-    rows: &[Rec],
+    rows: &[Rec<'_>],
 ) -> Result<Vec<TableFault>, NoMemory>
     requires { 1 ≤ workers }
     ensures { IfOk result (λ fs. fs.items ≡ defects_of format width written.now rows.now) }
@@ -96,7 +96,7 @@ fn defects(
     format: Format,
     width: usize,
     written: &[Option<Kind>],
-    rows: &[Rec],
+    rows: &[Rec<'_>],
 ) -> Result<Vec<TableFault>, NoMemory>
     ensures { IfOk result (λ fs. fs.items ≡ defects_of format width written.now rows.now) }
 {

@@ -7,7 +7,7 @@ use crate::format::Format;
 use au_csv::Rec;
 
 // The field of a record at a place, empty where there is none.
-pub(crate) fn field(record: &Rec, place: usize) -> &str
+pub(crate) fn field<'a>(record: &Rec<'a>, place: usize) -> &'a str
     ensures { result.now ≡ field_of place «record».now }
 {
     match record.get(place) {
@@ -17,14 +17,14 @@ pub(crate) fn field(record: &Rec, place: usize) -> &str
 }
 
 // How many cells a record has.
-pub(crate) fn cell_count(format: Format, record: &Rec) -> usize
+pub(crate) fn cell_count(format: Format, record: &Rec<'_>) -> usize
     ensures { result ≡ length (cells_of format «record».now) }
 {
     record.len().saturating_sub(format.lead())
 }
 
 // The text of the cell at a place, empty where there is none.
-pub(crate) fn cell_text(format: Format, record: &Rec, place: usize) -> &str
+pub(crate) fn cell_text<'a>(format: Format, record: &Rec<'a>, place: usize) -> &'a str
     ensures { result.now ≡ field_of place (cells_of format «record».now) }
 {
     let lead = format.lead();

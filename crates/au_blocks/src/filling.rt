@@ -22,7 +22,7 @@ pub(crate) fn filled(
     format: Format,
     kind: Kind,
     place: usize,
-    records: &[&Rec],
+    records: &[&Rec<'_>],
 ) -> Result<Cells, NoMemory>
     ensures { IfOk result (λ c. c ≡ column_cells format kind place records.now) }
 {
@@ -38,7 +38,7 @@ fn flag_cells(
     alloc: Global,
     format: Format,
     place: usize,
-    records: &[&Rec],
+    records: &[&Rec<'_>],
 ) -> Result<Cells, NoMemory>
     ensures { IfOk result (λ c. c ≡ column_cells format Kind.Flag place records.now) }
 {
@@ -54,7 +54,7 @@ fn number_cells(
     format: Format,
     kind: Kind,
     place: usize,
-    records: &[&Rec],
+    records: &[&Rec<'_>],
 ) -> Result<Cells, NoMemory>
     requires { is_number_kind kind ≡ true }
     ensures { IfOk result (λ c. c ≡ column_cells format kind place records.now) }
@@ -73,7 +73,7 @@ fn texts(
     alloc: Global,
     format: Format,
     place: usize,
-    records: &[&Rec],
+    records: &[&Rec<'_>],
 ) -> Result<Vec<Word>, NoMemory>
     ensures { IfOk result (λ v. v.items ≡ column_texts format place records.now) }
 {
@@ -89,7 +89,7 @@ fn flags(
     alloc: Global,
     format: Format,
     place: usize,
-    records: &[&Rec],
+    records: &[&Rec<'_>],
 ) -> Result<Option<Vec<bool>>, NoMemory>
     ensures { IfOk result (λ found. IfSome found (λ v. map (λ b. certain (value.Flag b)) v.items ≡ column_cells format Kind.Flag place records.now)) }
 {
@@ -109,7 +109,7 @@ fn narrow(
     format: Format,
     kind: Kind,
     place: usize,
-    records: &[&Rec],
+    records: &[&Rec<'_>],
 ) -> Result<Option<Vec<i64>>, NoMemory>
     requires { is_number_kind kind ≡ true }
     ensures { IfOk result (λ found. IfSome found (λ v. map (λ n. certain (value.Int n)) v.items ≡ column_cells format kind place records.now)) }
@@ -141,7 +141,7 @@ fn wide(
     format: Format,
     kind: Kind,
     place: usize,
-    records: &[&Rec],
+    records: &[&Rec<'_>],
 ) -> Result<Option<Vec<i128>>, NoMemory>
     requires { is_number_kind kind ≡ true }
     ensures { IfOk result (λ found. IfSome found (λ v. map (λ n. certain (value.Int n)) v.items ≡ column_cells format kind place records.now)) }
@@ -162,7 +162,7 @@ fn mixed(
     format: Format,
     kind: Kind,
     place: usize,
-    records: &[&Rec],
+    records: &[&Rec<'_>],
 ) -> Result<Vec<Cell>, NoMemory>
     ensures { IfOk result (λ v. v.items ≡ column_cells format kind place records.now) }
 {

@@ -22,11 +22,11 @@ use std::hash::Hash;
 
 // What the records of each label amount to, in the order in which the labels come first, and the records that are
 // alternatives, block behind block.
-pub(crate) fn gather<'a>(
+pub(crate) fn gather<'a, 'b>(
     alloc: Global,
     format: Format,
-    rows: &'a [Rec],
-) -> Result<(Vec<Tally>, Vec<&'a Rec>), NoMemory>
+    rows: &'a [Rec<'b>],
+) -> Result<(Vec<Tally>, Vec<&'a Rec<'b>>), NoMemory>
     requires blocks { has_blocks format ≡ true }
     requires roles { list_all has_role rows.now ≡ true }
     ensures tallies { IfOk result (λ g. g.0.items ≡ map tally_of (entry_blocks format rows.now)) }
@@ -43,11 +43,11 @@ pub(crate) fn gather<'a>(
 }
 
 // The same, where the records of a label may stand anywhere. Beside each alternative stands the number of its block.
-fn gather_scattered<'a>(
+fn gather_scattered<'a, 'b>(
     alloc: Global,
     format: Format,
-    rows: &'a [Rec],
-) -> Result<(Vec<Tally>, Vec<(usize, &'a Rec)>), NoMemory>
+    rows: &'a [Rec<'b>],
+) -> Result<(Vec<Tally>, Vec<(usize, &'a Rec<'b>)>), NoMemory>
     requires blocks { has_blocks format ≡ true }
     requires roles { list_all has_role rows.now ≡ true }
     ensures tallies { IfOk result (λ g. g.0.items ≡ map tally_of (entry_blocks format rows.now)) }
@@ -68,11 +68,11 @@ fn gather_scattered<'a>(
 }
 
 // Puts a record of this role behind others, beside the number of its block, if it is an alternative.
-fn put<'a>(
-    alternatives: &mut Vec<(usize, &'a Rec)>,
+fn put<'a, 'b>(
+    alternatives: &mut Vec<(usize, &'a Rec<'b>)>,
     role: Role,
     number: usize,
-    record: &'a Rec,
+    record: &'a Rec<'b>,
 ) -> Result<(), NoMemory>
     ensures { OnOk result (lent_numbered alternatives.new.items ≡ lent_numbered alternatives.old.items ++ (if is_absent role then [] else (number, «record».now) ∷ [])) }
 {
@@ -83,7 +83,7 @@ fn put<'a>(
 }
 
 // The role of a record that has one.
-pub(crate) fn role_in(format: Format, record: &Rec) -> Role
+pub(crate) fn role_in(format: Format, record: &Rec<'_>) -> Role
     requires blocks { has_blocks format ≡ true }
     requires role { has_role «record».now ≡ true }
     ensures { role_of format «record».now ≡ Some result }
@@ -143,7 +143,7 @@ fn place_of<K: Eq + Hash + Drop>(
 }
 
 // The records by the numbers of their blocks.
-fn in_order<'a>(alloc: Global, numbered: Vec<(usize, &'a Rec)>) -> Result<Vec<&'a Rec>, NoMemory>
+fn in_order<'a, 'b>(alloc: Global, numbered: Vec<(usize, &'a Rec<'b>)>) -> Result<Vec<&'a Rec<'b>>, NoMemory>
     ensures { IfOk result (λ v. (n : ℕ) → list_all (λ p. nat_lt p.0 n) numbered.entry.items ≡ true → lent_records v.items ≡ by_numbers n (lent_numbered numbered.entry.items)) }
 {
     let sorted = sorted(numbered)?;
@@ -151,7 +151,7 @@ fn in_order<'a>(alloc: Global, numbered: Vec<(usize, &'a Rec)>) -> Result<Vec<&'
 }
 
 // Them by the numbers of their blocks. The sort keeps the order of the records of a block.
-fn sorted<'a>(numbered: Vec<(usize, &'a Rec)>) -> Result<Vec<(usize, &'a Rec)>, NoMemory>
+fn sorted<'a, 'b>(numbered: Vec<(usize, &'a Rec<'b>)>) -> Result<Vec<(usize, &'a Rec<'b>)>, NoMemory>
     ensures rise { IfOk result (λ v. Rise v.items) }
     ensures stable { IfOk result (λ v. (k : ℕ) → of_number k v.items ≡ of_number k numbered.entry.items) }
     ensures below { IfOk result (λ v. (n : ℕ) → list_all (λ p. nat_lt p.0 n) numbered.entry.items ≡ true → list_all (λ p. nat_lt p.0 n) v.items ≡ true) }
@@ -162,7 +162,7 @@ fn sorted<'a>(numbered: Vec<(usize, &'a Rec)>) -> Result<Vec<(usize, &'a Rec)>, 
 }
 
 // The records without the numbers.
-fn taken_apart<'a>(alloc: Global, numbered: &[(usize, &'a Rec)]) -> Result<Vec<&'a Rec>, NoMemory>
+fn taken_apart<'a, 'b>(alloc: Global, numbered: &[(usize, &'a Rec<'b>)]) -> Result<Vec<&'a Rec<'b>>, NoMemory>
     ensures { IfOk result (λ v. lent_records v.items ≡ map (λ p. p.1) (lent_numbered numbered.now)) }
 {
     let mut records = Vec::with_capacity(alloc, numbered.len())?;

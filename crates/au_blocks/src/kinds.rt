@@ -18,7 +18,7 @@ pub(crate) fn kinds(
     alloc: Global,
     format: Format,
     written: &[Option<Kind>],
-    rows: &[Rec],
+    rows: &[Rec<'_>],
 ) -> Result<Vec<Kind>, NoMemory>
     ensures { IfOk result (λ kinds. kinds.items ≡ inferred_kinds (entries_of format rows.now) written.now) }
 {
@@ -40,7 +40,7 @@ fn unwritten_columns(
 }
 
 // Of the marked columns those in which each alternative has a numeral.
-fn numerals(format: Format, rows: &[Rec], marks: Vec<bool>) -> Vec<bool>
+fn numerals(format: Format, rows: &[Rec<'_>], marks: Vec<bool>) -> Vec<bool>
     ensures { result.items ≡ marks_of format rows.now 0 marks.items }
 {
     let mut marks = marks;
@@ -51,7 +51,7 @@ fn numerals(format: Format, rows: &[Rec], marks: Vec<bool>) -> Vec<bool>
 }
 
 // The same of one record.
-fn narrow(format: Format, record: &Rec, marks: &mut [bool])
+fn narrow(format: Format, record: &Rec<'_>, marks: &mut [bool])
     ensures { marks.new ≡ marks_of format («record».now ∷ []) 0 marks.old }
 {
     for place in 0..marks.len() {
@@ -91,14 +91,14 @@ fn inferred_kind(numerals: bool) -> Kind
     if numerals { Kind::Int } else { Kind::Text }
 }
 
-fn any_alternative(format: Format, rows: &[Rec]) -> bool
+fn any_alternative(format: Format, rows: &[Rec<'_>]) -> bool
     ensures { result ≡ list_any (is_alternative_of format) rows.now }
 {
     rows.iter().any(|record| is_alternative(format, record))
 }
 
 // Whether a record is an alternative.
-pub(crate) fn is_alternative(format: Format, record: &Rec) -> bool
+pub(crate) fn is_alternative(format: Format, record: &Rec<'_>) -> bool
     ensures { result ≡ is_alternative_of format «record».now }
 {
     match role(format, record) {
@@ -108,7 +108,7 @@ pub(crate) fn is_alternative(format: Format, record: &Rec) -> bool
 }
 
 // Whether a record is no alternative, or has a numeral at this place.
-fn holds_numeral(format: Format, place: usize, record: &Rec) -> bool
+fn holds_numeral(format: Format, place: usize, record: &Rec<'_>) -> bool
     ensures { result ≡ holds_numeral_of format place «record».now }
 {
     if !is_alternative(format, record) {

@@ -20,11 +20,11 @@ use std::alloc::Global;
 
 // Where the blocks of the records below a header lie, and the records that are alternatives, block behind block; or the
 // first defect of a block.
-pub(crate) fn layout<'a>(
+pub(crate) fn layout<'a, 'b>(
     alloc: Global,
     format: Format,
-    rows: &'a [Rec],
-) -> Result<(Vec<Extent>, Vec<&'a Rec>), TableFault>
+    rows: &'a [Rec<'b>],
+) -> Result<(Vec<Extent>, Vec<&'a Rec<'b>>), TableFault>
     requires { has_blocks format ≡ true → list_all has_role rows.now ≡ true }
     ensures sound { IfOk result (λ _. first (blocks_defects (entry_blocks format rows.now)) ≡ None) }
     ensures extents { IfOk result (λ l. l.0.items ≡ extents_from 0 (map tally_of (entry_blocks format rows.now))) }
@@ -40,11 +40,11 @@ pub(crate) fn layout<'a>(
 }
 
 // What the records of each block amount to, and those that are alternatives.
-fn tallied<'a>(
+fn tallied<'a, 'b>(
     alloc: Global,
     format: Format,
-    rows: &'a [Rec],
-) -> Result<(Vec<Tally>, Vec<&'a Rec>), NoMemory>
+    rows: &'a [Rec<'b>],
+) -> Result<(Vec<Tally>, Vec<&'a Rec<'b>>), NoMemory>
     requires { has_blocks format ≡ true → list_all has_role rows.now ≡ true }
     ensures tallies { IfOk result (λ g. g.0.items ≡ map tally_of (entry_blocks format rows.now)) }
     ensures records { IfOk result (λ g. lent_records g.1.items ≡ chosen format rows.now) }
@@ -57,7 +57,7 @@ fn tallied<'a>(
 }
 
 // What the records of a plain table amount to, each a block.
-fn certain(alloc: Global, rows: &[Rec]) -> Result<Vec<Tally>, NoMemory>
+fn certain(alloc: Global, rows: &[Rec<'_>]) -> Result<Vec<Tally>, NoMemory>
     ensures { IfOk result (λ v. v.items ≡ map tally_of (entry_blocks Format.Plain rows.now)) }
 {
     let mut tallies = Vec::with_capacity(alloc, rows.len())?;
@@ -68,7 +68,7 @@ fn certain(alloc: Global, rows: &[Rec]) -> Result<Vec<Tally>, NoMemory>
 }
 
 // Each record, lent.
-fn lent<'a>(alloc: Global, rows: &'a [Rec]) -> Result<Vec<&'a Rec>, NoMemory>
+fn lent<'a, 'b>(alloc: Global, rows: &'a [Rec<'b>]) -> Result<Vec<&'a Rec<'b>>, NoMemory>
     ensures { IfOk result (λ v. lent_records v.items ≡ rows.now) }
 {
     let mut records = Vec::with_capacity(alloc, rows.len())?;

@@ -1,5 +1,5 @@
 //! The block table of a file's bytes.
-ghost use Rattle.std.specs.Prelude.{◌≡◌, ◌≤◌, ◌⊎◌, ◌∷◌, Some, Ok, Err, IfOk, IfErr, drop};
+ghost use Rattle.std.specs.Prelude.{◌≡◌, ◌<◌, ◌≤◌, ◌⊎◌, ◌∷◌, Some, Ok, Err, IfOk, IfErr, drop, length};
 ghost use Rattle.au_csv.specs.Texts.{text_records};
 ghost use Rattle.au_blocks.specs.Defects.{table_defects};
 ghost use Rattle.au_blocks.specs.Read.{contents, first, table_of, unless};
@@ -11,7 +11,6 @@ use crate::rows::{alternatives, alternatives_by};
 use crate::schema::{schema, schema_by};
 use crate::table::Table;
 use au_csv::{Rec, records, records_by};
-use au_par::let_go;
 use au_value::Word;
 use std::alloc::Global;
 use std::thread::Threads;
@@ -30,7 +29,8 @@ pub fn read_table(alloc: Global, bytes: &[u8]) -> Result<Table, TableFault>
     ensures table { IfOk result (λ t. table_of bytes.now ≡ Ok t) }
     ensures fault { IfErr result (λ e. (e ≡ TableFault.NoMemory) ⊎ (table_of bytes.now ≡ Err e)) }
 {
-    let rows = records(alloc, bytes)?;
+    let held = records(alloc, bytes)?;
+    let rows = held.rows(alloc)?;
     table_of_records(alloc, rows.as_slice())
 }
 
@@ -48,14 +48,13 @@ pub fn read_table_by<R: Threads + Sync>(
     if workers == 1 {
         return read_table(alloc, bytes);
     }
-    let rows = records_by(rt, alloc, workers, bytes)?;
-    let table = table_of_by(rt, alloc, workers, rows.as_slice());
-    let_go(rt, workers, rows);
-    table
+    let held = records_by(rt, alloc, workers, bytes)?;
+    let rows = held.rows(alloc)?;
+    table_of_by(rt, alloc, workers, rows.as_slice())
 }
 
 // The header, which is the first record.
-fn header_of(alloc: Global, rows: &[Rec]) -> Result<Vec<Word>, TableFault>
+fn header_of(alloc: Global, rows: &[Rec<'_>]) -> Result<Vec<Word>, TableFault>
     ensures header { IfOk result (λ header. rows.now ≡ header.items ∷ drop 1 rows.now) }
     ensures fault { IfErr result (λ e. (e ≡ TableFault.NoMemory) ⊎ (first (table_defects rows.now) ≡ Some e)) }
 {
@@ -66,17 +65,15 @@ fn header_of(alloc: Global, rows: &[Rec]) -> Result<Vec<Word>, TableFault>
 }
 
 // The records below the header.
-fn below(rows: &[Rec]) -> &[Rec]
+fn below<'a, 'b>(rows: &'a [Rec<'b>]) -> &'a [Rec<'b>]
+    requires { 0 < length rows.now }
     ensures { result.now ≡ drop 1 rows.now }
 {
-    match rows.split_first() {
-        Some((_, others)) => others,
-        None => rows,
-    }
+    &rows[1..]
 }
 
 // The block table of these records, the header first.
-fn table_of_records(alloc: Global, rows: &[Rec]) -> Result<Table, TableFault>
+fn table_of_records(alloc: Global, rows: &[Rec<'_>]) -> Result<Table, TableFault>
     ensures table { IfOk result (λ t. unless (first (table_defects rows.now)) (contents rows.now) ≡ Ok t) }
     ensures fault { IfErr result (λ e. (e ≡ TableFault.NoMemory) ⊎ (first (table_defects rows.now) ≡ Some e)) }
 {
@@ -85,7 +82,7 @@ fn table_of_records(alloc: Global, rows: &[Rec]) -> Result<Table, TableFault>
 }
 
 // The block table of a header and the records below it.
-fn table_under(alloc: Global, header: &[Word], rows: &[Rec]) -> Result<Table, TableFault>
+fn table_under(alloc: Global, header: &[Word], rows: &[Rec<'_>]) -> Result<Table, TableFault>
     ensures table { IfOk result (λ t. unless (first (table_defects (header.now ∷ rows.now))) (contents (header.now ∷ rows.now)) ≡ Ok t) }
     ensures fault { IfErr result (λ e. (e ≡ TableFault.NoMemory) ⊎ (first (table_defects (header.now ∷ rows.now)) ≡ Some e)) }
 {
@@ -101,7 +98,7 @@ fn table_of_by<R: Threads + Sync>(
     rt: &R,
     alloc: Global,
     workers: usize,
-    rows: &[Rec],
+    rows: &[Rec<'_>],
 ) -> Result<Table, TableFault>
     requires { 1 ≤ workers }
     ensures table { IfOk result (λ t. unless (first (table_defects rows.now)) (contents rows.now) ≡ Ok t) }
@@ -117,7 +114,7 @@ fn table_by<R: Threads + Sync>(
     alloc: Global,
     workers: usize,
     header: &[Word],
-    rows: &[Rec],
+    rows: &[Rec<'_>],
 ) -> Result<Table, TableFault>
     requires { 1 ≤ workers }
     ensures table { IfOk result (λ t. unless (first (table_defects (header.now ∷ rows.now))) (contents (header.now ∷ rows.now)) ≡ Ok t) }

@@ -21,7 +21,7 @@ pub(crate) fn row_fault(
     format: Format,
     width: usize,
     written: &[Option<Kind>],
-    rows: &[Rec],
+    rows: &[Rec<'_>],
 ) -> Option<TableFault>
     ensures { result ≡ first (rows_defects format width written.now rows.now) }
 {
@@ -39,7 +39,7 @@ pub(crate) fn record_fault(
     width: usize,
     written: &[Option<Kind>],
     number: usize,
-    record: &Rec,
+    record: &Rec<'_>,
 ) -> Option<TableFault>
     ensures { result ≡ first (record_defects format width written.now (number, «record».now)) }
 {
@@ -53,7 +53,7 @@ pub(crate) fn record_fault(
 }
 
 // The role of a record: in a plain table each is a marked alternative.
-pub(crate) fn role(format: Format, record: &Rec) -> Option<Role>
+pub(crate) fn role(format: Format, record: &Rec<'_>) -> Option<Role>
     ensures { result ≡ role_of format «record».now }
 {
     if !format.has_blocks() {
@@ -67,7 +67,7 @@ fn role_fault(
     format: Format,
     number: usize,
     written: &[Option<Kind>],
-    record: &Rec,
+    record: &Rec<'_>,
     role: Role,
 ) -> Option<TableFault>
     ensures { result ≡ first (role_defects format number written.now «record».now (Some role)) }
@@ -82,7 +82,7 @@ fn role_fault(
 }
 
 // Whether a field behind the label and the role isn't empty.
-fn has_value(record: &Rec) -> bool
+fn has_value(record: &Rec<'_>) -> bool
     ensures { result ≡ list_any (λ text. nat_lt 0 (length text)) (drop 2 «record».now) }
 {
     for place in 0..cell_count(Format::Blocks, record) {
@@ -98,7 +98,7 @@ fn alternative_fault(
     format: Format,
     number: usize,
     written: &[Option<Kind>],
-    record: &Rec,
+    record: &Rec<'_>,
 ) -> Option<TableFault>
     ensures { result ≡ first (alternative_defects format number written.now «record».now) }
 {
@@ -109,7 +109,7 @@ fn alternative_fault(
 }
 
 // The numbers of copies that a record writes.
-fn written_times(format: Format, record: &Rec) -> Option<Times>
+fn written_times(format: Format, record: &Rec<'_>) -> Option<Times>
     ensures { result ≡ written_copies format «record».now }
 {
     if !format.has_copies() {
@@ -119,7 +119,7 @@ fn written_times(format: Format, record: &Rec) -> Option<Times>
 }
 
 // The numbers of copies of a record.
-pub(crate) fn times_in(format: Format, record: &Rec) -> Times
+pub(crate) fn times_in(format: Format, record: &Rec<'_>) -> Times
     ensures { result ≡ copies_in format «record».now }
 {
     match written_times(format, record) {
@@ -133,7 +133,7 @@ fn bad_field(
     format: Format,
     number: usize,
     written: &[Option<Kind>],
-    record: &Rec,
+    record: &Rec<'_>,
 ) -> Option<TableFault>
     ensures { result ≡ first (bad_fields format number written.now (cells_of format «record».now)) }
 {

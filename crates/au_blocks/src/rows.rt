@@ -29,12 +29,12 @@ struct Place {
 
 // What columns are filled from.
 #[derive(Clone, Copy)]
-struct Filling<'a> {
+struct Filling<'a, 'b, 'c> {
     format: Format,
-    records: &'a [&'a Rec],
+    records: &'a [&'b Rec<'c>],
 }
 
-impl<'a> Piece<Place, Cells> for Filling<'a> {
+impl<'a, 'b, 'c> Piece<Place, Cells> for Filling<'a, 'b, 'c> {
     ghost takes = { λ _ _. ⊤ };
 
     ghost results = { λ w places. all_cells w.format w.records.now places };
@@ -60,7 +60,7 @@ pub(crate) fn alternatives(
     alloc: Global,
     format: Format,
     columns: &[Column],
-    records: &[&Rec],
+    records: &[&Rec<'_>],
 ) -> Result<Alternatives, NoMemory>
     requires { list_all (is_wide format (length columns.now)) (lent_records records.now) ≡ true }
     ensures { IfOk result (λ a. a ≡ alternatives_of format (map (λ c. c.kind) columns.now) (lent_records records.now)) }
@@ -78,7 +78,7 @@ pub(crate) fn alternatives_by<R: Threads + Sync>(
     workers: usize,
     format: Format,
     columns: &[Column],
-    records: &[&Rec],
+    records: &[&Rec<'_>],
 ) -> Result<Alternatives, NoMemory>
     requires workers { 1 ≤ workers }
     requires wide { list_all (is_wide format (length columns.now)) (lent_records records.now) ≡ true }
@@ -109,7 +109,7 @@ fn all_filled(
     alloc: Global,
     format: Format,
     places: &[Place],
-    records: &[&Rec],
+    records: &[&Rec<'_>],
 ) -> Result<Vec<Cells>, NoMemory>
     ensures { IfOk result (λ v. v.items ≡ all_cells format records.now places.now) }
 {
@@ -127,7 +127,7 @@ fn all_filled_by<R: Threads + Sync>(
     workers: usize,
     format: Format,
     places: &[Place],
-    records: &[&Rec],
+    records: &[&Rec<'_>],
 ) -> Result<Vec<Cells>, NoMemory>
     requires workers { 1 ≤ workers }
     ensures { IfOk result (λ v. v.items ≡ all_cells format records.now places.now) }
@@ -141,7 +141,7 @@ fn all_filled_by<R: Threads + Sync>(
 }
 
 // The numbers of copies of records, and none where their format has none.
-fn all_times(alloc: Global, format: Format, records: &[&Rec]) -> Result<Vec<Times>, NoMemory>
+fn all_times(alloc: Global, format: Format, records: &[&Rec<'_>]) -> Result<Vec<Times>, NoMemory>
     ensures { IfOk result (λ v. v.items ≡ all_copies format records.now) }
 {
     if format.has_copies() {
@@ -151,7 +151,7 @@ fn all_times(alloc: Global, format: Format, records: &[&Rec]) -> Result<Vec<Time
 }
 
 // The numbers of copies of records.
-fn listed_times(alloc: Global, format: Format, records: &[&Rec]) -> Result<Vec<Times>, NoMemory>
+fn listed_times(alloc: Global, format: Format, records: &[&Rec<'_>]) -> Result<Vec<Times>, NoMemory>
     ensures { IfOk result (λ v. v.items ≡ map (λ r. copies_in format r.now) records.now) }
 {
     let mut times = Vec::with_capacity(alloc, records.len())?;

@@ -19,7 +19,7 @@ use std::alloc::Global;
 use std::cmp::Ordering;
 
 // The records of each label, or none where a label comes before the one above it. One pass that copies no record.
-pub(crate) fn runs<'a>(alloc: Global, rows: &'a [Rec]) -> Result<Option<Vec<&'a [Rec]>>, NoMemory>
+pub(crate) fn runs<'a, 'b>(alloc: Global, rows: &'a [Rec<'b>]) -> Result<Option<Vec<&'a [Rec<'b>]>>, NoMemory>
     ensures { IfOk result (λ found. IfSome found (λ runs. lent_runs runs.items ≡ by_labels rows.now)) }
 {
     let mut runs = Vec::with_capacity(alloc, rows.len())?;
@@ -58,7 +58,7 @@ fn compare_labels(a: &str, b: &str) -> Ordering
 pub(crate) fn tallies_of_runs(
     alloc: Global,
     format: Format,
-    runs: &[&[Rec]],
+    runs: &[&[Rec<'_>]],
 ) -> Result<Vec<Tally>, NoMemory>
     ensures { IfOk result (λ ts. ts.items ≡ map (λ run. tally_of (entries_of format run.now)) runs.now) }
 {
@@ -70,7 +70,7 @@ pub(crate) fn tallies_of_runs(
 }
 
 // What the records of a run amount to.
-fn tally(format: Format, run: &[Rec]) -> Tally
+fn tally(format: Format, run: &[Rec<'_>]) -> Tally
     ensures { result ≡ tally_of (entries_of format run.now) }
 {
     let mut tally = Tally::nothing();
@@ -83,12 +83,12 @@ fn tally(format: Format, run: &[Rec]) -> Tally
 }
 
 // The records that are alternatives, run behind run, of which there are at most so many.
-pub(crate) fn alternatives_of_runs<'a>(
+pub(crate) fn alternatives_of_runs<'a, 'b>(
     alloc: Global,
     format: Format,
-    runs: &[&'a [Rec]],
+    runs: &[&'a [Rec<'b>]],
     count: usize,
-) -> Result<Vec<&'a Rec>, NoMemory>
+) -> Result<Vec<&'a Rec<'b>>, NoMemory>
     ensures { IfOk result (λ v. lent_records v.items ≡ flat_map (λ run. filter (is_alternative_of format) run.now) runs.now) }
 {
     let mut records = Vec::with_capacity(alloc, count)?;
@@ -99,10 +99,10 @@ pub(crate) fn alternatives_of_runs<'a>(
 }
 
 // Puts those of a run behind others.
-fn put_alternatives<'a>(
+fn put_alternatives<'a, 'b>(
     format: Format,
-    run: &'a [Rec],
-    records: &mut Vec<&'a Rec>,
+    run: &'a [Rec<'b>],
+    records: &mut Vec<&'a Rec<'b>>,
 ) -> Result<(), NoMemory>
     ensures { OnOk result (lent_records records.new.items ≡ lent_records records.old.items ++ filter (is_alternative_of format) run.now) }
 {

@@ -23,7 +23,7 @@ use std::thread::Threads;
 pub(crate) fn schema(
     alloc: Global,
     header: &[Word],
-    rows: &[Rec],
+    rows: &[Rec<'_>],
 ) -> Result<Vec<Column>, TableFault>
     ensures sound { IfOk result (λ _. first (schema_defects header.now rows.now) ≡ None) }
     ensures columns { IfOk result (λ columns. columns.items ≡ header_columns header.now rows.now) }
@@ -43,7 +43,7 @@ pub(crate) fn schema_by<R: Threads + Sync>(
     alloc: Global,
     workers: usize,
     header: &[Word],
-    rows: &[Rec],
+    rows: &[Rec<'_>],
 ) -> Result<Vec<Column>, TableFault>
     requires workers { 1 ≤ workers }
     ensures sound { IfOk result (λ _. first (schema_defects header.now rows.now) ≡ None) }
@@ -92,7 +92,7 @@ fn typed(
     format: Format,
     names: Vec<Word>,
     written: &[Option<Kind>],
-    rows: &[Rec],
+    rows: &[Rec<'_>],
 ) -> Result<Vec<Column>, NoMemory>
     ensures { IfOk result (λ columns. columns.items ≡ columns_of names.items (inferred_kinds (entries_of format rows.now) written.now)) }
 {

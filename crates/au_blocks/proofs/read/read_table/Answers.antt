@@ -5,5 +5,5 @@ use Rattle.au_blocks.proofs.read.read_table.Goals as goal
 
 pub returns-clause-table : goal.returns-clause-table
 returns-clause-table c =
-    let records = c.in_ok-rows.ensures.records ∙ ap Ok (sym c.as_slice.ensures.value) in
+    let records = c.in_ok-held.ensures.records ∙ ap Ok (sym c.in_ok-rows.ensures ∙ sym c.as_slice.ensures.value) in
     table-read c.args.bytes.now c.as_slice.result.now c.table_of_records.result records c.table_of_records.ensures.table
