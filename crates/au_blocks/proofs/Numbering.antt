@@ -2,7 +2,7 @@
 use Rattle.std.proofs.Common.{◌≡◌, ◌∙◌, ℕ, zero, suc, ◌+◌, ◌<◌, ◌≤◌, ◌&&◌, Bool, true, false, cond, List, [], ◌∷◌, ◌++◌, length, map, get_or, drop, Bor, ◌≢◌, inl, inr, refl, sym, ap, subst, append_assoc, arith, eq-eqb, eqb, ltb, Less, Equal, Greater}
 use Rattle.std.specs.Prelude.{not, filter, flat_map, bytes_eq}
 use Rattle.std.specs.List.{AllByRecursion, list_all, list_any, position_or_len, range_with_len}
-use Rattle.std.specs.List.Sorted.{IsPermutation, IsSortedBy, IsStableBy, ties}
+use Rattle.std.specs.List.Sorted.{IsPermutation, IsSortedBy, IsStableBy}
 use Rattle.std.specs.Ordering.{is_lt, nat_cmp}
 use Rattle.std.proofs.lemmas.Bool.{cases_Bool, and_parts, and_from, eqb-true, ltb-true, ltb-false, lt-ltb, ne_eqb}
 use Rattle.std.proofs.lemmas.List.{drop_all, drop_more, map-append}

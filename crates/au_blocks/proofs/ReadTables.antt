@@ -1,5 +1,5 @@
 -- The table of a text whose records were read.
-use Rattle.std.proofs.Common.{◌≡◌, ◌∙◌, ◌∷◌, ℕ, List, Option, Some, None, Ok, drop, refl, sym}
+use Rattle.std.proofs.Common.{◌≡◌, ◌∙◌, ℕ, List, Option, Some, None, Ok, refl}
 use Rattle.std.specs.Prelude.{IfOk, Result}
 use Rattle.std.proofs.lemmas.Result.{IfOk-weaker}
 use Rattle.au_csv.specs.Texts.{Record, records_of, not_text, unless_not_text, text_records}
@@ -27,7 +27,3 @@ table-read bytes rs r is made =
 pub table-over : (rs qs : List Record) (r : Result BlockTable TableFault) → rs ≡ qs
     → IfOk r (λ t. unless (first (table_defects qs)) (contents qs) ≡ Ok t) → IfOk r (λ t. unless (first (table_defects rs)) (contents rs) ≡ Ok t)
 table-over rs qs r is made = rw is made
-
--- records from their header and the others, through the slices of both
-pub head-whole : (rows lent : List Record) (header words : Record) → lent ≡ rows → words ≡ header → lent ≡ header ∷ drop 1 lent → rows ≡ words ∷ drop 1 rows
-head-whole rows lent header words at is whole = sym at ∙ whole ∙ (λ i. sym is i ∷ drop 1 (at i))

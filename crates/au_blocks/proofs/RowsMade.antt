@@ -1,6 +1,6 @@
 -- The alternatives of records that are made a column at a time.
-use Rattle.std.proofs.Common.{◌≡◌, ◌∙◌, ℕ, ◌+◌, ◌<◌, ◌≤◌, true, List, [], ◌∷◌, length, map, get_or, drop, All, Bor, refl, sym, ap, arith}
-use Rattle.std.specs.List.{AllByRecursion, list_all, range_with_len}
+use Rattle.std.proofs.Common.{◌≡◌, ◌∙◌, ℕ, ◌+◌, ◌<◌, ◌≤◌, true, List, [], ◌∷◌, length, map, get_or, drop, Bor, refl, sym, ap, arith}
+use Rattle.std.specs.List.{AllByRecursion, list_all}
 use Rattle.std.proofs.lemmas.Bool.{leb-true}
 use Rattle.std.proofs.lemmas.List.{drop_more, get_or-map, length-map}
 use Rattle.std.proofs.lemmas.List.Elements.{All-from_recursion}
@@ -11,10 +11,10 @@ use Rattle.au_csv.specs.Texts.{Record}
 use Rattle.au_blocks.specs.declared.format.Format.{Format}
 use Rattle.au_blocks.specs.declared.format.Format.TheVariants as format
 use Rattle.au_blocks.specs.declared.rows.Place.{Place}
-use Rattle.au_blocks.specs.Blocks.{Candidate, candidate, once}
+use Rattle.au_blocks.specs.Blocks.{candidate, once}
 use Rattle.au_blocks.specs.Headers.{cells_of}
 use Rattle.au_blocks.specs.Entries.{copies_in, field}
-use Rattle.au_blocks.specs.Columns.{all_cells, all_copies, alternative_of, alternatives_of, column_cells, is_wide, places_from}
+use Rattle.au_blocks.specs.Columns.{all_cells, all_copies, alternative_of, alternatives_of, is_wide, places_from}
 use Rattle.au_blocks.specs.Laid.{AreLong, row_at, rows_of}
 use Rattle.au_blocks.specs.Order.{lent_records}
 use Rattle.au_blocks.specs.Read.{cell, row}

@@ -1,5 +1,5 @@
 -- The records that are alternatives, in the order in which they lie in a table: block behind block.
-use Rattle.std.specs.Prelude.{ℕ, ◌==◌, ◌≤◌, ⊤, Bool, List, [], ◌∷◌, map, filter, flat_map, if◌then◌else◌, bytes_eq}
+use Rattle.std.specs.Prelude.{ℕ, ◌==◌, ◌≤◌, ⊤, List, [], ◌∷◌, map, filter, flat_map, if◌then◌else◌, bytes_eq}
 use Rattle.std.specs.Borrow.{Bor}
 use Rattle.std.specs.List.{position_or_len, range_with_len}
 use Rattle.au_value.specs.Lists.{distinct}

@@ -1,14 +1,14 @@
-//! A cell of an alternative.
+//! A cell that is no value of its column's form.
 ghost use Rattle.std.specs.Prelude.{◌≡◌, IfOk};
-ghost use Rattle.au_value.specs.Ranges.{certain, is_certain};
+ghost use Rattle.au_value.specs.Ranges.{certain};
 
-use au_value::{NoMemory, Range, Value, compare};
+use au_value::{NoMemory, Range, Value};
 use std::alloc::Global;
 use std::marker::Model;
 
 /// What is known of a value: itself, or a range that holds it. Contracts see a range in either case; a value is kept once.
 #[derive(Drop)]
-pub struct Cell {
+pub(crate) struct Cell {
     content: Content,
 }
 
@@ -48,7 +48,7 @@ impl Cell {
     }
 
     /// The least value that the cell may have.
-    pub fn lo(&self) -> &Value
+    pub(crate) fn lo(&self) -> &Value
         ensures { result.now ≡ self.now.lo }
     {
         match &self.content {
@@ -58,7 +58,7 @@ impl Cell {
     }
 
     /// The guess of the cell's value.
-    pub fn sg(&self) -> &Value
+    pub(crate) fn sg(&self) -> &Value
         ensures { result.now ≡ self.now.sg }
     {
         match &self.content {
@@ -68,19 +68,12 @@ impl Cell {
     }
 
     /// The greatest value that the cell may have.
-    pub fn hi(&self) -> &Value
+    pub(crate) fn hi(&self) -> &Value
         ensures { result.now ≡ self.now.hi }
     {
         match &self.content {
             Content::Certain(value) => value,
             Content::Between(range) => range.hi(),
         }
-    }
-
-    /// Whether the cell may have one value alone.
-    pub fn is_certain(&self) -> bool
-        ensures { result ≡ is_certain self.now }
-    {
-        compare(self.lo(), self.hi()).is_eq()
     }
 }

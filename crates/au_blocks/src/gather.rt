@@ -83,7 +83,7 @@ fn put<'a, 'b>(
 }
 
 // The role of a record that has one.
-pub(crate) fn role_in(format: Format, record: &Rec<'_>) -> Role
+fn role_in(format: Format, record: &Rec<'_>) -> Role
     requires blocks { has_blocks format ≡ true }
     requires role { has_role «record».now ≡ true }
     ensures { role_of format «record».now ≡ Some result }

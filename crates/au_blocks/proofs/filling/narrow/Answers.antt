@@ -1,5 +1,5 @@
 -- One number more.
-use Rattle.std.proofs.Common.{[], ◌≡◌, ◌∙◌, ℤ, Bor, arith, get_or, of_z, sym, ap, to_z}
+use Rattle.std.proofs.Common.{[], ◌≡◌, ◌∙◌, ℤ, Bor, arith, get_or, of_z, ap, to_z}
 use Rattle.std.specs.Int.{w64}
 use Rattle.std.proofs.lemmas.Int.{ints, to_z-of_z}
 use Rattle.std.proofs.lemmas.List.{get_or_read}

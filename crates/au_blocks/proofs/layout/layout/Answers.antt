@@ -1,8 +1,7 @@
 -- The first defect of the blocks, and as many alternatives as the tallies say.
-use Rattle.std.proofs.Common.{◌≡◌, ◌∙◌, [], ℕ, Option, inr, length, map, sym, ap}
+use Rattle.std.proofs.Common.{◌≡◌, ◌∙◌, [], inr, length, sym, ap}
 use Rattle.std.specs.Prelude.{sum_by}
 use Rattle.std.proofs.lemmas.List.{length-map}
-use Rattle.au_csv.specs.Texts.{Record}
 use Rattle.au_blocks.specs.declared.tally.Tally.{Tally}
 use Rattle.au_blocks.specs.Defects.{blocks_defects}
 use Rattle.au_blocks.specs.Entries.{entry_blocks}

@@ -1,7 +1,9 @@
 -- One record more, with a role and without one.
-use Rattle.std.proofs.Common.{◌≡◌, ◌≤◌, ◌∙◌, [], Some, None, get_or, length, take, refl, sym, ap, arith}
+use Rattle.std.proofs.Common.{◌≡◌, ◌∙◌, [], Some, None, get_or, take, sym, ap, arith}
 use Rattle.std.proofs.lemmas.List.{get_or_read, length-take-le}
+use Rattle.au_blocks.specs.declared.tally.Tally.{Tally}
 use Rattle.au_blocks.specs.Entries.{role_of}
+use Rattle.au_blocks.specs.Tallies.{with_role}
 use Rattle.au_blocks.proofs.RunEntries.{run-more, run-stays}
 use Rattle.au_blocks.proofs.Tallying.{few-alternatives}
 use Rattle.au_blocks.proofs.runs.tally.Goals as goal
@@ -24,7 +26,7 @@ loop-place-preserved c =
     elim c.match-role.branch [
       | in-Some w ↦
           let has : role_of f (get_or run i []) ≡ Some w.in-Some.role = sym (w.in-Some.ensures ∙ ap (role_of f) at) in
-          rw (w.tally-is, w.with-tally.ensures, c.loop-place.invariant, run-more f run i w.in-Some.role within has) refl
+          w.tally-is ∙ w.with-tally.ensures ∙ ap (λ (t : Tally). with_role t w.in-Some.role) c.loop-place.invariant ∙ sym (run-more f run i w.in-Some.role within has)
       | in_default w ↦
           let has : role_of f (get_or run i []) ≡ None = sym (w.in_default.ensures ∙ ap (role_of f) at) in
           w.tally-is ∙ c.loop-place.invariant ∙ sym (run-stays f run i within has)
