@@ -143,7 +143,10 @@ fn place_of<K: Eq + Hash + Drop>(
 }
 
 // The records by the numbers of their blocks.
-fn in_order<'a, 'b>(alloc: Global, numbered: Vec<(usize, &'a Rec<'b>)>) -> Result<Vec<&'a Rec<'b>>, NoMemory>
+fn in_order<'a, 'b>(
+    alloc: Global,
+    numbered: Vec<(usize, &'a Rec<'b>)>,
+) -> Result<Vec<&'a Rec<'b>>, NoMemory>
     ensures { IfOk result (λ v. (n : ℕ) → list_all (λ p. nat_lt p.0 n) numbered.entry.items ≡ true → lent_records v.items ≡ by_numbers n (lent_numbered numbered.entry.items)) }
 {
     let sorted = sorted(numbered)?;
@@ -151,7 +154,9 @@ fn in_order<'a, 'b>(alloc: Global, numbered: Vec<(usize, &'a Rec<'b>)>) -> Resul
 }
 
 // Them by the numbers of their blocks. The sort keeps the order of the records of a block.
-fn sorted<'a, 'b>(numbered: Vec<(usize, &'a Rec<'b>)>) -> Result<Vec<(usize, &'a Rec<'b>)>, NoMemory>
+fn sorted<'a, 'b>(
+    numbered: Vec<(usize, &'a Rec<'b>)>,
+) -> Result<Vec<(usize, &'a Rec<'b>)>, NoMemory>
     ensures rise { IfOk result (λ v. Rise v.items) }
     ensures stable { IfOk result (λ v. (k : ℕ) → of_number k v.items ≡ of_number k numbered.entry.items) }
     ensures below { IfOk result (λ v. (n : ℕ) → list_all (λ p. nat_lt p.0 n) numbered.entry.items ≡ true → list_all (λ p. nat_lt p.0 n) v.items ≡ true) }
@@ -162,7 +167,10 @@ fn sorted<'a, 'b>(numbered: Vec<(usize, &'a Rec<'b>)>) -> Result<Vec<(usize, &'a
 }
 
 // The records without the numbers.
-fn taken_apart<'a, 'b>(alloc: Global, numbered: &[(usize, &'a Rec<'b>)]) -> Result<Vec<&'a Rec<'b>>, NoMemory>
+fn taken_apart<'a, 'b>(
+    alloc: Global,
+    numbered: &[(usize, &'a Rec<'b>)],
+) -> Result<Vec<&'a Rec<'b>>, NoMemory>
     ensures { IfOk result (λ v. lent_records v.items ≡ map (λ p. p.1) (lent_numbered numbered.now)) }
 {
     let mut records = Vec::with_capacity(alloc, numbered.len())?;

@@ -19,7 +19,10 @@ use std::alloc::Global;
 use std::cmp::Ordering;
 
 // The records of each label, or none where a label comes before the one above it. One pass that copies no record.
-pub(crate) fn runs<'a, 'b>(alloc: Global, rows: &'a [Rec<'b>]) -> Result<Option<Vec<&'a [Rec<'b>]>>, NoMemory>
+pub(crate) fn runs<'a, 'b>(
+    alloc: Global,
+    rows: &'a [Rec<'b>],
+) -> Result<Option<Vec<&'a [Rec<'b>]>>, NoMemory>
     ensures { IfOk result (λ found. IfSome found (λ runs. lent_runs runs.items ≡ by_labels rows.now)) }
 {
     let mut runs = Vec::with_capacity(alloc, rows.len())?;
