@@ -1,13 +1,13 @@
 //! Texts and their records.
 use crate::cases::{Call, file_bytes, judge};
-use au_csv::{CsvFault, Rec, records, records_by};
+use au_csv::{CsvFault, Rec, Records, records, records_by};
 use std::alloc::{AllocError, Global};
 use std::process::Abort;
 use std::test::Fail;
 use std::thread::Threads;
 
 // A bar, and the fields in brackets.
-fn push_record(text: &mut String, record: &Rec) -> Result<(), AllocError> {
+fn push_record(text: &mut String, record: &Rec<'_>) -> Result<(), AllocError> {
     text.push_str("|")?;
     for place in 0..record.len() {
         text.push_str("[")?;
@@ -17,24 +17,27 @@ fn push_record(text: &mut String, record: &Rec) -> Result<(), AllocError> {
     Ok(())
 }
 
-fn records_text(alloc: Global, records: &[Rec]) -> Result<String, AllocError> {
+fn records_text(alloc: Global, records: &Records) -> Result<String, AllocError> {
+    let Ok(rows) = records.rows(alloc) else {
+        return Err(AllocError);
+    };
     let mut text = String::new(alloc);
-    for record in records {
+    for record in &rows {
         push_record(&mut text, record)?;
     }
     Ok(text)
 }
 
-fn outcome_text(alloc: Global, outcome: &Result<Vec<Rec>, CsvFault>) -> Result<String, AllocError> {
+fn outcome_text(alloc: Global, outcome: &Result<Records, CsvFault>) -> Result<String, AllocError> {
     match outcome {
-        Ok(records) => records_text(alloc, records.as_slice()),
+        Ok(records) => records_text(alloc, records),
         Err(fault) => format!(in alloc; "{fault:?}"),
     }
 }
 
-struct Records;
+struct RecordsOf;
 
-impl Call for Records {
+impl Call for RecordsOf {
     fn outcome(alloc: Global, given: &str) -> Result<String, Fail> {
         let bytes = file_bytes(alloc, given)?;
         Ok(outcome_text(alloc, &records(alloc, bytes.as_slice()))?)
@@ -56,7 +59,7 @@ a,# -> NotText(0)";
 
 #[test]
 fn records_of_texts(rt: HostRuntime) -> Result<(), Fail> {
-    judge::<Records>(&rt, rt.alloc(), RECORDS)
+    judge::<RecordsOf>(&rt, rt.alloc(), RECORDS)
 }
 
 // Whether four workers read what one does, and that ends so.
