@@ -171,3 +171,13 @@ module _ (c : Code) (keeps : KeepsOrder c) where
   rows_coded p ts typed plan tables =
       let k = its_kinds (physical_kinds typed.kinds p) typed.typed in
       (plan_coded typed.kinds ts typed.tables tables p k.0 k.1 plan).coded
+
+  known_rows : (ks : List Kind) (rows : Rows) → AreRows c ks rows → KnowsRows c rows
+  known_rows ks [] h = tt
+  known_rows ks (r ∷ rows) h = (h.0.known, known_rows ks rows h.1)
+
+  -- the code knows the texts of a typed plan's rows
+  pub rows_known : (p : PhysicalTree) (ts : List Rows) → IsPhysicalFor ts p → KnowsPlan c p → KnowsTables c ts → KnowsRows c (physical_rows p ts)
+  rows_known p ts typed plan tables =
+      let k = its_kinds (physical_kinds typed.kinds p) typed.typed in
+      known_rows k.0 (physical_rows p ts) (plan_coded typed.kinds ts typed.tables tables p k.0 k.1 plan).rows

@@ -14,7 +14,7 @@ use Rattle.au_physical.specs.Physicals.{PhysicalTree}
 use Rattle.au_physical.specs.PhysicalKinds.{IsPhysicalFor}
 use Rattle.au_physical.specs.PhysicalMeaning.{physical_rows}
 use Rattle.au_physical.specs.PhysicalNumbers.{physical_numbers}
-use Rattle.au_codes.specs.Codes.{Code, KeepsOrder, code, coded_row, coded_rows, coded_tables, Knows, KnowsRow, KnowsTables}
+use Rattle.au_codes.specs.Codes.{Code, KeepsOrder, code, coded_row, coded_rows, coded_tables, Knows, KnowsRow, KnowsRows, KnowsTables}
 use Rattle.au_codes.specs.CodedPlans.{coded_term, coded_tree, KnowsTerm, KnowsPlan}
 use Rattle.au_codes.specs.CellMeaning.{same_cells, cell_value, plan_cells}
 use Rattle.au_codes.specs.CellNumbers.{plan_cell_numbers}
@@ -47,6 +47,13 @@ CellsKeepRows =
     (p : PhysicalTree) (ts : List Rows) →
     IsPhysicalFor ts p → KnowsPlan c p → KnowsTables c ts →
     plan_cells (coded_tree c p) (coded_tables c ts) ≡ coded_rows c (physical_rows p ts)
+
+-- the code knows the texts of a typed plan's rows
+abbrev pub RowsStayKnown : Type 0
+RowsStayKnown =
+    (c : Code) → KeepsOrder c →
+    (p : PhysicalTree) (ts : List Rows) →
+    IsPhysicalFor ts p → KnowsPlan c p → KnowsTables c ts → KnowsRows c (physical_rows p ts)
 
 -- the numbers of a typed plan over cells lie in the range of 128 bits exactly where its own do
 abbrev pub CellsKeepNumbers : Type 0

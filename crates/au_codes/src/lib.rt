@@ -39,5 +39,5 @@ pub use text_codes::{code_short, code_text, decode_text};
 pub use theorems::{
     careful_is_exact, cells_keep_normal, cells_keep_numbers, cells_keep_rows, cells_keep_values,
     cells_stand, codes_keep_order, gathered_are_known, plans_worked, ranks_are_places,
-    short_need_no_book, text_codes_keep_order, texts_worked,
+    rows_stay_known, short_need_no_book, text_codes_keep_order, texts_worked,
 };

@@ -49,8 +49,8 @@ impl LongTexts {
         }
     }
 
-    // One more text. It is copied only where it is long and new.
-    fn add_text(&mut self, word: &Word) -> Result<(), NoMemory>
+    /// One more text, if it is long. It is copied only where it is new.
+    pub fn add_text(&mut self, word: &Word) -> Result<(), NoMemory>
         ensures { OnOk result (self.new ≡ with_text self.old word.now) }
     {
         if is_short(word) || self.seen.contains(word) {

@@ -1,7 +1,7 @@
 //! Laws of codes. Each is the contract of a function that does nothing.
 ghost use Rattle.au_codes.specs.Careful.{CarefulIsExact};
 ghost use Rattle.au_codes.specs.CellNormal.{CellsKeepNormal};
-ghost use Rattle.au_codes.specs.Laws.{CellsKeepNumbers, CellsKeepRows, CellsKeepValues, CodesKeepOrder};
+ghost use Rattle.au_codes.specs.Laws.{CellsKeepNumbers, CellsKeepRows, CellsKeepValues, CodesKeepOrder, RowsStayKnown};
 ghost use Rattle.au_codes.specs.TextLaws.{CellsStand, GatheredAreKnown, RanksArePlaces, ShortNeedNoBook, TextCodesKeepOrder};
 ghost use Rattle.au_codes.specs.Worked.{PlansWorked, TextsWorked};
 
@@ -18,6 +18,11 @@ pub fn cells_keep_values()
 /// Plans over cells have the cells of their rows.
 pub fn cells_keep_rows()
     ensures { CellsKeepRows }
+{}
+
+/// A code that knows the texts of a plan and of its tables knows those of the plan's rows.
+pub fn rows_stay_known()
+    ensures { RowsStayKnown }
 {}
 
 /// The numbers of typed plans over cells fit 128 bits exactly where those of the plans do.

@@ -1,22 +1,22 @@
 //! The values in some places of the encoded rows of a block table. The rows themselves are not made.
-ghost use Rattle.std.specs.Prelude.{◌≡◌, ◌<◌, ◌++◌, ◌∷◌, [], IsTrue, IfOk, OnOk, List, Some, length, map, slice_get, true, unwrap_or};
-ghost use Rattle.std.specs.List.{AllByRecursion, list_all};
+ghost use Rattle.std.specs.Prelude.{◌≡◌, ◌++◌, ◌∷◌, [], IsTrue, IfOk, OnOk, List, Some, map, slice_get, true, unwrap_or};
+ghost use Rattle.std.specs.List.{list_all};
 ghost use Rattle.au_value.specs.declared.kinds.Kind.{Kind};
 ghost use Rattle.au_expr.specs.Figures.{fit};
 ghost use Rattle.au_expr.specs.Numbers.{number_if_any};
-ghost use Rattle.au_blocks.specs.Scalars.{scalar_value};
 ghost use Rattle.au_blocks.specs.Tables.{IsBlockTable, fits_kinds, table};
 ghost use Rattle.au_algebra.specs.Entries.{entry};
 ghost use Rattle.au_algebra.specs.Lists.{value_at};
 ghost use Rattle.au_plain.specs.Meaning.{kept};
 ghost use Rattle.au_plain.specs.PlanKinds.{FitRows, row_fits};
-ghost use Rattle.au_encode.specs.Encode.{encode, encode_cells, encode_counts, encode_row};
-ghost use Rattle.au_translate.specs.Translate.{bounded_blocks, candidate_cell, ranges_of, marked_or_first as marked_or_first_of, span_in};
+ghost use Rattle.au_encode.specs.Encode.{encode, encode_row};
+ghost use Rattle.au_translate.specs.Translate.{bounded_blocks, ranges_of, marked_or_first as marked_or_first_of};
 
-use crate::bounds::{greatest_end, guess, least_end, marked_or_first, triple};
+use crate::bounds::{marked_or_first, triple};
 use crate::encodings::copied;
-use au_annot::{Annot, Count, Triple};
-use au_blocks::{Alternative, Block, Blocks, Column, Scalar};
+use crate::lent_places::value_in;
+use au_annot::Triple;
+use au_blocks::{Alternative, Block, Blocks, Column};
 use au_plain::PRow;
 use au_value::{NoMemory, Value};
 use std::alloc::Global;
@@ -74,13 +74,13 @@ fn kept_row(
     let shown = marked_or_first(block);
     let mut row = Vec::with_capacity(alloc, places.len())?;
     for place in places {
-        row.push_reserved(value_in(block, &shown, triple, *place)?);
+        row.push_reserved(copy_in(block, &shown, triple, *place)?);
     }
     Ok(row)
 }
 
-// The value in a place of that row, of which this alternative is shown: three for each cell, then the counts, and 0 past them.
-fn value_in<'a>(
+// A copy of the value in a place of that row, of which this alternative is shown.
+fn copy_in<'a>(
     block: &Block<'a>,
     shown: &Alternative<'a>,
     triple: Triple,
@@ -92,39 +92,5 @@ fn value_in<'a>(
     ensures value { IfOk result (λ v. v ≡ value_at (encode_row (entry (ranges_of block.now) triple)) place) }
     ensures fits { IfOk result (λ v. fit (number_if_any v) ≡ true) }
 {
-    let at = place / 3;
-    let width = shown.width();
-    if at < width {
-        return copied(part(block, at, shown, place % 3));
-    }
-    Ok(count_at(triple, place - 3 * width))
-}
-
-// The least value, the guess or the greatest value in a column of a block, of which this alternative is shown.
-fn part<'a>(block: &Block<'a>, at: usize, shown: &Alternative<'a>, number: usize) -> Scalar<'a>
-    requires wide { AllByRecursion (λ a. at < length a.cells) block.now.alternatives }
-    requires shown { shown.now ≡ marked_or_first_of block.now }
-    requires within { at < length shown.now.cells }
-    requires number { number < 3 }
-    ensures { scalar_value result ≡ value_at (encode_cells (span_in block.now.alternatives at (candidate_cell at shown.now).sg ∷ [])) number }
-{
-    match number {
-        0 => least_end(block, at, shown),
-        1 => guess(shown, at),
-        _ => greatest_end(block, at, shown),
-    }
-}
-
-// The least count, the guess or the most of a triple, and 0 past them.
-fn count_at(triple: Triple, number: usize) -> Value
-    ensures value { result ≡ value_at (encode_counts triple) number }
-    ensures fits { fit (number_if_any result) ≡ true }
-{
-    let count = match number {
-        0 => triple.least(),
-        1 => triple.guess(),
-        2 => triple.most(),
-        _ => Count::zero(),
-    };
-    Value::Int(count.get() as i128)
+    copied(value_in(block, shown, triple, place))
 }

@@ -2,7 +2,7 @@
 //!
 //! [`bounded`] makes a row of ranges with a triple of each block, and [`encoded`] the same rows as plain rows, which
 //! [`encoded_by`] makes by several workers; [`bounded_rows`] and [`encoded_blocks`] make those of some of a table's blocks,
-//! and [`encoded_places_by`] only the values in some places of the plain rows; [`read_numbers`] and
+//! and [`encoded_places_by`] only the values in some places of the plain rows, of which [`place_value`] lends each; [`read_numbers`] and
 //! [`read_cells`] tell that the numbers of rows which are not made lie in the range, too. [`guessed`] gives the rows of the guess world, each with its number of copies. [`bounded_answer_holds`] is the law on
 //! whole queries over such tables: the bounded answer bounds the ordinary answer in every world, and its guesses are the
 //! ordinary answer in the guess world.
@@ -23,6 +23,7 @@ mod guesses;
 mod held_numbers;
 mod kept_pieces;
 mod kept_places;
+mod lent_places;
 mod relations;
 mod theorems;
 
@@ -31,5 +32,6 @@ pub use encodings::{encoded, encoded_blocks};
 pub use guesses::guessed;
 pub use held_numbers::{read_cells, read_numbers};
 pub use kept_pieces::encoded_places_by;
+pub use lent_places::{place_value, row_count};
 pub use relations::{bounded, bounded_rows};
 pub use theorems::bounded_answer_holds;

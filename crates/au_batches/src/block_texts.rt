@@ -1,0 +1,101 @@
+//! The long texts of a table's blocks, for the book of their codes.
+ghost use Rattle.std.specs.Prelude.{◌≡◌, ◌/◌, ◌∷◌, [], IsTrue, List, OnOk};
+ghost use Rattle.std.specs.List.{list_all};
+ghost use Rattle.au_value.specs.Order.{data_kind, kind_eq};
+ghost use Rattle.au_blocks.specs.Tables.{IsBlockTable, column_kinds, fits_kinds, table};
+ghost use Rattle.au_plain.specs.PlanKinds.{HaveKinds};
+ghost use Rattle.au_encode.specs.Encode.{encode};
+ghost use Rattle.au_translate.specs.Translate.{bounded_blocks};
+ghost use Rattle.au_codes.specs.Gathering.{with_row, with_rows};
+ghost use Rattle.au_translate.specs.LentPlaces.{lent_values};
+ghost use Rattle.au_batches.specs.BlockRows.{block_rows, in_place};
+ghost use Rattle.au_batches.specs.TextPlaces.{is_text_at, row_kinds};
+
+use au_blocks::{Block, Blocks, Column, Scalar};
+use au_codes::LongTexts;
+use au_translate::place_value;
+use au_value::{Kind, NoMemory};
+
+/// Adds the long texts in these places of the encoded rows of some blocks of a table of these columns. A book that is made
+/// of them knows these rows.
+pub fn add_texts(
+    texts: &mut LongTexts,
+    columns: &[Column],
+    blocks: &Blocks<'_>,
+    places: &[usize],
+) -> Result<(), NoMemory>
+    requires { IsBlockTable (table columns.now blocks.now) }
+    ensures { OnOk result (texts.new ≡ with_rows texts.old (block_rows places.now blocks.now)) }
+{
+    for at in 0..blocks.len() {
+        add_block(texts, columns, &blocks.get(at), places)?;
+    }
+    Ok(())
+}
+
+// Those of one block.
+fn add_block(
+    texts: &mut LongTexts,
+    columns: &[Column],
+    block: &Block<'_>,
+    places: &[usize],
+) -> Result<(), NoMemory>
+    requires fits { (ks : List Kind) × IsTrue (list_all (λ a. fits_kinds ks a.cells) block.now.alternatives) }
+    requires kinds { HaveKinds (row_kinds columns.now) (encode (bounded_blocks (block.now ∷ []))) }
+    ensures { OnOk result (texts.new ≡ with_rows texts.old (block_rows places.now (block.now ∷ []))) }
+{
+    for place in places {
+        add_place(texts, columns, block, *place)?;
+    }
+    Ok(())
+}
+
+// That in one place. Where no text can stand nothing is read.
+fn add_place(
+    texts: &mut LongTexts,
+    columns: &[Column],
+    block: &Block<'_>,
+    place: usize,
+) -> Result<(), NoMemory>
+    requires fits { (ks : List Kind) × IsTrue (list_all (λ a. fits_kinds ks a.cells) block.now.alternatives) }
+    requires kinds { HaveKinds (row_kinds columns.now) (encode (bounded_blocks (block.now ∷ []))) }
+    ensures { OnOk result (texts.new ≡ with_row texts.old (in_place place (block.now ∷ []))) }
+{
+    if is_text(columns, place) {
+        add_value(texts, place_value(block, place))
+    } else {
+        Ok(())
+    }
+}
+
+// Whether texts stand in a place.
+fn is_text(columns: &[Column], place: usize) -> bool
+    ensures { result ≡ is_text_at (column_kinds (table columns.now [])) (place / 3) }
+{
+    let at = place / 3;
+    if at < columns.len() {
+        is_text_kind(columns[at].kind)
+    } else {
+        false
+    }
+}
+
+// Whether a column of this kind has texts.
+fn is_text_kind(kind: Kind) -> bool
+    ensures { result ≡ kind_eq Kind.Text (data_kind kind) }
+{
+    match kind {
+        Kind::Text => true,
+        _ => false,
+    }
+}
+
+// The text of a value, if there is one, and it is long.
+fn add_value(texts: &mut LongTexts, value: Option<Scalar<'_>>) -> Result<(), NoMemory>
+    ensures { OnOk result (texts.new ≡ with_row texts.old (lent_values value.entry)) }
+{
+    match value {
+        Some(Scalar::Text(word)) => texts.add_text(word),
+        _ => Ok(()),
+    }
+}
