@@ -3,5 +3,5 @@ mod Held
 mod Listed
 mod Made
 mod Places
-mod Rows
+pub mod Rows
 mod Values

@@ -25,6 +25,7 @@ mod evaluation;
 mod narrow;
 mod operand;
 mod operation;
+mod reading;
 mod rowwise;
 mod step;
 mod wide;

@@ -1,0 +1,8 @@
+mod CellKeys
+mod KeyRows
+mod KeySets
+mod MergeLaws
+mod PutLaws
+mod TableLaws
+mod TableShapes
+mod Terms

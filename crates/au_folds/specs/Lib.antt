@@ -1,0 +1,10 @@
+-- The definitions, in the order in which they are to be read.
+pub mod Puts
+pub mod Kept
+pub mod Places
+pub mod Tables
+pub mod Merged
+pub mod Keyed
+pub mod Held
+pub mod Grouped
+pub mod Laws
