@@ -1,5 +1,5 @@
 -- Where no text stands, none is added.
-use Rattle.std.specs.Prelude.{◌≡◌, ◌<◌, ◌≤◌, ◌+◌, ◌*◌, ◌/◌, ◌%◌, ℕ, zero, suc, true, false, List, [], ◌∷◌, ◌++◌, length, map, get_or}
+use Rattle.std.specs.Prelude.{◌≡◌, ◌<◌, ◌≤◌, ◌+◌, ◌*◌, ◌/◌, ◌%◌, ℕ, zero, suc, true, false, List, [], ◌∷◌, length, map, get_or}
 use Rattle.std.proofs.Common.{refl, sym, ap, ◌∙◌, arith}
 use Rattle.au_value.specs.declared.kinds.Kind.{Kind}
 use Rattle.au_value.specs.declared.kinds.Kind.TheVariants as kind
@@ -11,7 +11,7 @@ use Rattle.au_blocks.specs.Tables.{column_kinds, table}
 use Rattle.au_algebra.specs.Lists.{value_at}
 use Rattle.au_algebra.specs.Ordinary.{Rows}
 use Rattle.au_plain.specs.PlanKinds.{HaveKinds}
-use Rattle.au_encode.specs.Encode.{encoded_kinds, triple_kinds}
+use Rattle.au_encode.specs.Encode.{encoded_kinds}
 use Rattle.au_codes.specs.Books.{Book}
 use Rattle.au_codes.specs.Gathering.{with_row, with_value}
 use Rattle.au_batches.specs.TextPlaces.{is_text_at}

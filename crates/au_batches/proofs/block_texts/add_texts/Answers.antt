@@ -1,5 +1,5 @@
 -- The blocks fit the columns' kinds, and the texts of one more are added.
-use Rattle.std.proofs.Common.{◌≡◌, ◌∙◌, ◌+◌, ◌++◌, ◌∷◌, [], ap, drop, map, refl, subst, sym}
+use Rattle.std.proofs.Common.{◌≡◌, ◌∙◌, ◌+◌, ◌∷◌, [], ap, drop, map, refl, subst, sym}
 use Rattle.std.specs.List.{list_all}
 use Rattle.au_value.specs.Order.{kind_of}
 use Rattle.au_blocks.specs.Blocks.{Candidate, Choices}

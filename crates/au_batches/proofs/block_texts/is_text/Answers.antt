@@ -1,5 +1,5 @@
 -- The kind is that of the place's column, and behind the columns stand counts.
-use Rattle.std.proofs.Common.{◌≡◌, ◌<◌, ◌≤◌, ◌/◌, ◌∙◌, arith, length}
+use Rattle.std.proofs.Common.{◌<◌, ◌≤◌, ◌/◌, ◌∙◌, arith, length}
 use Rattle.au_batches.proofs.TextPlaces.{past_columns, text_column}
 use Rattle.au_batches.proofs.block_texts.is_text.Goals as goal
 
