@@ -24,6 +24,7 @@ use Rattle.au_blocks.specs.declared.column.Column.{Column}
 use Rattle.au_translate.specs.Headline.{HoldsInEveryWorld}
 use Rattle.au_translate.specs.Translate.{bounded_table}
 use Rattle.au_translate.proofs.BoundedAnswer.{bounded_answer_holds}
+use Rattle.au_program.proofs.RelationColumns.{have_columns}
 use Rattle.au_engine.specs.Answers.{combined_normal_fits}
 use Rattle.au_engine.proofs.TableRelations.{are_relations}
 
