@@ -18,7 +18,7 @@
 //! let row = decode_row(alloc, &book, &kinds, &cells)?; // the first row again
 //! ```
 //!
-//! It belongs to docs/ARCHITECTURE.md. No command uses it yet.
+//! It belongs to docs/ARCHITECTURE.md.
 #![tactic(auto)]
 
 mod book;

@@ -1,7 +1,11 @@
+mod Chains
 mod Gathered
 mod Held
+mod Joined
 mod Listed
 mod Made
+mod Paired
+mod Parts
 mod Places
 pub mod Rows
 mod Values

@@ -109,7 +109,7 @@ module _ (n : ℕ) (cs : List (List ℤ)) where
   pub shared_column : (p : ℕ) → rows_of n (cs ++ column_at p ∷ []) ≡ map (cells_extended (term.Column p)) (rows_of n cs)
   shared_column p = shared_from p (range_with_len 0 n)
 
-gathered_row : (ps : List ℕ) (i : ℕ) → i < length ps → (cs : List (List ℤ)) → row_at (map (λ c. map (number_at c) ps) cs) i ≡ row_at cs (get_or ps i 0)
+pub gathered_row : (ps : List ℕ) (i : ℕ) → i < length ps → (cs : List (List ℤ)) → row_at (map (λ c. map (number_at c) ps) cs) i ≡ row_at cs (get_or ps i 0)
 gathered_row ps i below [] = refl
 gathered_row ps i below (c ∷ cs) = λ j. get_or-map (number_at c) ps i 0 (pos 0) below j ∷ gathered_row ps i below cs j
 

@@ -1,6 +1,6 @@
 -- Batches: rows of cells that lie in columns, from the left. Each column has one number for each row.
-use Rattle.std.specs.Prelude.{◌≡◌, ◌<◌, ◌+◌, ℕ, Bool, List, [], ◌∷◌, ◌++◌, length, map, get_or, ℤ, if◌then◌else◌}
-use Rattle.std.specs.List.{range_with_len}
+use Rattle.std.specs.Prelude.{◌≡◌, ◌<◌, ◌+◌, ℕ, zero, suc, Bool, List, [], ◌∷◌, ◌++◌, length, map, get_or, ℤ, if◌then◌else◌}
+use Rattle.std.specs.List.{AllByRecursion, range_with_len}
 use Rattle.au_codes.specs.Codes.{Cells, CellRows}
 use Rattle.au_codes.specs.CellMeaning.{truth}
 use Rattle.au_columns.specs.Steps.{number_at}
@@ -37,3 +37,24 @@ places_where a (z ∷ zs) = if truth z then a ∷ places_where (a + 1) zs else p
 -- 1 for true, and 0 for false, as a count
 abbrev pub one_if_true : Bool → ℕ
 one_if_true b = if b then 1 else 0
+
+-- the rows of some places
+abbrev pub rows_in : CellRows → List ℕ → CellRows
+rows_in rows places = map (λ p. get_or rows p []) places
+
+-- rows, each followed by the row of the other list that stands at its place
+abbrev pub rows_beside : CellRows → CellRows → CellRows
+rows_beside [] bs = []
+rows_beside (a ∷ rows) [] = []
+rows_beside (a ∷ rows) (b ∷ bs) = (a ++ b) ∷ rows_beside rows bs
+
+-- each row of both lists has as many cells
+abbrev pub AreAlike : CellRows → CellRows → Type 0
+AreAlike xs ys = (w : ℕ) × AllByRecursion (λ row. length row ≡ w) (xs ++ ys)
+
+-- columns, of which the first n have the numbers of the other at their place behind their own
+abbrev pub joined : ℕ → List (List ℤ) → List (List ℤ) → List (List ℤ)
+joined zero cs ds = cs
+joined (suc n) [] ds = []
+joined (suc n) (c ∷ cs) [] = c ∷ cs
+joined (suc n) (c ∷ cs) (d ∷ ds) = (c ++ d) ∷ joined n cs ds

@@ -1,5 +1,5 @@
 //! Columns of whole numbers, in 64 bits as long as they fit.
-ghost use Rattle.std.specs.Prelude.{◌≡◌, ◌∷◌, ◌++◌, [], IfOk, OnOk, OnErr, length, map, replicate};
+ghost use Rattle.std.specs.Prelude.{◌≡◌, ◌≤◌, ◌∷◌, ◌++◌, [], IfOk, OnOk, OnErr, length, map, replicate, slice_range};
 ghost use Rattle.au_columns.specs.Steps.{AllFit, AreBelow, number_at};
 
 use crate::wide::widen;
@@ -116,6 +116,23 @@ impl Column {
         match &self.numbers {
             Numbers::Narrow(numbers) => Ok(Column::narrow(Vec::from_slice(alloc, numbers)?)),
             Numbers::Wide(numbers) => Ok(Column::wide(Vec::from_slice(alloc, numbers)?)),
+        }
+    }
+
+    // The numbers from one place to before another.
+    pub(crate) fn part(&self, alloc: Global, first: usize, end: usize) -> Result<Column, NoMemory>
+        requires { (first ≤ end) × (end ≤ length self.now) }
+        ensures { IfOk result (λ c. c ≡ slice_range self.now first end) }
+    {
+        match &self.numbers {
+            Numbers::Narrow(numbers) => {
+                let part = Vec::from_slice(alloc, &numbers[first..end])?;
+                Ok(Column::narrow(part))
+            }
+            Numbers::Wide(numbers) => {
+                let part = Vec::from_slice(alloc, &numbers[first..end])?;
+                Ok(Column::wide(part))
+            }
         }
     }
 

@@ -1,5 +1,5 @@
 -- Keys of a set, in whichever form, by their cells: where one stands, and what the set is with one more.
-use Rattle.std.specs.Prelude.{◌≡◌, ◌+◌, ◌<◌, ℕ, zero, suc, Bool, true, false, cond, not, ◌&&◌, ◌||◌, List, [], ◌∷◌, ◌++◌, length, map, nat_lt, get_or, position, ℤ, Option, None, Some, unwrap_or}
+use Rattle.std.specs.Prelude.{◌≡◌, ◌+◌, ◌<◌, ℕ, zero, suc, Bool, true, false, cond, not, ◌&&◌, ◌||◌, List, [], ◌∷◌, ◌++◌, length, map, nat_lt, get_or, position, ℤ, Option, None, Some, is_some, unwrap_or}
 use Rattle.std.specs.List.{AllByRecursion, IsDistinct, list_any, position_or_len}
 use Rattle.std.specs.Ordering.{int_eq}
 use Rattle.std.proofs.Common.{refl, sym, ◌∙◌, ap, subst, arith}
@@ -8,6 +8,7 @@ use Rattle.std.proofs.lemmas.List.{map-append}
 use Rattle.indexmap.specs.IndexSet.{insert_key}
 use Rattle.au_codes.specs.Codes.{Cells}
 use Rattle.au_codes.specs.CellMeaning.{same_cells}
+use Rattle.au_folds.specs.Known.{Finds}
 use Rattle.au_folds.specs.Places.{place_of, seen_with}
 use Rattle.au_folds.proofs.CellKeys.{itself, same, turned}
 
@@ -42,6 +43,11 @@ module _ {K : Type 0} (cells : K → Cells) where
     found ks place seen at =
         let first = position_or_len test ks in
         (sym (seen ∙ any_is ks), chosen (nat_lt first (length ks)) first place at ∙ place_is ks)
+
+    -- what a search for the key finds
+    pub finds : (ks : List K) (result : Option ℕ) → result ≡ position test ks → is_some result ≡ list_any test ks → Finds (map cells ks) q result
+    finds ks None at seen = sym (any_is ks) ∙ sym seen
+    finds ks (Some place) at seen = found ks place seen at
 
   module _ (eq : K → K → Bool) (agrees : (x y : K) → eq x y ≡ same_cells (cells x) (cells y)) where
     -- one key more

@@ -1,8 +1,8 @@
-mod CellKeys
+pub mod CellKeys
 mod KeyRows
 mod KeySets
-mod MergeLaws
-mod PutLaws
-mod TableLaws
+pub mod MergeLaws
+pub mod PutLaws
+pub mod TableLaws
 mod TableShapes
 mod Terms

@@ -60,7 +60,7 @@ small n h = le-leb n (2 ^ 127 - 1) (let e : n ≤ 2 ^ 127 - 1 = omega (arith, h)
 within : (n : ℕ) → is_i128 (pos n) ≡ true → n ≤ 2 ^ 127 - 1
 within n h = leb-true n (2 ^ 127 - 1) h
 
-fewer : (m n : ℕ) → m ≤ n → is_i128 (pos n) ≡ true → is_i128 (pos m) ≡ true
+pub fewer : (m n : ℕ) → m ≤ n → is_i128 (pos n) ≡ true → is_i128 (pos m) ≡ true
 fewer m n below h = let wide : n ≤ 2 ^ 127 - 1 = within n h in small m (omega (arith, wide, below))
 
 large : (n : ℕ) → 2 ^ 127 ≤ n → is_i128 (pos n) ≡ true → ⊥
@@ -73,7 +73,7 @@ module _ {A : Type 0} (first : A → Sum) (more : Sum → A → Sum) (grows : (s
   fewer_terms (s ∷ ss) zero x h = let p = and_parts _ _ h in and_from _ _ (fewer s.magnitude (more s x).magnitude (grows s x) p.0) p.1
   fewer_terms (s ∷ ss) (suc place) x h = let p = and_parts _ _ h in and_from _ _ p.0 (fewer_terms ss place x p.1)
 
-  fewer_all : (ss : List Sum) (places : List ℕ) (xs : List A) → fit (magnitudes_of (put_all first more ss places xs)) ≡ true → fit (magnitudes_of ss) ≡ true
+  pub fewer_all : (ss : List Sum) (places : List ℕ) (xs : List A) → fit (magnitudes_of (put_all first more ss places xs)) ≡ true → fit (magnitudes_of ss) ≡ true
   fewer_all ss [] xs h = h
   fewer_all ss (place ∷ places) [] h = h
   fewer_all ss (place ∷ places) (x ∷ xs) h = fewer_terms ss place x (fewer_all (put_at first more ss place x) places xs h)

@@ -35,7 +35,7 @@ kept_first p ps row rows (Lowest c zs ∷ kept) = ap (λ ks. kept_with (p ∷ ps
 kept_first p ps row rows (Highest c zs ∷ kept) = ap (λ ks. kept_with (p ∷ ps) (row ∷ rows) (Highest c zs) ∷ ks) (kept_first p ps row rows kept)
 
 -- no rows, and one row before others
-grown_none : (t : Table) → grown t [] ≡ t
+pub grown_none : (t : Table) → grown t [] ≡ t
 grown_none t = ap (table_with t.keys t.seen) (kept_none t.kept)
 
 grown_first : (t : Table) (row : Cells) (rows : CellRows) → grown (grown t (row ∷ [])) rows ≡ grown t (row ∷ rows)

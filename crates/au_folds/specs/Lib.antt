@@ -5,6 +5,7 @@ pub mod Places
 pub mod Tables
 pub mod Merged
 pub mod Keyed
+pub mod Known
 pub mod Held
 pub mod Grouped
 pub mod Laws

@@ -4,7 +4,7 @@
 //! a list by the groups' places: sums with their magnitudes, or the best numbers. A batch is added by the place of each
 //! row's group, and then by one loop for each aggregate. No row is kept, and no call takes memory for each row but the places
 //! of one batch and its columns. Groups of rows that stand behind others are merged with theirs, so that workers can share
-//! the rows. [`grouped`] groups the rows of one batch.
+//! the rows. [`grouped`] groups the rows of one batch. [`Keys`] are the keys of one batch alone, with the place of each one.
 //!
 //! ```text
 //! let mut groups = Groups::new(alloc, &[0], &[PAgg::Sum(1), PAgg::Max(2)])?;
@@ -14,19 +14,21 @@
 //! let same = grouped(alloc, &[0], &[PAgg::Sum(1), PAgg::Max(2)], &both)?;
 //! ```
 //!
-//! It belongs to docs/ARCHITECTURE.md. No command uses it yet.
+//! It belongs to docs/ARCHITECTURE.md.
 #![tactic(auto)]
 
 mod fold;
 mod groups;
 mod joining;
 mod keyed;
+mod keys;
 mod numbers;
 mod results;
 mod seen;
 mod theorems;
 
 pub use groups::{Groups, grouped};
+pub use keys::Keys;
 pub use theorems::{
     rows_come_in_parts, tables_are_groups, tables_come_in_parts, tables_stay_alike,
 };
