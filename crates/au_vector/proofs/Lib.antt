@@ -1,0 +1,10 @@
+mod CellWidths
+mod GroupParts
+mod Openings
+mod PieceRows
+mod Ranges
+mod RowWise
+mod SinkLaws
+mod StepLaws
+mod TypedWidths
+mod WrittenCells
