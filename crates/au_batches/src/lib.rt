@@ -15,7 +15,7 @@
 //! // the last three lines are `chain_over(alloc, &book, &plan, table.columns(), &slice, &places, &kinds, width)?`
 //! ```
 //!
-//! It belongs to docs/ARCHITECTURE.md. No command uses it yet.
+//! It belongs to docs/ARCHITECTURE.md.
 #![tactic(auto)]
 
 mod block_texts;

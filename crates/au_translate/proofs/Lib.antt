@@ -10,6 +10,5 @@ pub mod BlockRelation
 pub mod BoundedAnswer
 pub mod ShownCells
 mod Misread
-mod BlockPieces
 mod PlaceValues
 mod FitNumbers

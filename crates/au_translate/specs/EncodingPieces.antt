@@ -20,12 +20,3 @@ pub kept_apart : (places : List ℕ) (xs ys : List Choices)
     → map (kept places) (encode (bounded_blocks (xs ++ ys))) ≡ map (kept places) (encode (bounded_blocks xs)) ++ map (kept places) (encode (bounded_blocks ys))
 kept_apart places xs ys =
     ap (map (kept places)) (encoded_apart xs ys) ∙ map-append (kept places) (encode (bounded_blocks xs)) (encode (bounded_blocks ys))
-
--- where the blocks are those of some extents
-module _ {E : Type 0} (blocks : List E → List Choices) (apart : (xs ys : List E) → blocks (xs ++ ys) ≡ blocks xs ++ blocks ys) where
-  pub encoded_extents : (xs ys : List E) → encode (bounded_blocks (blocks (xs ++ ys))) ≡ encode (bounded_blocks (blocks xs)) ++ encode (bounded_blocks (blocks ys))
-  encoded_extents xs ys = ap (λ bs. encode (bounded_blocks bs)) (apart xs ys) ∙ encoded_apart (blocks xs) (blocks ys)
-
-  pub kept_extents : (places : List ℕ) (xs ys : List E)
-      → map (kept places) (encode (bounded_blocks (blocks (xs ++ ys)))) ≡ map (kept places) (encode (bounded_blocks (blocks xs))) ++ map (kept places) (encode (bounded_blocks (blocks ys)))
-  kept_extents places xs ys = ap (λ bs. map (kept places) (encode (bounded_blocks bs))) (apart xs ys) ∙ kept_apart places (blocks xs) (blocks ys)

@@ -168,6 +168,13 @@ fn least_copies(alternatives: &Candidates<'_>) -> u64
     least
 }
 
+/// The most copies over the choices that a block offers.
+pub(crate) fn most_count(block: &Block<'_>) -> Count
+    ensures { result ≡ (triple_of block.now).most }
+{
+    count(most_copies(&block.alternatives()))
+}
+
 // The greatest number of copies of some alternatives.
 fn most_copies(alternatives: &Candidates<'_>) -> u64
     ensures { result ≡ greatest_number (map (λ a. a.copies.most) alternatives.now) }

@@ -33,8 +33,8 @@ pub fn encoded(alloc: Global, table: &Table) -> Result<Vec<PRow>, NoMemory>
     encoded_blocks(alloc, table.columns(), &table.blocks())
 }
 
-/// The same of some blocks of a table of these columns.
-pub fn encoded_blocks(
+// The same of some blocks of a table of these columns.
+fn encoded_blocks(
     alloc: Global,
     columns: &[Column],
     blocks: &Blocks<'_>,

@@ -8,9 +8,9 @@ ghost use Rattle.au_algebra.specs.Entries.{entry};
 ghost use Rattle.au_algebra.specs.Lists.{value_at};
 ghost use Rattle.au_encode.specs.Encode.{encode, encode_cells, encode_counts, encode_row};
 ghost use Rattle.au_translate.specs.LentPlaces.{lent_values};
-ghost use Rattle.au_translate.specs.Translate.{bounded_blocks, candidate_cell, marked_or_first as marked_or_first_of, ranges_of, span_in};
+ghost use Rattle.au_translate.specs.Translate.{bounded_blocks, candidate_cell, marked_or_first as marked_or_first_of, ranges_of, span_in, triple_of};
 
-use crate::bounds::{greatest_end, guess, least_end, marked_or_first, triple};
+use crate::bounds::{greatest_end, guess, least_end, marked_or_first, most_count, triple};
 use au_annot::{Annot, Count, Triple};
 use au_blocks::{Alternative, Block, Blocks, Scalar};
 
@@ -30,11 +30,7 @@ fn rows_in(block: &Block<'_>) -> usize
     ensures rows { result ≡ length (bounded_blocks (block.now ∷ [])) }
     ensures few { result ≤ 1 }
 {
-    if triple(block).most().get() == 0 {
-        0
-    } else {
-        1
-    }
+    if most_count(block).get() == 0 { 0 } else { 1 }
 }
 
 /// The value in a place of a block's encoded row: three for each column, then the counts, and 0 past them. A block without
@@ -43,32 +39,26 @@ pub fn place_value<'a>(block: &Block<'a>, place: usize) -> Option<Scalar<'a>>
     requires { (ks : List Kind) × IsTrue (list_all (λ a. fits_kinds ks a.cells) block.now.alternatives) }
     ensures { lent_values result ≡ map (λ row. value_at row place) (encode (bounded_blocks (block.now ∷ []))) }
 {
-    let triple = triple(block);
-    if triple.most().get() == 0 {
+    if most_count(block).get() == 0 {
         return None;
     }
     let shown = marked_or_first(block);
-    Some(value_in(block, &shown, triple, place))
+    Some(value_in(block, &shown, place))
 }
 
-/// The value in a place of the encoded row of a block's ranges with a triple, of which this alternative is shown.
-pub(crate) fn value_in<'a>(
-    block: &Block<'a>,
-    shown: &Alternative<'a>,
-    triple: Triple,
-    place: usize,
-) -> Scalar<'a>
+// The value in a place of the encoded row of a block's ranges with its triple, of which this alternative is shown.
+fn value_in<'a>(block: &Block<'a>, shown: &Alternative<'a>, place: usize) -> Scalar<'a>
     requires kinds { (ks : List Kind) × IsTrue (list_all (λ a. fits_kinds ks a.cells) block.now.alternatives) }
     requires shown { shown.now ≡ marked_or_first_of block.now }
     requires place { slice_get block.now.alternatives (unwrap_or block.now.guess 0) ≡ Some (marked_or_first_of block.now) }
-    ensures { scalar_value result ≡ value_at (encode_row (entry (ranges_of block.now) triple)) place }
+    ensures { scalar_value result ≡ value_at (encode_row (entry (ranges_of block.now) (triple_of block.now))) place }
 {
     let at = place / 3;
     let width = shown.width();
     if at < width {
         return part(block, at, shown, place % 3);
     }
-    count_at(triple, place - 3 * width)
+    count_at(triple(block), place - 3 * width)
 }
 
 // The least value, the guess or the greatest value in a column of a block, of which this alternative is shown.

@@ -1,11 +1,11 @@
 //! Block tables as relations: with bounds over all worlds, and as they are in the guess world.
 //!
-//! [`bounded`] makes a row of ranges with a triple of each block, and [`encoded`] the same rows as plain rows, which
-//! [`encoded_by`] makes by several workers; [`bounded_rows`] and [`encoded_blocks`] make those of some of a table's blocks,
-//! and [`encoded_places_by`] only the values in some places of the plain rows, of which [`place_value`] lends each; [`read_numbers`] and
-//! [`read_cells`] tell that the numbers of rows which are not made lie in the range, too. [`guessed`] gives the rows of the guess world, each with its number of copies. [`bounded_answer_holds`] is the law on
-//! whole queries over such tables: the bounded answer bounds the ordinary answer in every world, and its guesses are the
-//! ordinary answer in the guess world.
+//! [`bounded`] makes a row of ranges with a triple of each block, [`bounded_rows`] those of some of a table's blocks, and
+//! [`encoded`] the same rows as plain rows. [`place_value`] lends the value in a place of a block's plain row, of which none
+//! is made; [`read_numbers`] and [`read_cells`] tell that the numbers of such rows lie in the range, too. [`guessed`] gives the
+//! rows of the guess world, each with its number of copies. [`bounded_answer_holds`] is the law on whole queries over such
+//! tables: the bounded answer bounds the ordinary answer in every world, and its guesses are the ordinary answer in the guess
+//! world.
 //!
 //! ```text
 //! let rows = bounded(alloc, &table)?;
@@ -17,21 +17,16 @@
 #![tactic(auto)]
 
 mod bounds;
-mod encoding_pieces;
 mod encodings;
 mod guesses;
 mod held_numbers;
-mod kept_pieces;
-mod kept_places;
 mod lent_places;
 mod relations;
 mod theorems;
 
-pub use encoding_pieces::encoded_by;
-pub use encodings::{encoded, encoded_blocks};
+pub use encodings::encoded;
 pub use guesses::guessed;
 pub use held_numbers::{read_cells, read_numbers};
-pub use kept_pieces::encoded_places_by;
 pub use lent_places::{place_value, row_count};
 pub use relations::{bounded, bounded_rows};
 pub use theorems::bounded_answer_holds;
