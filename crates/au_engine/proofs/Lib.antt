@@ -1,5 +1,4 @@
 mod AskedAnswers
-mod DecodedParts
 pub mod EncodedPlans
 mod GuessRows
 mod GuessSizes
@@ -16,15 +15,18 @@ pub mod PairTables
 mod PlainRuns
 mod PlanRuns
 mod PositiveTrees
+mod ReadPlaces
 mod ReadCauses
 mod RunRows
 mod SharedRows
 mod Shown
 mod ShownPrograms
+mod SliceCodes
 mod SliceRows
 mod SliceRuns
 mod SlicedPrograms
 mod SourceSizes
+mod StableSorts
 mod AnswerRows
 mod TableRelations
 mod RecordTexts

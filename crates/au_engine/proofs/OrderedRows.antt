@@ -21,7 +21,7 @@ use Rattle.au_algebra.proofs.Copies.{copies-cons, same_row_is}
 use Rattle.au_algebra.proofs.Occurring.{SameCopies, first_occurs, occurring}
 use Rattle.au_algebra.proofs.Sorting.{same_sorted}
 use Rattle.au_print.specs.GuessTexts.{in_order, values_at_most}
-use Rattle.au_exec.proofs.RangeOrder as range_order
+use Rattle.au_engine.proofs.StableSorts as stable_sort
 
 -- which of two rows is before the other
 abbrev pub before : List Value → List Value → Bool
@@ -40,12 +40,12 @@ turned Greater = refl
 test_is : (a b : List Value) → values_at_most a b ≡ not (before b a)
 test_is a b = turned (slice_cmp order a b) ∙ ap (λ o. not (is_lt o)) (sym ((lists_total order_total).antisymm b a))
 
-order_is : (rows : Rows) → sorted_by (range_order.not_after before) rows ≡ in_order rows
+order_is : (rows : Rows) → sorted_by (stable_sort.not_after before) rows ≡ in_order rows
 order_is rows = λ i. sorted_by (λ a b. sym (test_is a b) i) rows
 
 -- it rises
-rising : (rows : Rows) → range_order.Up before (in_order rows)
-rising rows = subst (range_order.Up before) (order_is rows) (range_order.up_sorted before ranks rows)
+rising : (rows : Rows) → stable_sort.Up before (in_order rows)
+rising rows = subst (stable_sort.Up before) (order_is rows) (stable_sort.up_sorted before ranks rows)
 
 -- and has the same rows
 pub same_in_order : (rows : Rows) → SameCopies (in_order rows) rows
@@ -65,7 +65,7 @@ one_row x y h g =
     (lists_ties order (λ a b. refl) x y ∙ level (slice_cmp order x y) h (ap is_lt (sym ((lists_total order_total).antisymm y x)) ∙ g))
 
 -- what stands in a list is not before one that stands below the list
-not_before : (y : List Value) (ys : Rows) → range_order.Above before y ys → AllByRecursion (λ w. before w y ≡ false) ys
+not_before : (y : List Value) (ys : Rows) → stable_sort.Above before y ys → AllByRecursion (λ w. before w y ≡ false) ys
 not_before y [] h = tt
 not_before y (z ∷ ys) h = (h.0, not_before y ys h.1)
 
@@ -73,10 +73,10 @@ itself : (y : List Value) → before y y ≡ false
 itself y = ap is_lt (tied_itself (lists_total order_total) y)
 
 module _ (x y : List Value) (xs ys : Rows) (same : SameCopies (x ∷ xs) (y ∷ ys)) where
-  first_at_least : range_order.Above before y ys → before x y ≡ false
+  first_at_least : stable_sort.Above before y ys → before x y ≡ false
   first_at_least h = occurring (λ w. before w y ≡ false) x (y ∷ ys) (itself y, not_before y ys h) (subst (λ n. 0 < n) (same x) (first_occurs x xs))
 
-pub unique : (xs ys : Rows) → range_order.Up before xs → range_order.Up before ys → SameCopies xs ys → xs ≡ ys
+pub unique : (xs ys : Rows) → stable_sort.Up before xs → stable_sort.Up before ys → SameCopies xs ys → xs ≡ ys
 unique [] [] u v same = refl
 unique [] (y ∷ ys) u v same = let never : ⊥ = omega (arith, same y, first_occurs y ys) in absurd never
 unique (x ∷ xs) [] u v same = let never : ⊥ = omega (arith, same x, first_occurs x xs) in absurd never
@@ -98,11 +98,11 @@ Row = Vec Value Global
 pub row_ranks : IsStrictWeakOrder (λ (a b : Row). before a.items b.items)
 row_ranks = ranks_by (lists_total order_total) (λ row. row.items)
 
-above_read : (x : Row) (xs : List Row) → range_order.Above (λ (a b : Row). before a.items b.items) x xs → range_order.Above before x.items (map (λ row. row.items) xs)
+above_read : (x : Row) (xs : List Row) → stable_sort.Above (λ (a b : Row). before a.items b.items) x xs → stable_sort.Above before x.items (map (λ row. row.items) xs)
 above_read x [] h = tt
 above_read x (y ∷ xs) h = (h.0, above_read x xs h.1)
 
-up_read : (xs : List Row) → range_order.Up (λ (a b : Row). before a.items b.items) xs → range_order.Up before (map (λ row. row.items) xs)
+up_read : (xs : List Row) → stable_sort.Up (λ (a b : Row). before a.items b.items) xs → stable_sort.Up before (map (λ row. row.items) xs)
 up_read [] h = tt
 up_read (x ∷ xs) h = (above_read x xs h.0, up_read xs h.1)
 
@@ -112,7 +112,7 @@ pub sorted_rows :
     → IsPermutation rows sorted → map (λ row. row.items) sorted ≡ in_order (map (λ row. row.items) rows)
 sorted_rows rows sorted s stable permuted =
     let lt = λ (a b : Row). before a.items b.items in
-    let up = subst (range_order.Up lt) (sym (range_order.sorted_is lt row_ranks rows sorted s stable)) (range_order.up_sorted lt row_ranks rows) in
+    let up = subst (stable_sort.Up lt) (sym (stable_sort.sorted_is lt row_ranks rows sorted s stable)) (stable_sort.up_sorted lt row_ranks rows) in
     let given = map (λ (row : Row). row.items) rows in
     let made = map (λ (row : Row). row.items) sorted in
     let same : SameCopies made given = λ v. sum_by-IsPermutation (λ row. cond (same_row v row) 1 0) given made (IsPermutation-map (λ (row : Row). row.items) rows sorted permuted) in

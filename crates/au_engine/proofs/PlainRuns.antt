@@ -18,7 +18,7 @@ use Rattle.au_physical.specs.PhysicalNumbers.{physical_numbers}
 use Rattle.au_physical.specs.Physicals.{PhysicalTree}
 use Rattle.au_plan.specs.Implements.{Implements}
 use Rattle.au_plan.proofs.UpToOrder.{all_same}
-use Rattle.au_exec.proofs.TypedPhysical.{sound}
+use Rattle.au_exec.proofs.PlanKinds.{all_known}
 use Rattle.au_print.specs.GuessTexts.{in_order}
 use Rattle.au_engine.specs.Answers.{Named, blocks_of, guess_tables}
 use Rattle.au_engine.specs.Exchange.{plain_answer, plain_fits, plain_kinds, value_kinds}
@@ -51,7 +51,7 @@ module _
     answer_kinds found made from sorted =
         subst (HaveKinds ks) (sym (sorted ∙ ap in_order from))
         (all_same (λ row. map kind_of row ≡ ks) (in_order (physical_rows q held)) (physical_rows q held) (same_in_order (physical_rows q held))
-        (sound (value_kinds ts) held have_kinds q ks (stands.typed (value_kinds ts) ks typed)).0)
+        (all_known (value_kinds ts) held have_kinds q ks (stands.typed (value_kinds ts) ks typed)).kinds)
 
     -- the run leaves the range only where a number of the plan does
     pub leaves_range : FitTables held → fit (physical_numbers q held) ≡ false → plain_fits ts p ≡ false

@@ -3,27 +3,29 @@ use Rattle.std.specs.Prelude.{◌≡◌, ℕ, false, IsTrue, List, [], ◌∷◌
 use Rattle.std.proofs.Common.{refl, sym, ◌∙◌, ap, subst}
 use Rattle.std.proofs.lemmas.Bool.{false_from_ne_true}
 use Rattle.std.proofs.lemmas.Option.{slice_get-map}
+use Rattle.au_value.specs.declared.kinds.Kind.{Kind}
+use Rattle.au_value.specs.Order.{kind_of}
 use Rattle.au_expr.specs.Figures.{Fit, fit}
 use Rattle.au_expr.proofs.Fits.{fit_both, fit_parts}
 use Rattle.au_algebra.specs.Bounded.{Bounded, normal}
 use Rattle.au_algebra.specs.Fits.{triple_numbers}
 use Rattle.au_algebra.specs.Ordinary.{Rows}
 use Rattle.au_algebra.specs.Trees.{Tree}
-use Rattle.au_algebra.specs.Typing.{IsTyped}
-use Rattle.au_blocks.specs.declared.column.Column.{Column}
+use Rattle.au_algebra.specs.Typing.{IsTyped, kinds_of}
 use Rattle.au_blocks.specs.Tables.{BlockTable, column_kinds}
 use Rattle.au_translate.specs.Translate.{bounded_table}
+use Rattle.au_plain.specs.PlanKinds.{HaveKinds}
 use Rattle.au_plain.specs.Plans.{PlanTree}
 use Rattle.au_physical.specs.PhysicalKinds.{IsPhysicalFor}
 use Rattle.au_physical.specs.PhysicalMeaning.{physical_rows}
 use Rattle.au_physical.specs.PhysicalNumbers.{physical_numbers}
-use Rattle.au_exec.specs.RowWise.{chain_tree}
-use Rattle.au_physical.specs.Physicals.{PhysicalTree, physical_tree}
-use Rattle.au_encode.specs.Encode.{AreEncoded, decode, encode}
+use Rattle.au_physical.specs.Physicals.{PhysicalTree}
+use Rattle.au_plan.proofs.UpToOrder.{all_same}
+use Rattle.au_encode.specs.Encode.{AreEncoded, decode, encode, encoded_kinds}
 use Rattle.au_encode.proofs.Decoded.{rows_back}
+use Rattle.au_encode.proofs.EncodedKinds.{rows_have_kinds}
 use Rattle.au_program.specs.Rules.{grouping_by, pair_numbers, pairs_by, plain_rules, tree_numbers, tree_rows}
 use Rattle.au_program.specs.declared.rules.Rules.{Rules}
-use Rattle.au_program.specs.declared.program.Whole.{Whole}
 use Rattle.au_program.specs.RowQueries.{row_table}
 use Rattle.au_program.specs.Stages.{AddsTree, CanRunPlan, Decodes, FindsRows, LeavesRange}
 use Rattle.au_program.proofs.CompressedPairs.{decodes, found_encoded}
@@ -33,8 +35,7 @@ use Rattle.au_program.proofs.Reordered.{normal_same}
 use Rattle.au_program.proofs.RelationColumns.{have_columns}
 use Rattle.au_program.proofs.StageRuns.{adds_relation, finds, leaves, startable}
 use Rattle.au_engine.specs.Answers.{Named, blocks_of, tree_asked, tree_asked_fits}
-use Rattle.au_engine.specs.SliceWork.{GivesSlice, GivesSlices, IsSlicer, SlicesBy, kept_in}
-use Rattle.au_engine.specs.declared.running.slicing.Slicer.{Slicer}
+use Rattle.au_engine.specs.SliceWork.{GivesSlice}
 use Rattle.au_engine.specs.Slicing.{gathered_numbers, over_one, slice_numbers, slice_rows}
 use Rattle.au_engine.proofs.AskedAnswers.{asked_is, parts_fit}
 use Rattle.au_engine.proofs.SliceRows.{kinds_alone, numbers_alone, rows_alone}
@@ -75,6 +76,15 @@ module _ (q : Tree) (t : BlockTable) (typed : IsTyped (column_kinds t ∷ []) (o
   slice_encoded : AreEncoded c (physical_rows p held)
   slice_encoded = found_encoded s.whole s.plan c (physical_rows p held) can found
 
+  -- its rows have the kinds of the tree's columns
+  slice_kinds : (ks : List Kind) → kinds_of (column_kinds t ∷ []) (over_one q) ≡ Some ks → HaveKinds (encoded_kinds ks) (physical_rows p held)
+  slice_kinds ks e =
+      let rel = slice_rows q t.blocks in
+      let ns = slice_numbers q t.blocks in
+      let a = s.adds ks e in
+      all_same (λ row. map kind_of row ≡ encoded_kinds ks) (physical_rows p held) (encode rel) (found.1 ks rel ns a)
+      (rows_have_kinds ks rel (adds_relation s.whole s.plan c ks rel ns a found.0))
+
   slice_decoded : (rel : Bounded) → rel ≡ decode c (physical_rows p held) → normal rel ≡ normal (slice_rows q t.blocks)
   slice_decoded rel is = slice_found q t typed s.whole s.plan c s.adds rel (decodes s.whole s.plan c (physical_rows p held) rel is found)
 
@@ -96,17 +106,11 @@ module _ (q : Tree) (t : BlockTable) (typed : IsTyped (column_kinds t ∷ []) (o
     pub read_encoded : AreEncoded c worked
     read_encoded = subst (AreEncoded c) (sym whole) (slice_encoded q t typed (rows ∷ []) p c s)
 
+    pub read_kinds : (ks : List Kind) → kinds_of (column_kinds t ∷ []) (over_one q) ≡ Some ks → HaveKinds (encoded_kinds ks) worked
+    read_kinds ks e = subst (HaveKinds (encoded_kinds ks)) (sym whole) (slice_kinds q t typed (rows ∷ []) p c s ks e)
+
     pub read_decoded : (rel : Bounded) → rel ≡ decode c worked → normal rel ≡ normal (slice_rows q t.blocks)
     read_decoded rel decoded = slice_decoded q t typed (rows ∷ []) p c s rel (decoded ∙ ap (decode c) whole)
-
--- a plan that was made ready for the slices of a table gives what it gave
-pub slicer_slices :
-    (q : Tree) (columns : List Column) (w : Whole) (s : Slicer) → IsSlicer w s → GivesSlices q columns (kept_in w.sources) (physical_tree w.plan) w.columns →
-    SlicesBy q columns s
-slicer_slices q columns w s is g =
-    subst (GivesSlices q columns s.kept (chain_tree s.chain)) (sym is.columns)
-    (subst (λ p. GivesSlices q columns s.kept p w.columns) (sym is.plan)
-    (subst (λ places. GivesSlices q columns places (physical_tree w.plan) w.columns) (sym is.kept) g))
 
 -- ---- the answer
 

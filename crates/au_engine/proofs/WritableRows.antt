@@ -161,7 +161,7 @@ triple_long : (ks : List Kind) → length (triple_kinds ks) ≡ 3 * length ks
 triple_long [] = refl
 triple_long (k ∷ ks) = let more = triple_long ks in omega (arith, more)
 
-encoded_long : (ks : List Kind) → length (encoded_kinds ks) ≡ 3 * length ks + 3
+pub encoded_long : (ks : List Kind) → length (encoded_kinds ks) ≡ 3 * length ks + 3
 encoded_long ks = let more = triple_long ks in length-append (triple_kinds ks) (kind.Int ∷ kind.Int ∷ kind.Int ∷ []) ∙ omega (arith, more)
 
 pub kinds_again : (cs : List Column) → map data_kind (encoded_kinds (map (λ c. data_kind c.kind) cs)) ≡ encoded_kinds (map (λ c. data_kind c.kind) cs)

@@ -10,6 +10,7 @@ pub mod Explaining
 -- What the contracts of inner calls and the proofs speak of.
 pub mod CountedTables
 pub mod CountedInputs
+pub mod HeldTables
 pub mod InputRows
 pub mod Finding
 pub mod Slicing

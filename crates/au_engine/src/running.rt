@@ -1,12 +1,13 @@
 //! Programs that are run over the blocks of tables.
 
-pub(crate) mod decoded;
 pub(crate) mod evaluation;
 pub(crate) mod finding;
+pub(crate) mod held;
 pub(crate) mod input;
 pub(crate) mod key_sample;
+pub(crate) mod places;
 pub(crate) mod reads;
-pub(crate) mod runner;
 pub(crate) mod running;
+pub(crate) mod slicer;
 pub(crate) mod slicing;
 pub(crate) mod splitting;

@@ -7,7 +7,7 @@ use Rattle.au_expr.specs.Figures.{fit}
 use Rattle.au_physical.specs.PhysicalNumbers.{physical_numbers}
 use Rattle.au_physical.specs.Physicals.{physical_tree}
 use Rattle.au_physical.specs.declared.physical.Physical.{Physical}
-use Rattle.au_exec.specs.Outcomes.{rows_of}
+use Rattle.au_exec.specs.HeldRows.{rows_of}
 
 abbrev Row : Type 0
 Row = Vec Value Global

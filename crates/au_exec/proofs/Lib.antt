@@ -1,54 +1,12 @@
-pub mod CutRows
-pub mod Lists
-pub mod PartFaults
-pub mod Parts
-pub mod Progress
-pub mod TermKinds
-pub mod GroupSteps
-pub mod AllPairs
-pub mod NearPlaces
-pub mod Members
-pub mod NarrowSteps
-pub mod ChainSteps
-pub mod Overlays
-pub mod ChainPlans
-pub mod Pulling
-pub mod RangeOrder
-pub mod Rises
-pub mod KeyedRows
-pub mod RangeIndex
-pub mod Counted
-pub mod Matches
-pub mod Probing
-pub mod PairSteps
-pub mod PairedSteps
-pub mod PushSteps
-pub mod JoinPulls
-pub mod TypedPhysical
-pub mod Collected
-pub mod Converting
-pub mod CountedScans
-pub mod PickedPlans
-pub mod Filled
-pub mod Openings
-pub mod Advancing
-pub mod OpenedPlans
-pub mod FoldSteps
-pub mod Puts
-pub mod MergePuts
-pub mod Growth
-pub mod TableSteps
-pub mod Updates
-pub mod Merged
-pub mod MergedFits
-pub mod Gathered
-pub mod PieceGroups
-pub mod PieceRows
-pub mod DrawnPieces
-pub mod DrawnPlaces
-pub mod LentPieces
-pub mod Shared
-pub mod RangeJoins
-pub mod PlacesByKey
-pub mod HashJoins
-pub mod Refusals
+mod CodedRows
+mod CodedRuns
+mod DecodedCells
+mod FirstRows
+pub mod PlanKinds
+mod RowKinds
+mod SourceKinds
+mod ValueColumns
+mod ValueKinds
+mod HeldCodes
+mod Advancing
+mod Refusals

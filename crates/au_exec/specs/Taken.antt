@@ -2,7 +2,7 @@
 -- A batch of them has a row, and at most 256.
 use Rattle.std.specs.Prelude.{◌≡◌, ◌<◌, ◌≤◌, List, [], ◌++◌, length, Option, None, Some, Vec, IfSome}
 use Rattle.std.specs.declared.alloc.Global.{Global}
-use Rattle.au_exec.specs.Outcomes.{rows_of}
+use Rattle.au_exec.specs.HeldRows.{rows_of}
 use Rattle.au_algebra.specs.Ordinary.{Rows}
 use Rattle.au_value.specs.declared.value.Value.{Value}
 

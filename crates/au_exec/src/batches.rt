@@ -1,6 +1,5 @@
 //! Plans that are run batch by batch.
 ghost use Rattle.std.specs.Prelude.{◌≡◌, ◌≤◌, ◌++◌, false, true, IfErr, IfOk, IfSome, map};
-ghost use Rattle.std.specs.List.{AllByRecursion};
 ghost use Rattle.au_expr.specs.Figures.{fit};
 ghost use Rattle.au_expr.specs.declared.fault.EvalFault.TheVariants as fault;
 ghost use Rattle.au_physical.specs.PhysicalKinds.{IsPhysicalFor};
@@ -8,17 +7,16 @@ ghost use Rattle.au_physical.specs.PhysicalMeaning.{physical_rows};
 ghost use Rattle.au_physical.specs.PhysicalNumbers.{physical_numbers};
 ghost use Rattle.au_physical.specs.Physicals.{physical_tree};
 ghost use Rattle.au_exec.specs.Advances.{Advances};
-ghost use Rattle.au_exec.specs.Converted.{InParts};
-ghost use Rattle.au_exec.specs.Outcomes.{rows_of};
+ghost use Rattle.au_exec.specs.HeldRows.{rows_of};
 
-use crate::advance::{advance, rest, rest_converted};
-use crate::convert::Convert;
+use crate::advance::{advance, rest};
 use crate::state::State;
 use au_expr::EvalFault;
 use au_par::Gate;
 use au_physical::Physical;
 use au_plain::PRow;
 use au_value::NoMemory;
+use au_vector::Crew;
 use std::alloc::Global;
 use std::marker::Model;
 use std::snapshot::Snapshot;
@@ -27,7 +25,7 @@ use std::thread::Threads;
 /// Rows that a run gives at once: between 1 and 256.
 pub type Batch = Vec<PRow>;
 
-/// A plan that is being run over tables.
+/// A plan that is being run over tables. Its rows are made when the first of them are asked for.
 #[derive(Drop)]
 pub struct Run<G: Gate> {
     alloc: Global,
@@ -48,7 +46,7 @@ impl<G: Gate> Model for Run<G> {
     ghost use Rattle.au_expr.specs.Figures.{fit};
     ghost use Rattle.au_physical.specs.PhysicalNumbers.{physical_numbers};
     ghost use Rattle.au_physical.specs.Physicals.{physical_tree};
-    ghost use Rattle.au_exec.specs.Outcomes.{rows_of};
+    ghost use Rattle.au_exec.specs.HeldRows.{rows_of};
     ghost use Rattle.au_exec.specs.Runs.{state_rows, IsRun};
 
     ghost view = { λ r. record { rows = state_rows r.state; fits = fit (physical_numbers (physical_tree r.plan.value) (map rows_of r.tables.value.items)); refusal = r.refusal } };
@@ -97,39 +95,13 @@ impl<G: Gate + Sync> Run<G> {
         if let Some(fault) = self.refusal {
             return Err(fault);
         }
-        match advance(rt, self.alloc, self.workers, &self.gate, &mut self.state) {
+        let crew = Crew::new(rt, self.workers, self.gate);
+        match advance(&crew, self.alloc, &mut self.state) {
             Ok(batch) => Ok(batch),
             Err(fault) => {
                 self.refusal = Some(fault);
                 Err(fault)
             }
-        }
-    }
-
-    /// All rows that are left, converted part by part as they are made, in the pieces in which the workers make them.
-    pub fn converted<R: Threads + Sync, U: Send + Drop, C: Convert<U> + Sync>(
-        self,
-        rt: &R,
-        convert: &C,
-    ) -> Result<Vec<U>, EvalFault>
-        requires rows { AllByRecursion (C.takes convert.now) self.rows }
-        ensures parts { IfOk result (λ v. InParts (C.converted convert.now) self.rows v.items) }
-        ensures fits { IfOk result (λ _. self.fits ≡ true) }
-        ensures again { IfSome self.refusal (λ f. result ≡ Err f) }
-        ensures overflow { IfErr result (λ f. f ≡ fault.Overflow → self.fits ≡ false) }
-    {
-        let Run {
-            alloc,
-            workers,
-            gate,
-            mut state,
-            refusal,
-            plan: _,
-            tables: _,
-        } = self;
-        match refusal {
-            Some(fault) => Err(fault),
-            None => rest_converted(rt, alloc, workers, &gate, convert, &mut state),
         }
     }
 
@@ -154,7 +126,7 @@ impl<G: Gate + Sync> Run<G> {
         } = self;
         match refusal {
             Some(fault) => Err(fault),
-            None => rest(rt, alloc, workers, &gate, &mut state),
+            None => rest(&Crew::new(rt, workers, gate), alloc, &mut state),
         }
     }
 }

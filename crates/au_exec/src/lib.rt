@@ -1,78 +1,46 @@
-//! Physical plans run over lists of plain rows, batch by batch.
+//! Plans over tables and rows of values, run by way of their codes.
 //!
-//! A [`Run`] gives the rows of a plan in the order of its meaning: [`Run::next_batch`] up to 256 at once, and [`Run::all`]
-//! all that are left. The overflow of its numbers is the only refusal beside wanting memory. Operators that work row by
-//! row are worked one after the other on each row, which moves; a join keeps its right rows, and a grouping a state for
-//! each key. Several workers share the left rows of a join that has a table or an index, the copying of the ends that the
-//! index holds, the rows of a table that are grouped, and many rows of one on which operators work row by row; the plan's
-//! rows are the same for each number of workers. A [`Chain`] is a plan that works row by row, made ready once for many lists of
-//! rows.
+//! A [`Source`] is a table that a plan scans, as it is given: blocks of a table with the places of their encoded rows that
+//! are read, rows of values that stand in memory, or what an earlier plan gave. [`run_coded`] gathers one book of the long
+//! texts of all sources and of the plan, makes a column of codes of each place of each source, and runs the plan over these
+//! by `au_vector`. What it gives stays coded: [`Coded`] reads it as rows of values, or as the relation that they encode. The
+//! clauses speak of values alone. No source's rows are made as rows of cells. A [`Run`] gives the rows of a plan over lists
+//! of rows batch by batch: [`Run::next_batch`] up to 256 at once, and [`Run::all`] all that are left.
+//!
+//! The values are told from their numbers by the kinds of the plan's rows, which [`kinds_of`] reckons from the first row of
+//! each source. Where a plan has no row because a source has none, they aren't known ([`known_kinds_hold`]); what codes give
+//! stands for the rows of the plan by [`ready_plans_stand`].
 //!
 //! ```text
-//! let scan = Box::new(alloc, Physical::Scan(0, 2))?;
-//! let plan = Physical::Filter(PExpr::Column(1), scan);
-//! let run = Run::start(alloc, plan, tables, 4, NoGate)?;
-//! let kept = run.all(&rt)?;
-//! // the rows whose second column is true
+//! let sources = [Source::of_blocks(table.columns(), table.blocks(), &places), Source::of_rows(&rows)];
+//! let found = run_coded(&crew, alloc, plan, &sources)?;
+//! let relation = found.relation(alloc, 2)?;     // rows that encode 2 columns each
 //! ```
 //!
 //! It belongs to docs/ARCHITECTURE.md.
 #![tactic(auto)]
 
 mod advance;
+mod answer_kinds;
 mod batches;
-mod boxed;
-mod chain;
-mod chains;
-mod collect;
-mod combine;
-mod conversions;
-mod convert;
-mod copying;
-mod drawn;
-mod drawn_pairs;
-mod evaluation;
-mod extreme;
-mod fold;
+mod block_kinds;
+mod coded;
+mod coded_sources;
+mod decoded_values;
 mod gathering;
-mod group_node;
-mod groups;
-mod hashing;
-mod inputs;
-mod intervals;
-mod join_grouping;
-mod joining;
-mod keep;
-mod key;
-mod lent_operators;
-mod lent_row;
-mod lent_rows;
-mod made_row;
-mod matching;
-mod merge;
-mod narrow;
-mod node;
-mod open;
-mod operators;
-mod pair_groups;
-mod pair_rows;
-mod partners;
-mod picking;
-mod probe;
-mod pull;
-mod range_ends;
-mod right;
-mod room;
-mod rows;
-mod scans;
-mod shared_chains;
-mod slices;
+mod holding;
+mod plan_kinds;
+mod readying;
+mod running;
 mod source;
-mod split;
 mod state;
-mod tally;
-mod view;
+mod taking;
+mod term_kinds;
+mod theorems;
+mod value_columns;
 
 pub use batches::{Batch, Run};
-pub use chain::Chain;
-pub use convert::Convert;
+pub use coded::{Coded, run_coded};
+pub use plan_kinds::kinds_of;
+pub use source::Source;
+pub use theorems::{known_kinds_hold, ready_plans_stand};

@@ -1,5 +1,4 @@
 //! How far a run is.
-use crate::node::Node;
 use au_physical::Physical;
 use au_plain::PRow;
 use std::vec::IntoIter;
@@ -9,6 +8,6 @@ use std::vec::IntoIter;
 pub(crate) enum State {
     /// Nothing is done yet.
     Waiting(Box<Physical>, Vec<Vec<PRow>>),
-    /// Rows that are there, and then those that are still to be pulled.
-    Going(IntoIter<PRow>, Box<Node>),
+    /// All rows were made, and these are left.
+    Going(IntoIter<PRow>),
 }

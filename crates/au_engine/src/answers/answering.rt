@@ -21,7 +21,6 @@ use crate::answers::tables::bounded_tables;
 use crate::faults::EngineFault;
 use crate::options::Options;
 use crate::running::evaluation::evaluated_by_plan;
-use crate::running::runner::Runner;
 use crate::typing::{names_and_kinds, resolved};
 use au_algebra::{Query, Rel, normal};
 use au_annot::Triple;
@@ -32,7 +31,8 @@ use au_par::Gate;
 use au_parse::Statement;
 use au_print::Answer;
 use au_typing::Typed;
-use au_value::{NoMemory, Range, Word, beside};
+use au_value::{Kind, NoMemory, Range, Word, beside};
+use au_vector::Crew;
 use std::alloc::Global;
 use std::thread::Threads;
 
@@ -65,8 +65,8 @@ pub fn answer<R: Threads + Sync, G: Gate + Sync>(
         Ok(typed) => typed,
         Err(fault) => return Err(fault),
     };
-    let runner = Runner::new(rt, options.workers, gate);
-    let rows = planned_rows(&runner, alloc, &typed.query, tables, options);
+    let crew = Crew::new(rt, options.workers, gate);
+    let rows = planned_rows(&crew, alloc, &typed.query, &typed.kinds, tables, options);
     match answer_of_rows(typed, rows) {
         Ok(answer) => Ok(answer),
         Err(fault) => Err(fault),
@@ -126,18 +126,19 @@ fn answer_of_rows(
 
 // The rows of the answer by the plans of the tree, in which rows are also combined where that is asked for.
 fn planned_rows<R: Threads + Sync, G: Gate + Sync>(
-    runner: &Runner<'_, R, G>,
+    crew: &Crew<'_, R, G>,
     alloc: Global,
     query: &Query,
+    kinds: &[Kind],
     tables: &[(Word, Table)],
     options: Options,
 ) -> Result<Rel<Range, Triple>, EvalFault>
-    requires typed { (ks : List Kind) × (kinds_of (map column_kinds (blocks_of tables.now)) (tree query.now) ≡ Some ks) }
+    requires typed { kinds_of (map column_kinds (blocks_of tables.now)) (tree query.now) ≡ Some (map data_kind kinds.now) }
     requires compression { IsCompression options.compress }
     ensures rows { IfOk result (λ r. r ≡ tree_asked (rules_of options) options.combine tables.now (tree query.now)) }
     ensures overflow { result ≡ Err EvalFault.Overflow → tree_asked_fits (rules_of options) options.combine tables.now (tree query.now) ≡ false }
 {
-    let rows = match evaluated_by_plan(runner, alloc, query, tables, options) {
+    let rows = match evaluated_by_plan(crew, alloc, query, kinds, tables, options) {
         Ok(rows) => rows,
         Err(fault) => return Err(fault),
     };

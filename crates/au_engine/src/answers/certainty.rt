@@ -19,7 +19,6 @@ use crate::answers::counted::counted_rows;
 use crate::answers::tables::ua_tables;
 use crate::faults::EngineFault;
 use crate::running::input::Input;
-use crate::running::runner::Runner;
 use crate::typing::{names_and_kinds, resolved};
 use au_algebra::Rel;
 use au_annot::Pair;
@@ -31,6 +30,7 @@ use au_rwcounted::read_pairs;
 use au_typing::Typed;
 use au_ua::ua;
 use au_value::{Kind, NoMemory, Value, Word, beside};
+use au_vector::Crew;
 use std::alloc::Global;
 use std::thread::Threads;
 
@@ -71,8 +71,8 @@ pub fn ua_answer<R: Threads + Sync, G: Gate + Sync>(
         Ok(typed) => typed,
         Err(fault) => return Err(fault),
     };
-    let runner = Runner::new(rt, 1, gate);
-    let rows = ua_rows(&runner, alloc, &typed, tables);
+    let crew = Crew::new(rt, 1, gate);
+    let rows = ua_rows(&crew, alloc, &typed, tables);
     match beside(rows, names_and_kinds(typed)) {
         Ok(parts) => {
             let (rows, columns) = parts;
@@ -87,7 +87,7 @@ pub fn ua_answer<R: Threads + Sync, G: Gate + Sync>(
 // The rows of the answer of a typed positive tree: by its plan, or where a number of the plan leaves 128 bits, by the
 // generic evaluator.
 fn ua_rows<R: Threads + Sync, G: Gate + Sync>(
-    runner: &Runner<'_, R, G>,
+    crew: &Crew<'_, R, G>,
     alloc: Global,
     typed: &Typed,
     tables: &[(Word, Table)],
@@ -100,7 +100,7 @@ fn ua_rows<R: Threads + Sync, G: Gate + Sync>(
     ensures printed { OnOk result (tree_ua_fits tables.now (tree typed.now.query) ≡ true → pairs_fit (summed_pairs (tree_ua_rows tables.now (tree typed.now.query))) ≡ true) }
     ensures overflow { result ≡ Err EvalFault.Overflow → tree_ua_fits tables.now (tree typed.now.query) ≡ false }
 {
-    match planned_rows(runner, alloc, typed, tables) {
+    match planned_rows(crew, alloc, typed, tables) {
         Ok(rows) => Ok(rows),
         Err(EvalFault::Overflow) => evaluated_rows(alloc, typed, tables),
         Err(EvalFault::NoMemory) => Err(EvalFault::NoMemory),
@@ -109,7 +109,7 @@ fn ua_rows<R: Threads + Sync, G: Gate + Sync>(
 
 // The same by the tree's plan. `Overflow` comes where a number of the plan leaves 128 bits.
 fn planned_rows<R: Threads + Sync, G: Gate + Sync>(
-    runner: &Runner<'_, R, G>,
+    crew: &Crew<'_, R, G>,
     alloc: Global,
     typed: &Typed,
     tables: &[(Word, Table)],
@@ -125,7 +125,7 @@ fn planned_rows<R: Threads + Sync, G: Gate + Sync>(
         Ok(inputs) => inputs,
         Err(NoMemory) => return Err(EvalFault::NoMemory),
     };
-    let rows = match counted_rows(runner, alloc, &typed.query, tables, 2, inputs) {
+    let rows = match counted_rows(crew, alloc, &typed.query, tables, 2, inputs) {
         Ok(rows) => rows,
         Err(fault) => return Err(fault),
     };

@@ -1,20 +1,21 @@
 //! The run of a tree's one plan over rows with counts: the number of the copies of each row, or how many of these are certain and
 //! how many guessed.
-ghost use Rattle.std.specs.Prelude.{IfOk, map};
+ghost use Rattle.std.specs.Prelude.{IfOk};
 ghost use Rattle.au_algebra.specs.Trees.{tree};
 ghost use Rattle.au_algebra.specs.Typing.{IsTyped};
 ghost use Rattle.au_physical.specs.Physicals.{physical_tree};
 ghost use Rattle.au_plain.specs.Plans.{plan_tree};
-ghost use Rattle.au_exec.specs.Outcomes.{rows_of};
+ghost use Rattle.au_exec.specs.HeldRows.{rows_of};
 ghost use Rattle.au_program.specs.CountedPlans.{GivesCounted, HasCounts};
 ghost use Rattle.au_program.specs.Inputs.{StandsReady};
 ghost use Rattle.au_engine.specs.CountedInputs.{AreCounted, FindsCounted};
 ghost use Rattle.au_engine.specs.Exchange.{value_kinds as value_kinds_of};
 
 use crate::answers::tables::schemas;
+use crate::running::held::Held;
 use crate::running::input::Input;
 use crate::running::reads::read_inputs;
-use crate::running::runner::Runner;
+use crate::running::running::run_over;
 use au_algebra::Query;
 use au_blocks::Table;
 use au_expr::EvalFault;
@@ -24,6 +25,7 @@ use au_plain::{PRow, Plan};
 use au_plan::improve;
 use au_program::{Counted, counted_plan};
 use au_value::{NoMemory, Word, beside};
+use au_vector::Crew;
 use std::alloc::Global;
 use std::thread::Threads;
 
@@ -32,7 +34,7 @@ use std::thread::Threads;
 ///
 /// `Overflow` comes where a number of the plan leaves 128 bits, which may be none of the tree's.
 pub(crate) fn counted_rows<R: Threads + Sync, G: Gate + Sync>(
-    runner: &Runner<'_, R, G>,
+    crew: &Crew<'_, R, G>,
     alloc: Global,
     query: &Query,
     tables: &[(Word, Table)],
@@ -48,13 +50,17 @@ pub(crate) fn counted_rows<R: Threads + Sync, G: Gate + Sync>(
         Ok(counted) => counted,
         Err(NoMemory) => return Err(EvalFault::NoMemory),
     };
-    let (plan, held) = match plan_with_rows(runner, alloc, counted.plan, inputs) {
+    let (plan, held) = match plan_with_rows(alloc, counted.plan, inputs) {
         Ok(both) => both,
         Err(NoMemory) => return Err(EvalFault::NoMemory),
     };
-    match runner.all(alloc, plan, held) {
+    let coded = match run_over(crew, alloc, plan, &held) {
+        Ok(coded) => coded,
+        Err(fault) => return Err(fault),
+    };
+    match coded.rows(alloc) {
         Ok(rows) => Ok(rows),
-        Err(fault) => Err(fault),
+        Err(NoMemory) => Err(EvalFault::NoMemory),
     }
 }
 
@@ -73,17 +79,16 @@ fn table_plan(
     Ok(counted)
 }
 
-// The physical plan of a plan, and the rows that it reads of its inputs.
-fn plan_with_rows<R: Threads + Sync, G: Gate + Sync>(
-    runner: &Runner<'_, R, G>,
+// The physical plan of a plan, and what it reads of its inputs.
+fn plan_with_rows<'a>(
     alloc: Global,
     plan: Plan,
-    inputs: Vec<Input<'_>>,
-) -> Result<(Physical, Vec<Vec<PRow>>), NoMemory>
-    ensures { IfOk result (λ v. StandsReady inputs.entry.items (map rows_of v.1.items) (plan_tree plan) (physical_tree v.0)) }
+    inputs: Vec<Input<'a>>,
+) -> Result<(Physical, Vec<Held<'a>>), NoMemory>
+    ensures { IfOk result (λ v. StandsReady inputs.entry.items v.1.items (plan_tree plan) (physical_tree v.0)) }
 {
     let mut physical = improve(alloc, plan)?;
-    let tables = read_inputs(runner, alloc, &mut physical, inputs);
-    let (tables, physical) = beside(tables, physical)?;
-    Ok((physical, tables))
+    let held = read_inputs(alloc, &mut physical, inputs);
+    let (held, physical) = beside(held, physical)?;
+    Ok((physical, held))
 }

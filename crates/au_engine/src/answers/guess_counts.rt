@@ -7,7 +7,7 @@ ghost use Rattle.au_expr.specs.Numbers.{number_if_any};
 ghost use Rattle.au_algebra.specs.Lists.{value_at};
 ghost use Rattle.au_plain.specs.Meaning.{kept};
 ghost use Rattle.au_plain.specs.PlanKinds.{FitRows, row_fits};
-ghost use Rattle.au_exec.specs.Outcomes.{rows_of};
+ghost use Rattle.au_exec.specs.HeldRows.{rows_of};
 ghost use Rattle.au_engine.specs.CountedTables.{counted_guesses, guess_row};
 
 use crate::answers::guess_rows::{guesses, read_value};

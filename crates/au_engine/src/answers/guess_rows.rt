@@ -9,10 +9,11 @@ ghost use Rattle.au_blocks.specs.Worlds.{chosen, guess_choice, rows_in};
 ghost use Rattle.au_expr.specs.Figures.{fit};
 ghost use Rattle.au_expr.specs.Numbers.{number_if_any};
 ghost use Rattle.au_plain.specs.PlanKinds.{FitRows, FitTables, row_fits};
-ghost use Rattle.au_exec.specs.Outcomes.{rows_of};
+ghost use Rattle.au_exec.specs.HeldRows.{rows_of};
 ghost use Rattle.au_engine.specs.Answers.{blocks_of, guess_tables as guess_tables_of};
 ghost use Rattle.au_engine.specs.Exchange.{value_kinds as value_kinds_of};
 
+use crate::running::held::Held;
 use au_blocks::{Alternative, Block, Blocks, Column, Scalar, Table};
 use au_plain::PRow;
 use au_value::{Kind, NoMemory, Word};
@@ -44,17 +45,17 @@ pub(crate) fn value_kinds(
 }
 
 /// The tables' rows in the guess world, in block order, each as often as it is guessed.
-pub(crate) fn guess_tables(
+pub(crate) fn guess_tables<'a>(
     alloc: Global,
-    tables: &[(Word, Table)],
-) -> Result<Vec<Vec<PRow>>, NoMemory>
-    ensures rows { IfOk result (λ v. map rows_of v.items ≡ guess_tables_of tables.now) }
-    ensures fit { IfOk result (λ v. FitTables (map rows_of v.items)) }
+    tables: &'a [(Word, Table)],
+) -> Result<Vec<Held<'a>>, NoMemory>
+    ensures rows { IfOk result (λ v. v.items ≡ guess_tables_of tables.now) }
+    ensures fit { IfOk result (λ v. FitTables v.items) }
     ensures tables { OnOk result (AllByRecursion IsBlockTable (blocks_of tables.now)) }
 {
     let mut rows = Vec::new(alloc);
     for table in tables {
-        rows.push(guess_rows(alloc, &table.1.blocks())?)?;
+        rows.push(Held::of_rows(guess_rows(alloc, &table.1.blocks())?))?;
     }
     Ok(rows)
 }

@@ -16,7 +16,6 @@ use crate::answers::counted::counted_rows;
 use crate::answers::tables::guessed_tables;
 use crate::faults::EngineFault;
 use crate::running::input::Input;
-use crate::running::runner::Runner;
 use crate::typing::{names_and_kinds, resolved};
 use au_algebra::Rel;
 use au_annot::Count;
@@ -28,6 +27,7 @@ use au_parse::Statement;
 use au_rwcounted::read_counted;
 use au_typing::Typed;
 use au_value::{Kind, NoMemory, Value, Word, beside};
+use au_vector::Crew;
 use std::alloc::Global;
 use std::thread::Threads;
 
@@ -64,8 +64,8 @@ pub fn guess_answer<R: Threads + Sync, G: Gate + Sync>(
         Ok(typed) => typed,
         Err(fault) => return Err(fault),
     };
-    let runner = Runner::new(rt, 1, gate);
-    let rows = guess_rows(&runner, alloc, &typed, tables);
+    let crew = Crew::new(rt, 1, gate);
+    let rows = guess_rows(&crew, alloc, &typed, tables);
     match beside(rows, names_and_kinds(typed)) {
         Ok(parts) => {
             let (rows, columns) = parts;
@@ -80,7 +80,7 @@ pub fn guess_answer<R: Threads + Sync, G: Gate + Sync>(
 // The rows of the answer of a typed tree: by its plan, or where a number of the plan leaves 128 bits, by the generic
 // evaluator.
 fn guess_rows<R: Threads + Sync, G: Gate + Sync>(
-    runner: &Runner<'_, R, G>,
+    crew: &Crew<'_, R, G>,
     alloc: Global,
     typed: &Typed,
     tables: &[(Word, Table)],
@@ -90,7 +90,7 @@ fn guess_rows<R: Threads + Sync, G: Gate + Sync>(
     ensures widths { IfOk result (HaveColumns typed.now.kinds.items) }
     ensures overflow { result ≡ Err EvalFault.Overflow → tree_guess_fits tables.now (tree typed.now.query) ≡ false }
 {
-    match planned_rows(runner, alloc, typed, tables) {
+    match planned_rows(crew, alloc, typed, tables) {
         Ok(rows) => Ok(rows),
         Err(EvalFault::Overflow) => ordinary_rows(alloc, typed, tables),
         Err(EvalFault::NoMemory) => Err(EvalFault::NoMemory),
@@ -99,7 +99,7 @@ fn guess_rows<R: Threads + Sync, G: Gate + Sync>(
 
 // The same by the tree's plan. `Overflow` comes where a number of the plan leaves 128 bits.
 fn planned_rows<R: Threads + Sync, G: Gate + Sync>(
-    runner: &Runner<'_, R, G>,
+    crew: &Crew<'_, R, G>,
     alloc: Global,
     typed: &Typed,
     tables: &[(Word, Table)],
@@ -112,7 +112,7 @@ fn planned_rows<R: Threads + Sync, G: Gate + Sync>(
         Ok(inputs) => inputs,
         Err(NoMemory) => return Err(EvalFault::NoMemory),
     };
-    let rows = match counted_rows(runner, alloc, &typed.query, tables, 1, inputs) {
+    let rows = match counted_rows(crew, alloc, &typed.query, tables, 1, inputs) {
         Ok(rows) => rows,
         Err(fault) => return Err(fault),
     };

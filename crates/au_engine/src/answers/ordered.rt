@@ -1,7 +1,7 @@
 //! Plain rows in the order of their values, from the first column on.
 ghost use Rattle.std.specs.Prelude.{◌≡◌, IfOk};
 ghost use Rattle.au_print.specs.GuessTexts.{in_order};
-ghost use Rattle.au_exec.specs.Outcomes.{rows_of};
+ghost use Rattle.au_exec.specs.HeldRows.{rows_of};
 
 use au_plain::PRow;
 use au_print::writing::compare_values;

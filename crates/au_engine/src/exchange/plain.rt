@@ -1,5 +1,5 @@
 //! Plans that are run over the guess rows of tables.
-ghost use Rattle.std.specs.Prelude.{◌≡◌, Some, Err, List, IfOk, IfErr, OnOk, false, map};
+ghost use Rattle.std.specs.Prelude.{◌≡◌, Some, Err, List, IfOk, IfErr, OnOk, false};
 ghost use Rattle.std.specs.List.{AllByRecursion};
 ghost use Rattle.au_value.specs.declared.kinds.Kind.{Kind};
 ghost use Rattle.au_blocks.specs.Tables.{IsBlockTable};
@@ -7,14 +7,17 @@ ghost use Rattle.au_plain.specs.PlanKinds.{FitTables, HaveKinds, IsTypedPlan};
 ghost use Rattle.au_plain.specs.Plans.{plan_tree};
 ghost use Rattle.au_physical.specs.Physicals.{physical_tree};
 ghost use Rattle.au_plan.specs.Implements.{Implements};
-ghost use Rattle.au_exec.specs.Outcomes.{rows_of};
+ghost use Rattle.au_print.specs.GuessTexts.{in_order};
+ghost use Rattle.au_exec.specs.HeldRows.{rows_of};
 ghost use Rattle.au_engine.specs.Answers.{blocks_of, guess_tables as guess_tables_of};
 ghost use Rattle.au_engine.specs.Exchange.{PlainCause, plain_answer as plain_answer_of, plain_fits, plain_kinds, plain_text as plain_text_of, value_kinds as value_kinds_of};
 
 use crate::answers::guess_rows::{guess_tables, value_kinds};
 use crate::answers::ordered::ordered;
-use crate::running::runner::Runner;
+use crate::running::held::Held;
+use crate::running::running::run_over;
 use au_blocks::Table;
+use au_exec::Coded;
 use au_expr::EvalFault;
 use au_par::Gate;
 use au_physical::Physical;
@@ -22,6 +25,7 @@ use au_plain::{PRow, Plan};
 use au_plan::improve;
 use au_sqltext::{PlanFault, check_plan, plain_text};
 use au_value::{Kind, NoMemory, Word, beside};
+use au_vector::Crew;
 use std::alloc::Global;
 use std::thread::Threads;
 use thiserror::Error;
@@ -62,8 +66,8 @@ pub fn plain_answer<R: Threads + Sync, G: Gate + Sync>(
         Ok(both) => both,
         Err(fault) => return Err(fault),
     };
-    let runner = Runner::new(rt, 1, gate);
-    let rows = match plain_rows(&runner, alloc, plan, tables) {
+    let crew = Crew::new(rt, 1, gate);
+    let rows = match plain_rows(&crew, alloc, plan, tables) {
         Ok(rows) => rows,
         Err(EvalFault::Overflow) => return Err(PlainFault::Overflow),
         Err(EvalFault::NoMemory) => return Err(PlainFault::NoMemory),
@@ -93,7 +97,7 @@ fn checked(alloc: Global, plan: &Plan, tables: &[(Word, Table)]) -> Result<Vec<K
 
 // The rows of a typed plan over the tables' guess rows, in order.
 fn plain_rows<R: Threads + Sync, G: Gate + Sync>(
-    runner: &Runner<'_, R, G>,
+    crew: &Crew<'_, R, G>,
     alloc: Global,
     plan: Plan,
     tables: &[(Word, Table)],
@@ -107,25 +111,32 @@ fn plain_rows<R: Threads + Sync, G: Gate + Sync>(
         Ok(both) => both,
         Err(NoMemory) => return Err(EvalFault::NoMemory),
     };
-    let rows = match runner.all(alloc, plan, held) {
-        Ok(rows) => rows,
+    let coded = match run_over(crew, alloc, plan, &held) {
+        Ok(coded) => coded,
         Err(fault) => return Err(fault),
     };
-    match ordered(rows) {
+    match rows_in_order(alloc, &coded) {
         Ok(rows) => Ok(rows),
         Err(NoMemory) => Err(EvalFault::NoMemory),
     }
 }
 
+// The rows, ordered by their values.
+fn rows_in_order(alloc: Global, coded: &Coded) -> Result<Vec<PRow>, NoMemory>
+    ensures { IfOk result (λ rows. rows_of rows ≡ in_order coded.now) }
+{
+    ordered(coded.rows(alloc)?)
+}
+
 // The physical plan of a plan, and the tables' guess rows.
-fn plan_with_guess_rows(
+fn plan_with_guess_rows<'a>(
     alloc: Global,
     plan: Plan,
-    tables: &[(Word, Table)],
-) -> Result<(Physical, Vec<Vec<PRow>>), NoMemory>
+    tables: &'a [(Word, Table)],
+) -> Result<(Physical, Vec<Held<'a>>), NoMemory>
     ensures stands { IfOk result (λ r. Implements (plan_tree plan) (physical_tree r.0)) }
-    ensures rows { IfOk result (λ r. map rows_of r.1.items ≡ guess_tables_of tables.now) }
-    ensures fit { IfOk result (λ r. FitTables (map rows_of r.1.items)) }
+    ensures rows { IfOk result (λ r. r.1.items ≡ guess_tables_of tables.now) }
+    ensures fit { IfOk result (λ r. FitTables r.1.items) }
     ensures tables { OnOk result (AllByRecursion IsBlockTable (blocks_of tables.now)) }
 {
     let (held, plan) = beside(guess_tables(alloc, tables), plan)?;

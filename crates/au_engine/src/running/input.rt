@@ -1,16 +1,11 @@
 //! Tables that plans read.
 ghost use Rattle.std.specs.Prelude.{◌≡◌};
-ghost use Rattle.au_blocks.specs.Tables.{IsBlockTable, table};
-ghost use Rattle.au_encode.specs.Encode.{encode};
-ghost use Rattle.au_exec.specs.Outcomes.{rows_of};
 ghost use Rattle.au_plain.specs.PlanKinds.{FitRows};
-ghost use Rattle.au_translate.specs.Translate.{bounded_blocks};
 ghost use Rattle.au_engine.specs.CountedTables.{certain_guesses, counted_guesses};
 ghost use Rattle.au_engine.specs.InputRows.{content_rows, IsContent};
-ghost use Rattle.au_program.specs.KeptRows.{kept_rows};
 
-use au_blocks::{Blocks, Column};
-use au_plain::PRow;
+use crate::running::held::Held;
+use au_blocks::Blocks;
 use std::marker::Model;
 
 /// A table that plans read. Contracts see its rows, whether they are there or are still to be made.
@@ -19,13 +14,11 @@ pub(crate) struct Input<'a> {
     content: Content<'a>,
 }
 
-/// Rows that are there, or the columns and some blocks of a block table, of whose encoded rows the values in some places, or all,
-/// are made when a plan is run; or blocks, whose rows in the guess world, with the number of their copies, or with how many of these are certain and how
-/// many guessed, are made then.
+/// What a plan can be run over as it is; or blocks, whose rows in the guess world, with the number of their copies, or with how
+/// many of these are certain and how many guessed, are made when a plan is run.
 #[derive(Drop)]
 pub(crate) enum Content<'a> {
-    Rows(Vec<PRow>),
-    Blocks(&'a [Column], Blocks<'a>, &'a Option<Vec<usize>>),
+    Ready(Held<'a>),
     Guesses(Blocks<'a>),
     Certain(Blocks<'a>),
 }
@@ -43,28 +36,13 @@ impl<'a> Model for Input<'a> {
 }
 
 impl<'a> Input<'a> {
-    /// Rows that are there.
-    pub(crate) fn of_rows(rows: Vec<PRow>) -> Input<'a>
-        requires { FitRows (rows_of rows) }
-        ensures { result ≡ rows_of rows }
+    /// What a plan can be run over as it is.
+    pub(crate) fn of(rows: Held<'a>) -> Input<'a>
+        requires { FitRows rows }
+        ensures { result ≡ rows.entry }
     {
         Input {
-            content: Content::Rows(rows),
-        }
-    }
-
-    /// The encoded rows of some blocks of a table of these columns, in block order: of each the values in the places that are
-    /// kept, or all.
-    pub(crate) fn of_blocks(
-        columns: &'a [Column],
-        blocks: Blocks<'a>,
-        kept: &'a Option<Vec<usize>>,
-    ) -> Input<'a>
-        requires { IsBlockTable (table columns.now blocks) }
-        ensures { result ≡ kept_rows kept.now (encode (bounded_blocks blocks.entry)) }
-    {
-        Input {
-            content: Content::Blocks(columns, blocks, kept),
+            content: Content::Ready(rows),
         }
     }
 
@@ -86,11 +64,11 @@ impl<'a> Input<'a> {
         }
     }
 
-    /// The rows, where they are there.
-    pub(crate) fn ready_rows(&self) -> &[PRow] {
+    /// The rows, where a plan can be run over them as they are.
+    pub(crate) fn ready(&self) -> Option<&Held<'a>> {
         match &self.content {
-            Content::Rows(rows) => rows.as_slice(),
-            _ => &[],
+            Content::Ready(rows) => Some(rows),
+            _ => None,
         }
     }
 

@@ -3,10 +3,10 @@
 //! Rows with equal key ranges in one are fewer pairs for the boxes, and pay where key ranges repeat; where nearly all differ
 //! they cost a grouping more and save nothing. Any choice is right, so all that is here is a matter of time.
 
+use crate::running::held::Held;
 use crate::running::input::Input;
-use au_plain::PRow;
+use au_exec::Source;
 use au_rwgroup::Folding;
-use au_value::Value;
 
 // Neighbours are looked at in windows, so that equal keys are seen that stand together as well as those that are spread.
 // There are the more windows the more rows there are, up to so many.
@@ -25,16 +25,21 @@ pub(crate) fn folding_for(inputs: &Vec<Input<'_>>, keys: usize) -> Folding {
     let (Some(input), Some(width)) = (inputs.last(), keys.checked_mul(3)) else {
         return Folding::EqualKeys;
     };
-    folding_of(input.ready_rows(), width)
+    match input.ready() {
+        Some(held) => folding_of(held, width),
+        None => Folding::EqualKeys,
+    }
 }
 
-// The same by the leading values of the rows.
-fn folding_of(rows: &[PRow], width: usize) -> Folding {
-    let windows = (rows.len() / ROWS_FOR_A_WINDOW).clamp(1, WINDOWS);
+// The same by the leading values of the rows that are there.
+fn folding_of(held: &Held<'_>, width: usize) -> Folding {
+    let source = held.source();
+    let rows = source.held();
+    let windows = (rows / ROWS_FOR_A_WINDOW).clamp(1, WINDOWS);
     let sample = Sample {
-        rows,
+        source: &source,
         width,
-        step: rows.len() / windows,
+        step: rows / windows,
     };
     let count = windows * WINDOW;
     if sample.repeats(count, count / ROWS_FOR_A_REPETITION) {
@@ -47,7 +52,7 @@ fn folding_of(rows: &[PRow], width: usize) -> Folding {
 // The leading values of rows in windows that begin a step apart.
 #[derive(Clone, Copy)]
 struct Sample<'a> {
-    rows: &'a [PRow],
+    source: &'a Source<'a>,
     width: usize,
     step: usize,
 }
@@ -69,32 +74,22 @@ impl<'a> Sample<'a> {
 
     // Whether an earlier row has the values of the one at a place.
     fn stands_before(&self, place: usize) -> bool {
-        match self.values(place) {
-            Some(values) => {
-                for earlier in 0..place {
-                    if self.has(earlier, values) {
-                        return true;
-                    }
+        let Some(row) = self.row(place) else {
+            return false;
+        };
+        for earlier in 0..place {
+            if let Some(other) = self.row(earlier) {
+                if self.source.alike(other, row, self.width) {
+                    return true;
                 }
-                false
             }
-            None => false,
         }
+        false
     }
 
-    // Whether the row at a place has these values.
-    fn has(&self, place: usize, values: &[Value]) -> bool {
-        match self.values(place) {
-            Some(own) => own == values,
-            None => false,
-        }
-    }
-
-    // The values of the row at a place, where it is there.
-    fn values(&self, place: usize) -> Option<&[Value]> {
+    // Which row stands at a place.
+    fn row(&self, place: usize) -> Option<usize> {
         let first = (place / WINDOW).checked_mul(self.step)?;
-        let at = first.checked_add(place % WINDOW)?;
-        let row = self.rows.get(at)?;
-        row.get(..self.width)
+        first.checked_add(place % WINDOW)
     }
 }

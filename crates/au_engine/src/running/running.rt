@@ -1,7 +1,6 @@
 //! Physical plans that are run over their inputs.
-ghost use Rattle.std.specs.Prelude.{◌≡◌, IfOk, OnOk, false, map};
+ghost use Rattle.std.specs.Prelude.{◌≡◌, IfOk, OnOk, false, true};
 ghost use Rattle.au_encode.specs.Encode.{AreEncoded, decode};
-ghost use Rattle.au_exec.specs.Outcomes.{rows_of};
 ghost use Rattle.au_expr.specs.Figures.{fit};
 ghost use Rattle.au_physical.specs.PhysicalKinds.{IsPhysicalFor};
 ghost use Rattle.au_physical.specs.PhysicalMeaning.{physical_rows};
@@ -10,61 +9,85 @@ ghost use Rattle.au_physical.specs.Physicals.{physical_tree};
 ghost use Rattle.au_plain.specs.PlanKinds.{FitRows, FitTables};
 ghost use Rattle.au_program.specs.Inputs.{ReadsAll};
 
+use crate::running::held::{Held, sources_of};
 use crate::running::input::Input;
 use crate::running::reads::read_inputs;
-use crate::running::runner::Runner;
 use au_algebra::Rel;
 use au_annot::Triple;
+use au_exec::{Coded, run_coded};
 use au_expr::EvalFault;
 use au_par::Gate;
 use au_physical::Physical;
-use au_plain::PRow;
 use au_value::{NoMemory, Range, beside};
+use au_vector::Crew;
 use std::alloc::Global;
 use std::thread::Threads;
 
-// A plan, and the rows that it reads of its inputs.
-fn plan_with_rows<R: Threads + Sync, G: Gate + Sync>(
-    runner: &Runner<'_, R, G>,
+// A plan, and what it reads of its inputs.
+fn plan_with_rows<'a>(
     alloc: Global,
     plan: Physical,
-    inputs: Vec<Input<'_>>,
-) -> Result<(Physical, Vec<Vec<PRow>>), NoMemory>
-    ensures reads { IfOk result (λ v. ReadsAll inputs.entry.items (map rows_of v.1.items) (physical_tree plan) (physical_tree v.0)) }
+    inputs: Vec<Input<'a>>,
+) -> Result<(Physical, Vec<Held<'a>>), NoMemory>
+    ensures reads { IfOk result (λ v. ReadsAll inputs.entry.items v.1.items (physical_tree plan) (physical_tree v.0)) }
     ensures fit { OnOk result (FitTables inputs.entry.items) }
 {
     let mut plan = plan;
-    let tables = read_inputs(runner, alloc, &mut plan, inputs);
-    let (tables, plan) = beside(tables, plan)?;
-    Ok((plan, tables))
+    let held = read_inputs(alloc, &mut plan, inputs);
+    let (held, plan) = beside(held, plan)?;
+    Ok((plan, held))
 }
 
-/// The rows of a plan over its inputs, which are let go.
+/// The rows of a plan over what is held.
 ///
 /// `Overflow` comes only where a number of the plan leaves 128 bits.
-pub(crate) fn run<R: Threads + Sync, G: Gate + Sync>(
-    runner: &Runner<'_, R, G>,
+pub(crate) fn run_over<R: Threads + Sync, G: Gate + Sync>(
+    crew: &Crew<'_, R, G>,
     alloc: Global,
     plan: Physical,
-    inputs: Vec<Input<'_>>,
-) -> Result<Vec<PRow>, EvalFault>
-    requires starts { IsPhysicalFor inputs.items (physical_tree plan) }
-    ensures rows { IfOk result (λ v. rows_of v ≡ physical_rows (physical_tree plan) inputs.entry.items) }
-    ensures fit { IfOk result (λ v. FitRows (rows_of v)) }
-    ensures overflow { result ≡ Err EvalFault.Overflow → fit (physical_numbers (physical_tree plan) inputs.entry.items) ≡ false }
+    held: &[Held<'_>],
+) -> Result<Coded, EvalFault>
+    requires plan { IsPhysicalFor held.now (physical_tree plan) }
+    ensures rows { IfOk result (λ c. c ≡ physical_rows (physical_tree plan) held.now) }
+    ensures fits { IfOk result (λ _. fit (physical_numbers (physical_tree plan) held.now) ≡ true) }
+    ensures overflow { result ≡ Err EvalFault.Overflow → fit (physical_numbers (physical_tree plan) held.now) ≡ false }
 {
-    let (plan, tables) = match plan_with_rows(runner, alloc, plan, inputs) {
+    let (sources, plan) = match beside(sources_of(alloc, held), plan) {
         Ok(both) => both,
         Err(NoMemory) => return Err(EvalFault::NoMemory),
     };
-    runner.all(alloc, plan, tables)
+    match run_coded(crew, alloc, plan, &sources) {
+        Ok(coded) => Ok(coded),
+        Err(fault) => Err(fault),
+    }
+}
+
+/// The rows of a plan over its inputs, which are let go. They stay coded.
+///
+/// `Overflow` comes only where a number of the plan leaves 128 bits.
+pub(crate) fn run<R: Threads + Sync, G: Gate + Sync>(
+    crew: &Crew<'_, R, G>,
+    alloc: Global,
+    plan: Physical,
+    inputs: Vec<Input<'_>>,
+) -> Result<Coded, EvalFault>
+    requires starts { IsPhysicalFor inputs.items (physical_tree plan) }
+    ensures rows { IfOk result (λ c. c ≡ physical_rows (physical_tree plan) inputs.entry.items) }
+    ensures fit { IfOk result (λ c. FitRows c) }
+    ensures overflow { result ≡ Err EvalFault.Overflow → fit (physical_numbers (physical_tree plan) inputs.entry.items) ≡ false }
+{
+    let (plan, held) = match plan_with_rows(alloc, plan, inputs) {
+        Ok(both) => both,
+        Err(NoMemory) => return Err(EvalFault::NoMemory),
+    };
+    run_over(crew, alloc, plan, &held)
 }
 
 /// The relation that the rows of a plan over its inputs, which are let go, encode, each with so many columns.
 ///
 /// `Overflow` comes only where a number of the plan leaves 128 bits.
 pub(crate) fn run_decoded<R: Threads + Sync, G: Gate + Sync>(
-    runner: &Runner<'_, R, G>,
+    crew: &Crew<'_, R, G>,
     alloc: Global,
     plan: Physical,
     inputs: Vec<Input<'_>>,
@@ -75,9 +98,12 @@ pub(crate) fn run_decoded<R: Threads + Sync, G: Gate + Sync>(
     ensures rows { IfOk result (λ rel. rel ≡ decode columns (physical_rows (physical_tree plan) inputs.entry.items)) }
     ensures overflow { result ≡ Err EvalFault.Overflow → fit (physical_numbers (physical_tree plan) inputs.entry.items) ≡ false }
 {
-    let (plan, tables) = match plan_with_rows(runner, alloc, plan, inputs) {
-        Ok(both) => both,
-        Err(NoMemory) => return Err(EvalFault::NoMemory),
+    let coded = match run(crew, alloc, plan, inputs) {
+        Ok(coded) => coded,
+        Err(fault) => return Err(fault),
     };
-    runner.relation(alloc, plan, tables, columns)
+    match coded.relation(alloc, columns) {
+        Ok(relation) => Ok(relation),
+        Err(NoMemory) => Err(EvalFault::NoMemory),
+    }
 }

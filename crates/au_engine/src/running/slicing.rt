@@ -1,83 +1,41 @@
 //! Queries that work row by row over one table: they are answered slice by slice of the table's blocks, so that memory holds
 //! the rows of one slice for each worker beside the answer. The plan is made ready once, before any worker begins: what a worker
 //! does takes few bytes of its stack, however many operators there are.
-ghost use Rattle.std.specs.Prelude.{◌≡◌, ◌<◌, ◌≤◌, ◌∷◌, ◌++◌, [], Err, IfOk, length, true};
+ghost use Rattle.std.specs.Prelude.{◌≡◌, ◌<◌, ◌≤◌, ◌∷◌, ◌++◌, [], Err, IfOk, length};
 ghost use Rattle.au_expr.specs.Figures.{Fit};
 ghost use Rattle.au_algebra.specs.Bounded.{normal as normal_of};
 ghost use Rattle.au_algebra.specs.Trees.{tree};
 ghost use Rattle.au_algebra.specs.Typing.{IsTyped};
 ghost use Rattle.au_blocks.specs.Tables.{IsBlockTable, column_kinds, table as table_of};
-ghost use Rattle.au_encode.specs.Encode.{encode};
-ghost use Rattle.au_exec.specs.Outcomes.{rows_of};
-ghost use Rattle.au_physical.specs.Chains.{is_chain};
-ghost use Rattle.au_physical.specs.Physicals.{physical_tree};
-ghost use Rattle.au_translate.specs.Translate.{bounded_blocks};
-ghost use Rattle.au_program.specs.KeptRows.{kept_rows};
-ghost use Rattle.au_engine.specs.SliceWork.{IsSlicer, SlicesBy, kept_in};
+ghost use Rattle.au_engine.specs.SliceWork.{SlicesBy};
 ghost use Rattle.au_engine.specs.Shares.{Gathers, GathersBoth, WorksOver};
 ghost use Rattle.au_engine.specs.Slicing.{WorksByRow, gathered_numbers, over_one, slice_numbers, slice_rows};
 ghost use denote.Param.Send.{IsSync};
 
-use crate::running::runner::Runner;
+use crate::running::held::lent;
+use crate::running::slicer::Slicer;
 use au_algebra::{Gathered, Query, Rel, normal};
 use au_annot::Triple;
+use au_batches::chain_over;
 use au_blocks::{Blocks, Column, Table};
-use au_encode::decode;
-use au_exec::Chain;
 use au_expr::EvalFault;
 use au_par::Gate;
-use au_plain::PRow;
-use au_program::{Sources, Whole, is_scan};
-use au_translate::{bounded_rows, encoded_blocks, encoded_places_by, read_numbers};
-use au_value::{NoMemory, Range, beside};
+use au_program::is_scan;
+use au_translate::{bounded_rows, read_numbers};
+use au_value::{NoMemory, Range};
+use au_vector::Crew;
 use std::alloc::Global;
 use std::thread::{Threads, join};
 
 // So many blocks are a slice, or fewer.
 const SLICE: usize = 4_096;
 
-/// A plan that works row by row over a table, made ready for the slices of the table: of the encoded rows of a slice it reads the
-/// values in the places that are kept, or all, and the rows that it gives encode rows of so many columns.
-#[derive(Drop)]
-pub(crate) struct Slicer {
-    chain: Chain,
-    kept: Option<Vec<usize>>,
-    columns: usize,
-}
-
-/// The slicer of such a plan over its only source, a table.
-pub(crate) fn slicer_of(alloc: Global, whole: Whole) -> Result<Slicer, NoMemory>
-    requires { is_chain (physical_tree whole.plan) ≡ true }
-    ensures { IfOk result (λ s. IsSlicer whole s) }
-{
-    let Whole {
-        plan,
-        sources,
-        columns,
-    } = whole;
-    let kept = kept_of(sources);
-    let (chain, kept) = beside(Chain::of(alloc, plan), kept)?;
-    Ok(Slicer {
-        chain,
-        kept,
-        columns,
-    })
-}
-
-// Which columns of the last table are read.
-fn kept_of(sources: Sources) -> Option<Vec<usize>>
-    ensures { result ≡ kept_in sources }
-{
-    match sources {
-        Sources::Table(_, _, kept) => kept,
-        _ => None,
-    }
-}
+// Fewer blocks are worked by one worker: a thread costs more than what it saves on them.
+const FEW: usize = 8_192;
 
 // The relation of such a tree over a slice, in some order. Where it gives the table's rows as they are, these are made with
 // no plan.
-fn slice_of<R: Threads + Sync>(
-    rt: &R,
+fn slice_of(
     alloc: Global,
     query: &Query,
     slicer: &Slicer,
@@ -85,7 +43,7 @@ fn slice_of<R: Threads + Sync>(
     blocks: &Blocks<'_>,
 ) -> Result<Rel<Range, Triple>, EvalFault>
     requires by_row { WorksByRow (tree query.now) }
-    requires slicer { SlicesBy (tree query.now) columns.now slicer.now }
+    requires slicer { SlicesBy (tree query.now) columns.now blocks.now slicer.now }
     requires slice { IsBlockTable (table_of columns.now blocks.now) }
     requires typed { IsTyped (column_kinds (table_of columns.now blocks.now) ∷ []) (over_one (tree query.now)) }
     ensures rows { IfOk result (λ r. normal_of r ≡ normal_of (slice_rows (tree query.now) blocks.now)) }
@@ -97,13 +55,12 @@ fn slice_of<R: Threads + Sync>(
             Err(NoMemory) => Err(EvalFault::NoMemory),
         }
     } else {
-        slice_by_plan(rt, alloc, query, slicer, columns, blocks)
+        slice_by_plan(alloc, query, slicer, columns, blocks)
     }
 }
 
 // The same by the plan of the tree.
-fn slice_by_plan<R: Threads + Sync>(
-    rt: &R,
+fn slice_by_plan(
     alloc: Global,
     query: &Query,
     slicer: &Slicer,
@@ -111,7 +68,7 @@ fn slice_by_plan<R: Threads + Sync>(
     blocks: &Blocks<'_>,
 ) -> Result<Rel<Range, Triple>, EvalFault>
     requires by_row { WorksByRow (tree query.now) }
-    requires slicer { SlicesBy (tree query.now) columns.now slicer.now }
+    requires slicer { SlicesBy (tree query.now) columns.now blocks.now slicer.now }
     requires slice { IsBlockTable (table_of columns.now blocks.now) }
     requires typed { IsTyped (column_kinds (table_of columns.now blocks.now) ∷ []) (over_one (tree query.now)) }
     ensures rows { IfOk result (λ r. normal_of r ≡ normal_of (slice_rows (tree query.now) blocks.now)) }
@@ -120,37 +77,23 @@ fn slice_by_plan<R: Threads + Sync>(
     let _ = query;
     // Read for the proof alone: all numbers lie in their range.
     read_numbers(columns, blocks);
-    let rows = match encoded_slice(rt, alloc, &slicer.kept, columns, blocks) {
-        Ok(rows) => rows,
-        Err(NoMemory) => return Err(EvalFault::NoMemory),
-    };
-    let worked = slicer.chain.work(alloc, rows)?;
-    match decode(alloc, worked, slicer.columns) {
+    match chain_over(
+        alloc,
+        &slicer.book,
+        &slicer.plan,
+        columns,
+        blocks,
+        &slicer.places,
+        &slicer.kinds,
+        slicer.columns,
+    ) {
         Ok(relation) => Ok(relation),
-        Err(NoMemory) => Err(EvalFault::NoMemory),
-    }
-}
-
-// Of the encoded rows of a slice the values in the places that are kept, or all.
-fn encoded_slice<R: Threads + Sync>(
-    rt: &R,
-    alloc: Global,
-    kept: &Option<Vec<usize>>,
-    columns: &[Column],
-    blocks: &Blocks<'_>,
-) -> Result<Vec<PRow>, NoMemory>
-    requires { IsBlockTable (table_of columns.now blocks.now) }
-    ensures { IfOk result (λ v. rows_of v ≡ kept_rows kept.now (encode (bounded_blocks blocks.now))) }
-{
-    match kept {
-        Some(places) => encoded_places_by(rt, alloc, 1, columns, blocks, places),
-        None => encoded_blocks(alloc, columns, blocks),
+        Err(fault) => Err(fault),
     }
 }
 
 // The same in its normal form: rows of a slice that are equal are one before they stand beside those of the others.
-fn settled_slice<R: Threads + Sync>(
-    rt: &R,
+fn settled_slice(
     alloc: Global,
     query: &Query,
     slicer: &Slicer,
@@ -158,13 +101,13 @@ fn settled_slice<R: Threads + Sync>(
     blocks: &Blocks<'_>,
 ) -> Result<Rel<Range, Triple>, EvalFault>
     requires by_row { WorksByRow (tree query.now) }
-    requires slicer { SlicesBy (tree query.now) columns.now slicer.now }
+    requires slicer { SlicesBy (tree query.now) columns.now blocks.now slicer.now }
     requires slice { IsBlockTable (table_of columns.now blocks.now) }
     requires typed { IsTyped (column_kinds (table_of columns.now blocks.now) ∷ []) (over_one (tree query.now)) }
     ensures rows { IfOk result (λ r. normal_of r ≡ normal_of (slice_rows (tree query.now) blocks.now)) }
     ensures overflow { result ≡ Err EvalFault.Overflow → ¬ (Fit (gathered_numbers [] (tree query.now) blocks.now)) }
 {
-    let relation = match slice_of(rt, alloc, query, slicer, columns, blocks) {
+    let relation = match slice_of(alloc, query, slicer, columns, blocks) {
         Ok(relation) => relation,
         Err(fault) => return Err(fault),
     };
@@ -185,8 +128,7 @@ fn first_slice<'a>(blocks: &Blocks<'a>, size: usize) -> (Blocks<'a>, Blocks<'a>)
 }
 
 // What was gathered before a slice, and its rows.
-fn with_slice<R: Threads + Sync>(
-    rt: &R,
+fn with_slice(
     alloc: Global,
     query: &Query,
     slicer: &Slicer,
@@ -195,13 +137,13 @@ fn with_slice<R: Threads + Sync>(
     before: Gathered,
 ) -> Result<Gathered, EvalFault>
     requires by_row { WorksByRow (tree query.now) }
-    requires slicer { SlicesBy (tree query.now) columns.now slicer.now }
+    requires slicer { SlicesBy (tree query.now) columns.now blocks.now slicer.now }
     requires slice { IsBlockTable (table_of columns.now blocks.now) }
     requires typed { IsTyped (column_kinds (table_of columns.now blocks.now) ∷ []) (over_one (tree query.now)) }
     ensures rows { IfOk result (λ g. g ≡ normal_of (before ++ slice_rows (tree query.now) blocks.now)) }
     ensures overflow { result ≡ Err EvalFault.Overflow → ¬ (Fit (gathered_numbers before (tree query.now) blocks.now)) }
 {
-    let piece = match settled_slice(rt, alloc, query, slicer, columns, blocks) {
+    let piece = match settled_slice(alloc, query, slicer, columns, blocks) {
         Ok(piece) => piece,
         Err(fault) => return Err(fault),
     };
@@ -211,18 +153,9 @@ fn with_slice<R: Threads + Sync>(
     }
 }
 
-// These blocks, lent once more.
-fn lent<'a>(blocks: &Blocks<'a>) -> Blocks<'a>
-    ensures { result ≡ blocks.now }
-{
-    let (rows, extents) = blocks.parts();
-    Blocks::of(rows, extents)
-}
-
 // What is gathered of a tree that works row by row over some blocks, in slices of so many: the rows of each slice are let go
 // before those of the next are made.
-fn in_slices<R: Threads + Sync>(
-    rt: &R,
+fn in_slices(
     alloc: Global,
     query: &Query,
     slicer: &Slicer,
@@ -231,7 +164,7 @@ fn in_slices<R: Threads + Sync>(
     size: usize,
 ) -> Result<Gathered, EvalFault>
     requires works { WorksOver (tree query.now) columns.now blocks.now }
-    requires slicer { SlicesBy (tree query.now) columns.now slicer.now }
+    requires slicer { SlicesBy (tree query.now) columns.now blocks.now slicer.now }
     requires size { 0 < size }
     ensures { Gathers (tree query.now) blocks.now result }
 {
@@ -239,7 +172,7 @@ fn in_slices<R: Threads + Sync>(
     let mut rest = lent(blocks);
     while rest.len() > 0 {
         let (slice, others) = first_slice(&rest, size);
-        gathered = match with_slice(rt, alloc, query, slicer, columns, &slice, gathered) {
+        gathered = match with_slice(alloc, query, slicer, columns, &slice, gathered) {
             Ok(gathered) => gathered,
             Err(fault) => return Err(fault),
         };
@@ -262,22 +195,22 @@ fn by_shares<R: Threads + Sync>(
 ) -> Result<Gathered, EvalFault>
     requires workers { 1 ≤ workers }
     requires works { WorksOver (tree query.now) columns.now blocks.now }
-    requires slicer { SlicesBy (tree query.now) columns.now slicer.now }
+    requires slicer { SlicesBy (tree query.now) columns.now blocks.now slicer.now }
     ensures { Gathers (tree query.now) blocks.now result }
 {
     if workers == 1 {
-        return in_slices(rt, alloc, query, slicer, columns, blocks, SLICE);
+        return in_slices(alloc, query, slicer, columns, blocks, SLICE);
     }
     let parts = last_share(blocks, workers);
     let others = &parts.0;
     let share = &parts.1;
     let left = workers - 1;
     let back = move || -> Result<Gathered, EvalFault>
-        requires { IsSync R.row × WorksOver (tree query.now) columns.now share.now × SlicesBy (tree query.now) columns.now slicer.now }
+        requires { WorksOver (tree query.now) columns.now share.now × SlicesBy (tree query.now) columns.now share.now slicer.now }
         ensures { Gathers (tree query.entry.now) share.entry.now result }
-    { in_slices(rt, alloc, query, slicer, columns, share, SLICE) };
+    { in_slices(alloc, query, slicer, columns, share, SLICE) };
     let front = move || -> Result<Gathered, EvalFault>
-        requires { IsSync R.row × (1 ≤ left) × WorksOver (tree query.now) columns.now others.now × SlicesBy (tree query.now) columns.now slicer.now }
+        requires { IsSync R.row × (1 ≤ left) × WorksOver (tree query.now) columns.now others.now × SlicesBy (tree query.now) columns.now others.now slicer.now }
         ensures { Gathers (tree query.entry.now) others.entry.now result }
     { by_shares(rt, alloc, query, slicer, columns, others, left) };
     let (last, before) = join(rt, back, front);
@@ -314,7 +247,7 @@ fn put_behind(
 ///
 /// `Overflow` comes only where a number of it or of its normal form leaves 128 bits.
 pub(crate) fn by_slices<R: Threads + Sync, G: Gate + Sync>(
-    runner: &Runner<'_, R, G>,
+    crew: &Crew<'_, R, G>,
     alloc: Global,
     query: &Query,
     slicer: &Slicer,
@@ -322,15 +255,24 @@ pub(crate) fn by_slices<R: Threads + Sync, G: Gate + Sync>(
 ) -> Result<Rel<Range, Triple>, EvalFault>
     requires by_row { WorksByRow (tree query.now) }
     requires typed { IsTyped (column_kinds table.now ∷ []) (over_one (tree query.now)) }
-    requires slicer { SlicesBy (tree query.now) table.now.columns slicer.now }
+    requires slicer { SlicesBy (tree query.now) table.now.columns table.now.blocks slicer.now }
     ensures rows { IfOk result (λ r. normal_of r ≡ normal_of (slice_rows (tree query.now) table.now.blocks)) }
     ensures overflow { result ≡ Err EvalFault.Overflow → ¬ (Fit (gathered_numbers [] (tree query.now) table.now.blocks)) }
 {
     let columns = table.columns();
     let blocks = table.blocks();
-    let (rt, workers) = runner.sharing(blocks.len());
+    let (rt, workers) = crew.sharing();
+    let workers = workers_for(blocks.len(), workers);
     match by_shares(rt, alloc, query, slicer, columns, &blocks, workers) {
         Ok(gathered) => Ok(gathered.into_rows()),
         Err(fault) => Err(fault),
     }
+}
+
+// How many of so many workers share so many blocks.
+fn workers_for(count: usize, workers: usize) -> usize
+    requires { 1 ≤ workers }
+    ensures { 1 ≤ result }
+{
+    if count < FEW { 1 } else { workers }
 }

@@ -4,10 +4,11 @@ ghost use Rattle.au_value.specs.declared.kinds.Kind.{Kind};
 ghost use Rattle.au_compress.specs.Kinds.{HasKinds};
 ghost use Rattle.au_compress.specs.Splitting.{compressed as compressed_of, compressed_fits, guess_part as guess_part_of};
 ghost use Rattle.au_encode.specs.Encode.{encode as encode_of};
-ghost use Rattle.au_exec.specs.Outcomes.{rows_of};
+ghost use Rattle.au_exec.specs.HeldRows.{rows_of};
 ghost use Rattle.au_plain.specs.PlanKinds.{FitRows, FitTables};
 ghost use Rattle.au_program.specs.Sources.{part_rows};
 
+use crate::running::held::Held;
 use crate::running::input::Input;
 use au_algebra::Rel;
 use au_annot::Triple;
@@ -57,8 +58,8 @@ fn put_rows<'a>(
 {
     let mut inputs = inputs;
     let (first, second) = rows;
-    inputs.push(Input::of_rows(first))?;
-    inputs.push(Input::of_rows(second))?;
+    inputs.push(Input::of(Held::of_rows(first)))?;
+    inputs.push(Input::of(Held::of_rows(second)))?;
     Ok(inputs)
 }
 

@@ -1,5 +1,5 @@
 -- What holds of the answer of a typed tree holds of the statement's.
-use Rattle.std.proofs.Common.{◌≡◌, ap, map, subst, sym, ◌∙◌}
+use Rattle.std.proofs.Common.{◌≡◌, Some, ap, map, subst, sym, ◌∙◌}
 use Rattle.au_value.specs.Order.{data_kind}
 use Rattle.au_parse.specs.Views.{statement_tree}
 use Rattle.au_algebra.specs.Laws.{IsRelation}
@@ -12,6 +12,9 @@ use Rattle.au_engine.proofs.AskedAnswers.{asked_answered}
 use Rattle.au_engine.proofs.Shown.{as_wide}
 use Rattle.au_engine.proofs.AnswerRows.{rows_cause, made_rows_hold}
 use Rattle.au_engine.proofs.answers.answering.answer.Goals as goal
+
+pub planned_rows-rows-requires-clause-typed : goal.planned_rows-rows-requires-clause-typed
+planned_rows-rows-requires-clause-typed g c κs within = c.in-Ok.ensures.tree_kinds ∙ ap (λ ks. Some (map data_kind ks)) (sym c.deref.ensures.value)
 
 pub returns-in-Ok-answer_of_rows-clause-rows : goal.returns-in-Ok-answer_of_rows-clause-rows
 returns-in-Ok-answer_of_rows-clause-rows g c =

@@ -8,7 +8,7 @@ use Rattle.au_engine.proofs.AskedAnswers.{normal_leaves}
 use Rattle.au_engine.proofs.answers.answering.planned_rows.Goals as goal
 
 pub evaluated_by_plan-requires-clause-typed : goal.evaluated_by_plan-requires-clause-typed
-evaluated_by_plan-requires-clause-typed g c κs within = ap is_some c.requires.typed.1
+evaluated_by_plan-requires-clause-typed g c κs within = ap is_some c.requires.typed
 
 pub returns-in-Err-normal-clause-overflow : goal.returns-in-Err-normal-clause-overflow
 returns-in-Err-normal-clause-overflow g c e =

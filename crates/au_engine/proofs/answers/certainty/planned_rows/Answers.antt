@@ -4,7 +4,7 @@ use Rattle.std.proofs.Common.{ap, inr, length, map}
 use Rattle.std.proofs.lemmas.List.{length-map}
 use Rattle.au_value.specs.Order.{data_kind}
 use Rattle.au_algebra.specs.Trees.{tree}
-use Rattle.au_exec.specs.Outcomes.{rows_of}
+use Rattle.au_exec.specs.HeldRows.{rows_of}
 use Rattle.au_ua.proofs.EveryWorld.{ua_answer_holds}
 use Rattle.au_ua.proofs.PrintedFits.{ua_text_fits}
 use Rattle.au_engine.specs.Answers.{blocks_of}

@@ -1,7 +1,7 @@
 -- The rows so far, with those of the blocks that are left, are those of all blocks, whose numbers lie in the range.
 use Rattle.std.proofs.Common.{◌≡◌, ◌++◌, drop}
 use Rattle.au_plain.specs.PlanKinds.{FitRows}
-use Rattle.au_exec.specs.Outcomes.{rows_of}
+use Rattle.au_exec.specs.HeldRows.{rows_of}
 use Rattle.au_engine.specs.CountedTables.{counted_guesses}
 use Rattle.au_engine.proofs.answers.guess_counts.all_guesses.Given as goal
 

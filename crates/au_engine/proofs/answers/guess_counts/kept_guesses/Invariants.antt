@@ -2,7 +2,7 @@
 use Rattle.std.proofs.Common.{◌≡◌, ◌++◌, drop, map}
 use Rattle.au_plain.specs.Meaning.{kept}
 use Rattle.au_plain.specs.PlanKinds.{FitRows}
-use Rattle.au_exec.specs.Outcomes.{rows_of}
+use Rattle.au_exec.specs.HeldRows.{rows_of}
 use Rattle.au_engine.specs.CountedTables.{counted_guesses}
 use Rattle.au_engine.proofs.answers.guess_counts.kept_guesses.Given as goal
 

@@ -2,7 +2,7 @@
 use Rattle.std.proofs.Common.{◌≡◌, ◌++◌, drop, map}
 use Rattle.au_blocks.specs.Worlds.{guess_choice, rows_in}
 use Rattle.au_plain.specs.PlanKinds.{FitRows}
-use Rattle.au_exec.specs.Outcomes.{rows_of}
+use Rattle.au_exec.specs.HeldRows.{rows_of}
 use Rattle.au_engine.proofs.answers.guess_rows.guess_rows.Given as goal
 
 abbrev pub invariant-loop-place : goal.invariant-loop-place

@@ -2,7 +2,7 @@
 use Rattle.std.proofs.Common.{◌≡◌, ◌++◌, replicate}
 use Rattle.au_value.specs.Ranges.{guesses}
 use Rattle.au_plain.specs.PlanKinds.{FitRows}
-use Rattle.au_exec.specs.Outcomes.{rows_of}
+use Rattle.au_exec.specs.HeldRows.{rows_of}
 use Rattle.au_engine.proofs.answers.guess_rows.push_copies.Given as goal
 
 abbrev pub invariant-loop : goal.invariant-loop

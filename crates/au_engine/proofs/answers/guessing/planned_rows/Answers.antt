@@ -2,7 +2,7 @@
 use Rattle.std.specs.Prelude.{is_some}
 use Rattle.std.proofs.Common.{ap, inl, refl}
 use Rattle.au_algebra.specs.Trees.{tree}
-use Rattle.au_exec.specs.Outcomes.{rows_of}
+use Rattle.au_exec.specs.HeldRows.{rows_of}
 use Rattle.au_engine.specs.Answers.{blocks_of}
 use Rattle.au_engine.proofs.CountedGuesses.{are_counted, guess_columns_made, guess_counts_hold, guess_rows_stand}
 use Rattle.au_engine.proofs.answers.guessing.planned_rows.Goals as goal

@@ -1,14 +1,16 @@
 -- The table is there, and the rows of all its slices are those of the answer.
-use Rattle.std.proofs.Common.{◌≡◌, ◌<◌, ap, arith, length, nat_lt, sym, true, ◌∙◌}
+use Rattle.std.proofs.Common.{◌≡◌, ◌<◌, ap, arith, length, map, nat_lt, sym, true, ◌∙◌}
 use Rattle.std.proofs.lemmas.Bool.{true≢false}
 use Rattle.std.proofs.lemmas.List.{length-map}
 use Rattle.std.proofs.lemmas.Option.{slice_get_within}
 use Rattle.std.proofs.lemmas.Result.{IfOk-weaker}
+use Rattle.au_value.specs.Order.{data_kind}
 use Rattle.au_algebra.specs.Trees.{tree}
 use Rattle.au_engine.specs.Answers.{Named, blocks_of, tree_asked, tree_asked_fits}
 use Rattle.au_engine.specs.Options.{rules_of}
 use Rattle.au_engine.proofs.SliceRows.{works_by_row}
-use Rattle.au_engine.proofs.SliceRuns.{asked_by_row, asked_leaves, slicer_slices, typed_alone}
+use Rattle.au_engine.proofs.SliceCodes.{kinds_over_one, slicer_slices}
+use Rattle.au_engine.proofs.SliceRuns.{asked_by_row, asked_leaves, typed_alone}
 use Rattle.au_engine.proofs.SlicedPrograms.{sliced_there, slices_given}
 use Rattle.au_engine.proofs.TableRelations.{table_at}
 use Rattle.au_engine.proofs.running.evaluation.evaluated_in_slices.Goals as goal
@@ -32,9 +34,13 @@ by_slices-requires-clause-typed g c κs within =
 
 pub by_slices-requires-clause-slicer : goal.by_slices-requires-clause-slicer
 by_slices-requires-clause-slicer g c κs within =
+    let ts = blocks_of c.args.tables.now in
+    let q = tree c.args.query.now in
+    let t = c.in-Some.table.now.1 in
+    let ks = map data_kind c.args.kinds.now in
     let at = table_at c.args.tables.now c.args.place c.in-Some.table.now c.in-Some.ensures.lookup.3.0 c.in-Some.ensures.lookup.1 in
-    slicer_slices (tree c.args.query.now) c.in-Some.table.now.1.columns c.args.whole c.in-Ok.slicer c.in-Ok.ensures
-    (slices_given (rules_of c.args.options) (blocks_of c.args.tables.now) (tree c.args.query.now) c.requires.typed c.args.place c.args.whole c.requires.whole c.in-Some.table.now.1 at)
+    slicer_slices q t ks c.args.whole c.in-Ok.slicer c.in-Ok.ensures c.requires.whole.chain (kinds_over_one ts q c.args.place t ks c.requires.whole.table at c.requires.kinds)
+    (slices_given (rules_of c.args.options) ts q c.requires.typed c.args.place c.args.whole c.requires.whole t at)
 
 pub returns-clause-rows : goal.returns-clause-rows
 returns-clause-rows g c =

@@ -13,14 +13,14 @@ use Rattle.au_engine.proofs.running.finding.put_table.Goals as goal
 pub read_numbers-requires : goal.read_numbers-requires
 read_numbers-requires c = subst IsBlockTable (λ i. table (sym c.columns-columns.ensures.of i) (sym c.blocks-blocks.ensures.of i)) c.columns-columns.ensures.is_table
 
-pub of_blocks-requires : goal.of_blocks-requires
-of_blocks-requires c = subst IsBlockTable (λ i. table (sym c.columns-columns.ensures.of i) (sym c.blocks-blocks.ensures.of i)) c.columns-columns.ensures.is_table
+pub blocks_kept-requires-clause-table : goal.blocks_kept-requires-clause-table
+blocks_kept-requires-clause-table c = subst IsBlockTable (λ i. table (sym c.columns-columns.ensures.of i) (sym c.blocks-blocks.ensures.of i)) c.columns-columns.ensures.is_table
 
-pub returns : goal.returns
-returns c =
+pub returns-in-Ok : goal.returns-in-Ok
+returns-in-Ok c =
     let places = c.args.kept.now in
     one_read (blocks_of c.args.tables.now) c.args.place places c.in-Some.table.now.1 c.args.inputs.items c.push.new.self.items
     (table_at c.args.tables.now c.args.place c.in-Some.table.now c.in-Some.ensures.lookup.3.0 c.in-Some.ensures.lookup.1)
     c.columns-columns.ensures.is_table
     (subst (λ blocks. FitRows (encode (bounded_blocks blocks))) c.blocks-blocks.ensures.of c.read_numbers.ensures)
-    (c.in_ok-push.ensures.items ∙ ap (λ rows. c.args.inputs.items ++ rows ∷ []) (c.of_blocks.ensures ∙ ap (λ blocks. kept_rows places (encode (bounded_blocks blocks))) c.blocks-blocks.ensures.of))
+    (c.in_ok-push-in-Ok.ensures.items ∙ ap (λ rows. c.args.inputs.items ++ rows ∷ []) (c.in-Ok.ensures ∙ ap (λ blocks. kept_rows places (encode (bounded_blocks blocks))) c.blocks-blocks.ensures.of))

@@ -2,7 +2,7 @@
 use Rattle.std.specs.Prelude.{MatchOption}
 use Rattle.std.proofs.Common.{◌≡◌, ◌∙◌, ℕ, Option, ap, map, subst, Vec, Global}
 use Rattle.std.proofs.lemmas.Result.{IfOk-weaker}
-use Rattle.au_exec.specs.Outcomes.{rows_of}
+use Rattle.au_exec.specs.HeldRows.{rows_of}
 use Rattle.au_physical.specs.Physicals.{physical_tree}
 use Rattle.au_plain.specs.Meaning.{kept}
 use Rattle.au_plan.specs.Narrowing.{Narrows}

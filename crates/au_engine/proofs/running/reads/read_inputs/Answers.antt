@@ -1,18 +1,17 @@
 -- The rows that the plan reads of one more input.
 use Rattle.std.specs.Prelude.{◌++◌}
-use Rattle.std.proofs.Common.{map, subst, sym}
+use Rattle.std.proofs.Common.{subst, sym}
 use Rattle.std.specs.Vec.Iter.{into_iter_items}
 use Rattle.au_physical.specs.Physicals.{physical_tree}
 use Rattle.au_plain.specs.PlanKinds.{FitTables}
-use Rattle.au_exec.specs.Outcomes.{rows_of}
 use Rattle.au_program.specs.Inputs.{ReadsAll}
 use Rattle.au_program.proofs.ReadRows.{next_read}
 use Rattle.au_engine.proofs.running.reads.read_inputs.Goals as goal
 
 pub loop-input-preserved : goal.loop-input-preserved
-loop-input-preserved g c =
-    let done = map rows_of c.loop-input.tables.items in
-    let now = map rows_of c.read_next.new.tables.items in
+loop-input-preserved c =
+    let done = c.loop-input.held.items in
+    let now = c.read_next.new.held.items in
     let later = into_iter_items c.next.new.self in
     let whole = c.args.inputs.items in
     let first = physical_tree c.args.plan.now in

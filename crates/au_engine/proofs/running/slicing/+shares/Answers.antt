@@ -2,6 +2,7 @@
 use Rattle.std.proofs.Common.{rules}
 use denote.Param.Send.{sendable}
 use Rattle.au_algebra.specs.Trees.{tree}
+use Rattle.au_engine.proofs.SliceCodes.{first_slicer, others_slicer}
 use Rattle.au_engine.proofs.SharedRows.{back_works, front_works, gathers_both}
 use Rattle.au_engine.proofs.running.slicing.+shares.Goals as goal
 
@@ -13,7 +14,8 @@ join-last-requires-after_bounds g t c κs within =
     let back = c.last_share-parts.result.1 in
     let first = front_works q columns front back c.args.blocks.now c.last_share-parts.ensures c.requires.works in
     let second = back_works q columns front back c.args.blocks.now c.last_share-parts.ensures c.requires.works in
-    let slices = c.requires.slicer in
+    let first_slices = first_slicer q columns front back c.args.blocks.now c.last_share-parts.ensures c.args.slicer.now c.requires.slicer in
+    let second_slices = others_slicer q columns front back c.args.blocks.now c.last_share-parts.ensures c.args.slicer.now c.requires.slicer in
     search (rules, sendable) depth 20
 
 pub returns : goal.returns

@@ -18,7 +18,9 @@ by_shares-requires-clause-works g c κs within = (
 )
 
 pub by_shares-requires-clause-slicer : goal.by_shares-requires-clause-slicer
-by_shares-requires-clause-slicer g c κs within = subst (λ columns. SlicesBy (tree c.args.query.now) columns c.args.slicer.now) (sym c.columns-columns.ensures.of) c.requires.slicer
+by_shares-requires-clause-slicer g c κs within =
+    subst (λ columns. SlicesBy (tree c.args.query.now) columns c.blocks-blocks.result c.args.slicer.now) (sym c.columns-columns.ensures.of)
+    (subst (λ blocks. SlicesBy (tree c.args.query.now) c.args.table.now.columns blocks c.args.slicer.now) (sym c.blocks-blocks.ensures.of) c.requires.slicer)
 
 pub returns-in-Ok-clause-rows : goal.returns-in-Ok-clause-rows
 returns-in-Ok-clause-rows g c =

@@ -11,17 +11,17 @@ use Rattle.au_engine.specs.Slicing.{slice_numbers, slice_rows}
 use Rattle.au_engine.proofs.running.slicing.settled_slice.Goals as goal
 
 pub returns-in-Err-clause-overflow : goal.returns-in-Err-clause-overflow
-returns-in-Err-clause-overflow g c e f =
+returns-in-Err-clause-overflow c e f =
     let q = tree c.args.query.now in
     let blocks = c.args.blocks.now in
     let is : c.in-Err.fault ≡ Overflow = cc in
     c.in-Err.ensures.overflow (λ i. Err (is i)) (fit_parts (slice_numbers q blocks) (triple_numbers (normal (slice_rows q blocks))) f).0
 
 pub returns-in-Ok-normal-clause-rows : goal.returns-in-Ok-normal-clause-rows
-returns-in-Ok-normal-clause-rows g c = ap normal c.in-Ok-normal.ensures.form ∙ normal_twice c.in-Ok.relation ∙ c.in-Ok.ensures.rows
+returns-in-Ok-normal-clause-rows c = ap normal c.in-Ok-normal.ensures.form ∙ normal_twice c.in-Ok.relation ∙ c.in-Ok.ensures.rows
 
 pub returns-in-Err-normal-clause-overflow : goal.returns-in-Err-normal-clause-overflow
-returns-in-Err-normal-clause-overflow g c e f =
+returns-in-Err-normal-clause-overflow c e f =
     let q = tree c.args.query.now in
     let blocks = c.args.blocks.now in
     let inside = (fit_parts (slice_numbers q blocks) (triple_numbers (normal (slice_rows q blocks))) f).1 in

@@ -10,7 +10,7 @@ use Rattle.au_engine.proofs.ScanRows.{scan_rows}
 use Rattle.au_engine.proofs.running.slicing.slice_of.Goals as goal
 
 pub returns-in-Ok-clause-rows : goal.returns-in-Ok-clause-rows
-returns-in-Ok-clause-rows g c =
+returns-in-Ok-clause-rows c =
     let columns = c.args.columns.now in
     let wide = sym (length-map columns (λ (x : Column). data_kind x.kind)) in
     ap normal (c.in-Ok.ensures ∙ sym (scan_rows (tree c.args.query.now) (table columns c.args.blocks.now) (length columns) wide c.requires.slice (c.is_scan.ensures c.if-is_scan.true)))

@@ -12,7 +12,7 @@ use Rattle.au_engine.proofs.SliceRows.{back_fits}
 use Rattle.au_engine.proofs.running.slicing.with_slice.Goals as goal
 
 pub returns-in-Err-clause-overflow : goal.returns-in-Err-clause-overflow
-returns-in-Err-clause-overflow g c e f =
+returns-in-Err-clause-overflow c e f =
     let q = tree c.args.query.now in
     let blocks = c.args.blocks.now in
     let is : c.in-Err.fault ≡ Overflow = cc in
@@ -20,12 +20,12 @@ returns-in-Err-clause-overflow g c e f =
     c.in-Err.ensures.overflow (λ i. Err (is i)) (fit_both (slice_numbers q blocks) (triple_numbers (normal (slice_rows q blocks))) parts.0 (back_fits c.args.before (slice_rows q blocks) parts.1))
 
 pub returns-in-Ok-put-clause-rows : goal.returns-in-Ok-put-clause-rows
-returns-in-Ok-put-clause-rows g c =
+returns-in-Ok-put-clause-rows c =
     c.in-Ok-put.ensures.rows
     ∙ normal_append c.args.before c.in-Ok.piece c.args.before (slice_rows (tree c.args.query.now) c.args.blocks.now) refl c.in-Ok.ensures.rows
 
 pub returns-in-Err-put-clause-overflow : goal.returns-in-Err-put-clause-overflow
-returns-in-Err-put-clause-overflow g c e f =
+returns-in-Err-put-clause-overflow c e f =
     let q = tree c.args.query.now in
     let blocks = c.args.blocks.now in
     let inside : triples_fit (normal (c.args.before ++ slice_rows q blocks)) ≡ true =

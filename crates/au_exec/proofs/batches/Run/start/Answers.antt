@@ -2,10 +2,9 @@
 use Rattle.std.proofs.Common.{rules, ◌≡◌, map, subst, sym}
 use Rattle.au_physical.specs.declared.physical.Physical.{Physical}
 use Rattle.au_physical.specs.Physicals.{physical_tree}
-use Rattle.au_exec.specs.CanOpen.{CanOpen}
-use Rattle.au_exec.specs.Outcomes.{rows_of}
+use Rattle.au_physical.specs.PhysicalKinds.{IsPhysicalFor}
+use Rattle.au_exec.specs.HeldRows.{rows_of}
 use Rattle.au_exec.proofs.Advancing.{same_fit}
-use Rattle.au_exec.proofs.TypedPhysical.{can_open}
 use Rattle.au_exec.proofs.batches.Run.start.Goals as goal
 
 pub invariant_of-result : goal.invariant_of-result
@@ -14,7 +13,7 @@ invariant_of-result g c =
     let is : c.in_ok-plan.plan.value ≡ c.args.plan = search (rules, c.in_ok-plan.ensures) in (
       c.requires.workers,
       record {
-        can = λ none. subst (λ (p : Physical). CanOpen ts (physical_tree p)) (sym is) (can_open ts (physical_tree c.args.plan) c.requires.plan);
+        can = λ none. subst (λ (p : Physical). IsPhysicalFor ts (physical_tree p)) (sym is) c.requires.plan;
         same = λ none. same_fit c.args.plan c.in_ok-plan.plan.value c.of-given.result.value c.args.tables c.of.result.value is c.of-given.ensures c.of.ensures;
         over = λ never. cc;
       },
