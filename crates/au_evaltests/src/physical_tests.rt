@@ -3,7 +3,7 @@ ghost use Rattle.std.specs.Prelude.{◌≡◌, ◌∷◌, [], IfOk, map};
 ghost use Rattle.std.specs.List.{AllZip};
 ghost use Rattle.au_plain.specs.PlanKinds.{HaveKinds};
 ghost use Rattle.au_plain.specs.Plans.{plan_tree};
-ghost use Rattle.au_exec.specs.Outcomes.{rows_of};
+ghost use Rattle.au_exec.specs.HeldRows.{rows_of};
 ghost use Rattle.au_evaltests.specs.Typed.{IsTypedPlan, test_table_kinds};
 
 use crate::cases::{Call, given_and_wanted, judge};
@@ -347,20 +347,20 @@ fn judge_sizes(rt: &(impl Abort + Threads + Sync), alloc: Global, cases: &str) -
     Ok(())
 }
 
-// How many rows each batch has, over tables of so many rows: at most 256, and none is filled up with rows of the next.
+// How many rows each batch has, over tables of so many rows: 256, and the last one what is left.
 const SIZES: &str = "SELECT c0, c1, c2 FROM t0 | 0 -> Ok([]) true
 SELECT c0, c1, c2 FROM t0 | 1 -> Ok([1]) true
 SELECT c0, c1, c2 FROM t0 | 256 -> Ok([256]) true
 SELECT c0, c1, c2 FROM t0 | 257 -> Ok([256, 1]) true
 SELECT c0, c1, c2 FROM t0 | 600 -> Ok([256, 256, 88]) true
 SELECT * FROM (SELECT c0, c1, c2 FROM t0) x WHERE (c0 < 258) | 600 -> Ok([256, 2]) true
-SELECT * FROM (SELECT c0, c1, c2 FROM t0) x WHERE (400 <= c0) | 600 -> Ok([112, 88]) true
-(SELECT c0, c1, c2 FROM t0) UNION ALL (SELECT c0, c1, c2 FROM t0) | 200 -> Ok([200, 200]) true
+SELECT * FROM (SELECT c0, c1, c2 FROM t0) x WHERE (400 <= c0) | 600 -> Ok([200]) true
+(SELECT c0, c1, c2 FROM t0) UNION ALL (SELECT c0, c1, c2 FROM t0) | 200 -> Ok([256, 144]) true
 SELECT c1 AS c0, SUM(c0) AS c1 FROM (SELECT c0, c1, c2 FROM t0) x GROUP BY c1 | 300 -> Ok([1]) true
 SELECT c0 AS c0, SUM(c0) AS c1 FROM (SELECT c0, c1, c2 FROM t0) x GROUP BY c0 | 300 -> Ok([256, 44]) true
 SELECT x.c0 AS c0, x.c1 AS c1, x.c2 AS c2, y.c0 AS c3, y.c1 AS c4, y.c2 AS c5 FROM (SELECT c0, c1, c2 FROM t0) x, (SELECT c0, c1, c2 FROM t0) y WHERE (x.c0 = y.c0) | 300 -> Ok([256, 44]) true
-SELECT x.c0 AS c0, x.c1 AS c1, x.c2 AS c2, y.c0 AS c3, y.c1 AS c4, y.c2 AS c5 FROM (SELECT c0, c1, c2 FROM t0) x, (SELECT c0, c1, c2 FROM t0) y WHERE (x.c0 < y.c0) | 24 -> Ok([256, 5, 15]) true
-SELECT x.c0 AS c0, x.c1 AS c1, x.c2 AS c2, y.c0 AS c3, y.c1 AS c4, y.c2 AS c5 FROM (SELECT c0, c1, c2 FROM t0) x, (SELECT c0, c1, c2 FROM t0) y WHERE (x.c1 = y.c1) | 17 -> Ok([256, 16, 17]) true";
+SELECT x.c0 AS c0, x.c1 AS c1, x.c2 AS c2, y.c0 AS c3, y.c1 AS c4, y.c2 AS c5 FROM (SELECT c0, c1, c2 FROM t0) x, (SELECT c0, c1, c2 FROM t0) y WHERE (x.c0 < y.c0) | 24 -> Ok([256, 20]) true
+SELECT x.c0 AS c0, x.c1 AS c1, x.c2 AS c2, y.c0 AS c3, y.c1 AS c4, y.c2 AS c5 FROM (SELECT c0, c1, c2 FROM t0) x, (SELECT c0, c1, c2 FROM t0) y WHERE (x.c1 = y.c1) | 17 -> Ok([256, 33]) true";
 
 #[test]
 fn chosen_operators(rt: HostRuntime) -> Result<(), Fail> {

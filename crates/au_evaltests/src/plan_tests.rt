@@ -4,7 +4,7 @@ ghost use Rattle.std.specs.List.{AllZip};
 ghost use Rattle.au_value.specs.Order.{kind_of};
 ghost use Rattle.au_plain.specs.PlanKinds.{HaveKinds};
 ghost use Rattle.au_plain.specs.Plans.{plan_tree};
-ghost use Rattle.au_exec.specs.Outcomes.{rows_of};
+ghost use Rattle.au_exec.specs.HeldRows.{rows_of};
 ghost use Rattle.au_evaltests.specs.Typed.{IsTypedPlan, test_table_kinds};
 
 use crate::cases::{Call, judge};

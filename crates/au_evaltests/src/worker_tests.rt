@@ -1,20 +1,19 @@
 //! Physical plans that several workers share: the rows are those of one worker.
-ghost use Rattle.std.specs.Prelude.{◌≡◌, ◌≤◌, ◌∷◌, [], ⊤, length, map};
+ghost use Rattle.std.specs.Prelude.{◌≡◌, ◌≤◌, ◌∷◌, [], map};
 ghost use Rattle.std.specs.List.{AllZip};
 ghost use Rattle.au_plain.specs.PlanKinds.{HaveKinds};
 ghost use Rattle.au_plain.specs.Plans.{plan_tree};
-ghost use Rattle.au_exec.specs.Outcomes.{rows_of};
+ghost use Rattle.au_exec.specs.HeldRows.{rows_of};
 ghost use Rattle.au_evaltests.specs.Typed.{IsTypedPlan, test_table_kinds};
 
 use crate::gates::{Counts, HoldFirst, Meeting};
 use crate::physical_tests::JOINS;
 use crate::plan_tests::{OPERATORS, plain_text, tables, typed_plan};
-use au_exec::{Convert, Run};
+use au_exec::Run;
 use au_expr::EvalFault;
 use au_par::{Gate, NoGate};
 use au_plain::{PRow, Plan};
 use au_plan::improve;
-use au_value::NoMemory;
 use std::alloc::Global;
 use std::process::Abort;
 use std::sync::atomic::Ordering::SeqCst;
@@ -133,62 +132,6 @@ fn partners_by_workers(rt: HostRuntime) -> Result<(), Fail> {
 
 const JOINED: &str =
     "SELECT x.c0 AS c0, x.c1 AS c1, x.c2 AS c2, y.c0 AS c3, y.c1 AS c4, y.c2 AS c5 FROM (SELECT c0, c1, c2 FROM t0) x, (SELECT c0, c1, c2 FROM t0) y WHERE (x.c0 = y.c0) | 1 a true; 2 b true";
-
-// How many rows there are.
-struct Counting;
-
-impl Convert<usize> for Counting {
-    ghost takes = { λ _ _. ⊤ };
-
-    ghost converted = { λ _ rows. length rows };
-
-    fn convert(&self, _alloc: Global, rows: Vec<PRow>) -> Result<usize, NoMemory> {
-        Ok(rows.len())
-    }
-}
-
-// How many rows each part has of those of a plan, by so many workers.
-fn parts_by<R: Threads + Sync>(
-    rt: &R,
-    alloc: Global,
-    plan: Plan,
-    tables: Vec<Vec<PRow>>,
-    workers: usize,
-) -> Result<Vec<usize>, EvalFault>
-    requires tables { AllZip HaveKinds (test_table_kinds ∷ []) (map rows_of tables.items) }
-    requires plan { IsTypedPlan (plan_tree plan) }
-    requires workers { (1 ≤ workers) × (workers ≤ 64) }
-{
-    let physical = improve(alloc, plan)?;
-    let run = Run::start(alloc, physical, tables, workers, NoGate)?;
-    run.converted(rt, &Counting)
-}
-
-// Each number of workers converts all rows, and each of several workers a part of them.
-const CONVERTED: &str =
-    "SELECT x.c0 AS c0, x.c1 AS c1, x.c2 AS c2, y.c0 AS c3, y.c1 AS c4, y.c2 AS c5 FROM (SELECT c0, c1, c2 FROM t0) x, (SELECT c0, c1, c2 FROM t0) y WHERE (x.c0 = y.c0)
-SELECT * FROM (SELECT x.c0 AS c0, x.c1 AS c1, x.c2 AS c2, y.c0 AS c3, y.c1 AS c4, y.c2 AS c5 FROM (SELECT c0, c1, c2 FROM t0) x, (SELECT c0, c1, c2 FROM t0) y WHERE ((x.c0 <= y.c0) AND (y.c0 <= x.c0))) x WHERE c5
-SELECT c0, c1, c2 FROM t0";
-
-#[test]
-fn parts_by_workers(rt: HostRuntime) -> Result<(), Fail> {
-    let alloc = rt.alloc();
-    for text in CONVERTED.lines() {
-        for workers in [1, 2, 3, 64] {
-            let given = with_thousand(alloc, text)?;
-            let (text, table) = given.split_once(" | ").ok_or("a table")?;
-            let tables = tables(&rt, alloc, table)?;
-            let plan = typed_plan(alloc, text)?;
-            let parts = parts_by(&rt, alloc, plan, tables, workers)?;
-            let mut count: usize = 0;
-            for part in &parts {
-                count = count.saturating_add(*part);
-            }
-            assert_eq!(rt; count, 1000, "{workers} workers: {text}");
-        }
-    }
-    Ok(())
-}
 
 #[test]
 fn run_pieces_meet(rt: HostRuntime) -> Result<(), Fail> {

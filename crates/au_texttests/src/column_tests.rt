@@ -2,14 +2,15 @@
 use crate::cases::{Call, judge};
 use crate::value_tests::values;
 use au_codes::{Codebook, LongTexts, code};
-use au_columns::{Batch, Column, evaluate, is_chain, run_chain};
-use au_physical::Physical;
+use au_columns::{Batch, Column, evaluate, run_chain};
+use au_physical::{Physical, is_chain};
 use au_plain::{Comparison2, PExpr};
 use au_value::{NoMemory, Value};
 use std::alloc::Global;
 use std::test::Fail;
 
-fn column(alloc: Global, place: usize) -> Result<Box<PExpr>, NoMemory> {
+/// The column of a place.
+pub(crate) fn column(alloc: Global, place: usize) -> Result<Box<PExpr>, NoMemory> {
     Ok(Box::new(alloc, PExpr::Column(place))?)
 }
 
@@ -63,8 +64,8 @@ fn numbers(alloc: Global, book: &Codebook, values: &[Value], first: usize) -> Re
     Ok(column)
 }
 
-// Rows of two values each.
-fn pairs(alloc: Global, given: &str) -> Result<Batch, Fail> {
+/// Rows of two values each.
+pub(crate) fn pairs(alloc: Global, given: &str) -> Result<Batch, Fail> {
     let values = values(alloc, given)?;
     let book = LongTexts::new(alloc).book()?;
     let left = numbers(alloc, &book, values.as_slice(), 0)?;
@@ -129,7 +130,8 @@ fn made_chain(alloc: Global) -> Result<Physical, NoMemory> {
     Ok(Physical::Keep(vec![in alloc; 2, 1]?, filtered))
 }
 
-fn rows_text(alloc: Global, rows: &Batch) -> Result<String, Fail> {
+/// The two numbers of each row.
+pub(crate) fn rows_text(alloc: Global, rows: &Batch) -> Result<String, Fail> {
     let mut text = String::new(alloc);
     for row in 0..rows.len() {
         let sum = rows.cell(row, 0);

@@ -1,5 +1,5 @@
 //! Tests of the calls that read and write texts: values, codes, records, table files, tokens, statements, types, words
-//! and generated tables.
+//! and generated tables; and of columns of codes, with the chains and groups over them.
 //!
 //! It has no code of its own. A test is a table of cases, `GIVEN -> WANTED` on a line each: what a call is given, and its
 //! result as a text. In what is given `~` is an LF, `^` a CR, `#` a byte that begins no character, and `«33 (»` thirty-three
@@ -14,6 +14,8 @@
 #![tactic(auto)]
 
 #[cfg(test)]
+mod batch_tests;
+#[cfg(test)]
 mod cases;
 #[cfg(test)]
 mod code_tests;
@@ -21,6 +23,8 @@ mod code_tests;
 mod column_tests;
 #[cfg(test)]
 mod csv_tests;
+#[cfg(test)]
+mod fold_tests;
 #[cfg(test)]
 mod gen_tests;
 #[cfg(test)]

@@ -2,7 +2,7 @@
 use Rattle.std.proofs.Common.{map, rules}
 use Rattle.au_plain.specs.Plans.{plan_tree}
 use Rattle.au_physical.specs.Physicals.{physical_tree}
-use Rattle.au_exec.specs.Outcomes.{rows_of}
+use Rattle.au_exec.specs.HeldRows.{rows_of}
 use Rattle.au_evaltests.proofs.Held.{physical_for}
 use Rattle.au_evaltests.proofs.physical_tests.run_of.Goals as goal
 

@@ -2,7 +2,7 @@
 use Rattle.std.proofs.Common.{map}
 use Rattle.au_plain.specs.Plans.{plan_tree}
 use Rattle.au_physical.specs.Physicals.{physical_tree}
-use Rattle.au_exec.specs.Outcomes.{rows_of}
+use Rattle.au_exec.specs.HeldRows.{rows_of}
 use Rattle.au_evaltests.proofs.Held.{physical_for}
 use Rattle.au_evaltests.proofs.worker_tests.rows_by.Goals as goal
 
