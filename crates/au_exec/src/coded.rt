@@ -86,7 +86,7 @@ impl Coded {
     }
 
     /// The rows as they are held.
-    pub fn batch(&self) -> &Batch {
+    pub(crate) fn batch(&self) -> &Batch {
         &self.batch
     }
 
