@@ -65,7 +65,6 @@ pub mod Runs
 pub mod StrictRows
 pub mod TripleFits
 pub mod MergedRuns
-pub mod Gathering
 pub mod ByProduct
 pub mod AnyProduct
 pub mod FirstSeen

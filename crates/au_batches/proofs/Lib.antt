@@ -1,7 +1,10 @@
-mod CodedRows
 mod DecodedCells
 mod EncodedPlaces
 mod KnownParts
+mod ListEnds
+mod ListedPlaces
 mod PlaceColumns
+mod SharedColumns
+mod ShortTexts
 mod PlaceTexts
 mod TextPlaces

@@ -23,6 +23,7 @@ pub mod ReadTables
 pub mod RowsMade
 pub mod RunEntries
 pub mod TableParts
+pub mod SingleValues
 pub mod Tallying
 pub mod WellFormed
 pub mod Widths

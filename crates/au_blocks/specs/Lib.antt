@@ -23,3 +23,4 @@ pub mod Tallies
 pub mod Columns
 pub mod Held
 pub mod Laid
+pub mod Singles

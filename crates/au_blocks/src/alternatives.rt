@@ -1,13 +1,16 @@
 //! The alternatives of all blocks of a table.
-ghost use Rattle.std.specs.Prelude.{◌≡◌, ◌+◌, ◌≤◌, ◌<◌, Some, length, slice_get, get_or, map};
+ghost use Rattle.std.specs.Prelude.{◌≡◌, ◌+◌, ◌≤◌, ◌<◌, IfSome, Some, length, slice_get, get_or, map};
 ghost use Rattle.au_blocks.specs.Blocks.{IsCopies, once};
 ghost use Rattle.au_blocks.specs.Laid.{AreLong, alternative_at, rows_of};
 ghost use Rattle.au_blocks.specs.Scalars.{scalar_value};
+ghost use Rattle.au_blocks.specs.Singles.{HaveCopies, HaveValues};
+ghost use Rattle.au_value.specs.declared.value.Value.TheVariants as value;
 
 use crate::cells::Cells;
 use crate::item::item;
 use crate::scalar::Scalar;
 use crate::times::Times;
+use au_value::Word;
 use std::marker::Model;
 
 /// The alternatives of all blocks of a table, block behind block, held by columns. Contracts see their list. Where each
@@ -50,6 +53,35 @@ impl Alternatives {
         ensures { result ≡ first + count }
     {
         first.saturating_add(count).min(self.count)
+    }
+
+    /// The numbers in a column, one for each alternative, lent, where each is known and all are held in 64 bits.
+    pub fn numbers(&self, column: usize) -> Option<&[i64]>
+        ensures { IfSome result (λ numbers. HaveValues self.now column (map value.Int numbers.now)) }
+    {
+        if column < self.columns.len() {
+            item(&self.columns, column).as_numbers()
+        } else {
+            None
+        }
+    }
+
+    /// The texts in a column, one for each alternative, lent, where each is known.
+    pub fn texts(&self, column: usize) -> Option<&[Word]>
+        ensures { IfSome result (λ texts. HaveValues self.now column (map value.Text texts.now)) }
+    {
+        if column < self.columns.len() {
+            item(&self.columns, column).as_texts()
+        } else {
+            None
+        }
+    }
+
+    /// The numbers of copies of the first alternatives, so many as are listed. Each of the others stands once.
+    pub fn listed_times(&self) -> &[Times]
+        ensures { HaveCopies self.now result.now }
+    {
+        self.times.as_slice()
     }
 
     // How many cells each has.

@@ -2,6 +2,7 @@
 ghost use Rattle.std.specs.Prelude.{◌≡◌};
 ghost use Rattle.au_blocks.specs.Blocks.{IsBlock};
 ghost use Rattle.au_blocks.specs.Held.{IsWithin, block_at};
+ghost use Rattle.au_blocks.specs.Singles.{stands_once};
 
 use crate::alternatives::Alternatives;
 use crate::candidates::Candidates;
@@ -57,5 +58,16 @@ impl<'a> Block<'a> {
         ensures is_block { IsBlock self.now }
     {
         self.extent.guess
+    }
+
+    // Whether it is one alternative that stands once, in every world.
+    pub(crate) fn stands_once(&self) -> bool
+        ensures { result ≡ stands_once self.now }
+    {
+        let alternatives = self.alternatives();
+        if alternatives.len() != 1 || self.optional() {
+            return false;
+        }
+        alternatives.get(0).times().is_once()
     }
 }

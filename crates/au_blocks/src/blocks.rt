@@ -1,7 +1,8 @@
 //! The blocks of a table.
 ghost use Rattle.std.specs.Prelude.{◌≡◌, ◌≤◌, ◌<◌, ◌∷◌, [], Some, length, slice_get, take, drop, MatchOption};
-ghost use Rattle.std.specs.List.{All};
+ghost use Rattle.std.specs.List.{All, list_all};
 ghost use Rattle.au_blocks.specs.Held.{IsWithin, held};
+ghost use Rattle.au_blocks.specs.Singles.{stands_once};
 
 use crate::alternatives::Alternatives;
 use crate::block::Block;
@@ -83,4 +84,24 @@ impl<'a> Blocks<'a> {
         let back = Blocks::of(self.rows, others);
         (front, back)
     }
+
+    /// Whether each block is one alternative that stands once, in every world.
+    pub fn stand_once(&self) -> bool
+        ensures { result ≡ list_all stands_once self.now }
+    {
+        all_stand_once(self.rows, self.extents)
+    }
+}
+
+// The same of the blocks of these places.
+fn all_stand_once(rows: &Alternatives, extents: &[Extent]) -> bool
+    requires { All (IsWithin rows.now) extents.now }
+    ensures { result ≡ list_all stands_once (held rows.now extents.now) }
+{
+    for extent in extents {
+        if !Block::of(rows, extent).stands_once() {
+            return false;
+        }
+    }
+    true
 }

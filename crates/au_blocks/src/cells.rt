@@ -1,5 +1,5 @@
 //! The cells of a column.
-ghost use Rattle.std.specs.Prelude.{◌≡◌, ◌<◌, length, map};
+ghost use Rattle.std.specs.Prelude.{◌≡◌, ◌<◌, IfSome, length, map};
 ghost use Rattle.au_value.specs.declared.value.Value.TheVariants as value;
 ghost use Rattle.au_value.specs.Ranges.{certain};
 ghost use Rattle.au_blocks.specs.Spans.{cell_at, lent_span};
@@ -119,6 +119,26 @@ impl Cells {
         match self.lent(place) {
             Lent::Certain(value) => value,
             Lent::Mixed(cell) => Scalar::of(cell.hi()),
+        }
+    }
+
+    /// Its numbers, lent, where it has numbers of 64 bits alone.
+    pub(crate) fn as_numbers(&self) -> Option<&[i64]>
+        ensures { IfSome result (λ numbers. self.now ≡ map (λ n. certain (value.Int n)) numbers.now) }
+    {
+        match &self.held {
+            Held::Narrow(numbers) => Some(numbers),
+            _ => None,
+        }
+    }
+
+    /// Its texts, lent, where it has texts alone.
+    pub(crate) fn as_texts(&self) -> Option<&[Word]>
+        ensures { IfSome result (λ texts. self.now ≡ map (λ t. certain (value.Text t)) texts.now) }
+    {
+        match &self.held {
+            Held::Texts(texts) => Some(texts),
+            _ => None,
         }
     }
 

@@ -1,6 +1,7 @@
 //! How often a row may stand in a table.
 ghost use Rattle.std.specs.Prelude.{◌≡◌};
 ghost use Rattle.au_blocks.specs.Blocks.{IsCopies, copies_of, once};
+ghost use Rattle.au_blocks.specs.Singles.{is_once};
 
 use std::marker::Model;
 
@@ -54,6 +55,13 @@ impl Times {
             guess: self.guess,
             most: self.most,
         }
+    }
+
+    // Whether it is one copy.
+    pub(crate) fn is_once(&self) -> bool
+        ensures { result ≡ is_once self.now }
+    {
+        self.least == 1 && self.guess == 1 && self.most == 1
     }
 
     /// The least number of copies.

@@ -1,6 +1,7 @@
 //! The text of the answer of a statement over tables.
 ghost use Rattle.std.specs.Prelude.{◌≡◌, ◌≤◌, ◌&&◌, length, None, OnOk, IfOk, IfErr, [], true};
 ghost use Rattle.std.specs.List.{AllByRecursion};
+ghost use Rattle.au_encode.specs.Encode.{AreEncoded, decode};
 ghost use Rattle.au_parse.specs.Views.{statement_tree};
 ghost use Rattle.au_parse.specs.Whole.{WholeQuery};
 ghost use Rattle.au_print.specs.GuessTexts.{counts_fit, world_rows, world_text};
@@ -16,21 +17,18 @@ ghost use Rattle.au_words.specs.Words.{greatest_workers};
 
 use au_blocks::Table;
 use au_engine::{
-    EngineFault, Options, answer, answer_directly, explained_text, guess_answer, rewritten_text,
-    ua_answer,
+    CodedAnswer, EngineFault, Options, answer, answer_directly, coded_answer, explained_text,
+    guess_answer, rewritten_text, ua_answer,
 };
 use au_expr::EvalFault;
-use au_par::{Gate, let_go};
+use au_par::Gate;
 use au_parse::Statement;
-use au_print::{Answer, csv_text, csv_text_by, guess_text, table_text};
+use au_print::{Answer, LentAnswer, coded_csv_by, csv_text, guess_text, table_text};
 use au_ua::ua_text;
 use au_value::{NoMemory, Word};
 use au_words::{Command, Form, Request};
 use std::alloc::Global;
 use std::thread::Threads;
-
-// An answer of fewer rows is given back in place: a thread costs more than what it saves on them.
-const FEW: usize = 4096;
 
 /// The text of what a request asks for, over its tables.
 pub(crate) fn answer_text<R: Threads + Sync, G: Gate + Sync>(
@@ -87,9 +85,81 @@ fn planned_text<R: Threads + Sync, G: Gate + Sync>(
     ensures holds { OnOk result (RowsHold tables.now (statement_tree statement.now) (asked_rows (rules_of options) options.combine tables.now (statement_tree statement.now))) }
     ensures refused { IfErr result (AnswerCause (statement_defects tables.now (statement_tree statement.now)) (asked_fits (rules_of options) options.combine tables.now (statement_tree statement.now))) }
 {
+    match form {
+        Form::Csv => csv_answer(rt, alloc, statement, tables, options, gate),
+        Form::Table => table_answer(rt, alloc, statement, tables, options, gate),
+    }
+}
+
+// The bounded answer as CSV, which the workers write from the codes of its rows.
+fn csv_answer<R: Threads + Sync, G: Gate + Sync>(
+    rt: &R,
+    alloc: Global,
+    statement: &Statement,
+    tables: &[(Word, Table)],
+    options: Options,
+    gate: G,
+) -> Result<Vec<u8>, EngineFault>
+    requires whole { WholeQuery (statement_tree statement.now) }
+    requires workers { (1 ≤ options.workers) × (options.workers ≤ greatest_workers) }
+    requires compression { IsCompression options.compress }
+    ensures typed { OnOk result (statement_defects tables.now (statement_tree statement.now) ≡ []) }
+    ensures text { IfOk result (λ t. t.items ≡ bounded_rows_text Form.Csv (answer_names tables.now (statement_tree statement.now)) (answer_kinds tables.now (statement_tree statement.now)) (asked_rows (rules_of options) options.combine tables.now (statement_tree statement.now))) }
+    ensures holds { OnOk result (RowsHold tables.now (statement_tree statement.now) (asked_rows (rules_of options) options.combine tables.now (statement_tree statement.now))) }
+    ensures refused { IfErr result (AnswerCause (statement_defects tables.now (statement_tree statement.now)) (asked_fits (rules_of options) options.combine tables.now (statement_tree statement.now))) }
+{
     let workers = options.workers;
+    match coded_answer(rt, alloc, statement, tables, options, gate) {
+        Ok(answer) => match coded_text(rt, alloc, workers, &answer) {
+            Ok(text) => Ok(text),
+            Err(NoMemory) => Err(EngineFault::NoMemory),
+        },
+        Err(fault) => Err(fault),
+    }
+}
+
+// An answer whose rows are coded, as CSV.
+fn coded_text<R: Threads + Sync>(
+    rt: &R,
+    alloc: Global,
+    workers: usize,
+    answer: &CodedAnswer,
+) -> Result<Vec<u8>, NoMemory>
+    requires workers { 1 ≤ workers }
+    requires columns { length answer.now.kinds.items ≡ length answer.now.names.items }
+    requires rows { AreEncoded (length answer.now.kinds.items) answer.now.rows }
+    ensures { IfOk result (λ t. t.items ≡ bounded_rows_text Form.Csv answer.now.names.items answer.now.kinds.items (decode (length answer.now.kinds.items) answer.now.rows)) }
+{
+    let (book, value_kinds, batch) = answer.rows.parts();
+    let lent = LentAnswer {
+        names: answer.names.as_slice(),
+        kinds: answer.kinds.as_slice(),
+        book,
+        value_kinds,
+        batch,
+    };
+    coded_csv_by(rt, alloc, workers, &lent)
+}
+
+// The bounded answer as a table for the eye.
+fn table_answer<R: Threads + Sync, G: Gate + Sync>(
+    rt: &R,
+    alloc: Global,
+    statement: &Statement,
+    tables: &[(Word, Table)],
+    options: Options,
+    gate: G,
+) -> Result<Vec<u8>, EngineFault>
+    requires whole { WholeQuery (statement_tree statement.now) }
+    requires workers { (1 ≤ options.workers) × (options.workers ≤ greatest_workers) }
+    requires compression { IsCompression options.compress }
+    ensures typed { OnOk result (statement_defects tables.now (statement_tree statement.now) ≡ []) }
+    ensures text { IfOk result (λ t. t.items ≡ bounded_rows_text Form.Table (answer_names tables.now (statement_tree statement.now)) (answer_kinds tables.now (statement_tree statement.now)) (asked_rows (rules_of options) options.combine tables.now (statement_tree statement.now))) }
+    ensures holds { OnOk result (RowsHold tables.now (statement_tree statement.now) (asked_rows (rules_of options) options.combine tables.now (statement_tree statement.now))) }
+    ensures refused { IfErr result (AnswerCause (statement_defects tables.now (statement_tree statement.now)) (asked_fits (rules_of options) options.combine tables.now (statement_tree statement.now))) }
+{
     match answer(rt, alloc, statement, tables, options, gate) {
-        Ok(answer) => match rows_text_by(rt, alloc, workers, answer, form) {
+        Ok(answer) => match table_text(alloc, &answer) {
             Ok(text) => Ok(text),
             Err(NoMemory) => Err(EngineFault::NoMemory),
         },
@@ -131,48 +201,6 @@ fn rows_text(alloc: Global, answer: &Answer, form: Form) -> Result<Vec<u8>, NoMe
         Form::Csv => csv_text(alloc, answer),
         Form::Table => table_text(alloc, answer),
     }
-}
-
-// The same, where the workers write the rows as CSV.
-fn shared_text<R: Threads + Sync>(
-    rt: &R,
-    alloc: Global,
-    workers: usize,
-    answer: &Answer,
-    form: Form,
-) -> Result<Vec<u8>, NoMemory>
-    requires workers { 1 ≤ workers }
-    requires columns { length answer.now.kinds.items ≡ length answer.now.names.items }
-    requires rows { AllByRecursion (λ r. length r.cells ≡ length answer.now.names.items) answer.now.rows }
-    ensures { IfOk result (λ t. t.items ≡ bounded_rows_text form answer.now.names.items answer.now.kinds.items answer.now.rows) }
-{
-    match form {
-        Form::Csv => csv_text_by(rt, alloc, workers, answer),
-        Form::Table => table_text(alloc, answer),
-    }
-}
-
-// The same of an answer that is let go. One of many rows is given back beside what comes next.
-fn rows_text_by<R: Threads + Sync>(
-    rt: &R,
-    alloc: Global,
-    workers: usize,
-    answer: Answer,
-    form: Form,
-) -> Result<Vec<u8>, NoMemory>
-    requires workers { 1 ≤ workers }
-    requires columns { length answer.kinds.items ≡ length answer.names.items }
-    requires rows { AllByRecursion (λ r. length r.cells ≡ length answer.names.items) answer.rows }
-    ensures { IfOk result (λ t. t.items ≡ bounded_rows_text form answer.names.items answer.kinds.items answer.rows) }
-{
-    let text = shared_text(rt, alloc, workers, &answer, form);
-    let workers = if answer.rows.rows().len() < FEW {
-        1
-    } else {
-        workers
-    };
-    let_go(rt, workers, answer);
-    text
 }
 
 // The text of the ordinary answer in the guess world.

@@ -35,7 +35,7 @@ pub use cells::{code, code_row, decode, decode_row};
 pub use coding::{code_expr, code_plan};
 pub use gathering::{add_expr, add_plan};
 pub use long_texts::LongTexts;
-pub use text_codes::{code_short, code_text, decode_text};
+pub use text_codes::{code_short, code_text, decode_text, push_text};
 pub use theorems::{
     careful_is_exact, cells_keep_normal, cells_keep_numbers, cells_keep_rows, cells_keep_values,
     cells_stand, codes_keep_order, gathered_are_known, plans_worked, ranks_are_places,

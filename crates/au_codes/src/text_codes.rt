@@ -1,5 +1,5 @@
 //! The number of a text, and the text of a number.
-ghost use Rattle.std.specs.Prelude.{◌≡◌, ◌<◌, ◌≤◌, ◌+◌, ◌*◌, ◌^◌, [], IfOk, pos, take};
+ghost use Rattle.std.specs.Prelude.{◌≡◌, ◌<◌, ◌≤◌, ◌+◌, ◌++◌, ◌*◌, ◌^◌, [], IfOk, OnOk, pos, take};
 ghost use Rattle.au_codes.specs.Decoding.{decoded_text, text_of as text_by_tag, text_or_none, unpacked};
 ghost use Rattle.au_codes.specs.TextCodes.{short_number, tag as tag_in, text_number};
 
@@ -84,4 +84,53 @@ fn short_text(alloc: Global, front: u128, length: usize) -> Result<Word, NoMemor
         Ok(text) => Word::of(alloc, text),
         Err(_) => Word::of(alloc, ""),
     }
+}
+
+/// Puts the bytes of a number's text behind others, and none where it is that of no text.
+pub fn push_text(room: &mut Vec<u8>, book: &Codebook, number: i128) -> Result<(), NoMemory>
+    ensures { OnOk result (room.new.items ≡ room.old.items ++ decoded_text book.now number) }
+{
+    if number < 0 {
+        return Ok(());
+    }
+    let number = number as u128;
+    push_text_of(room, book, number / TAGS, (number % TAGS) as usize)
+}
+
+// The same of the text of 12 bytes and a tag.
+fn push_text_of(
+    room: &mut Vec<u8>,
+    book: &Codebook,
+    front: u128,
+    tag: usize,
+) -> Result<(), NoMemory>
+    ensures { OnOk result (room.new.items ≡ room.old.items ++ text_by_tag book.now front tag) }
+{
+    if tag <= 12 {
+        return push_short(room, front, tag);
+    }
+    match book.text(tag - 13) {
+        Some(word) => push_bytes(room, word.as_str().as_bytes()),
+        None => Ok(()),
+    }
+}
+
+// The same of the first of 12 bytes, if they are a text.
+fn push_short(room: &mut Vec<u8>, front: u128, length: usize) -> Result<(), NoMemory>
+    requires { length ≤ 12 }
+    ensures { OnOk result (room.new.items ≡ room.old.items ++ text_or_none (take length (unpacked 12 front []))) }
+{
+    let bytes = unpack(front);
+    match str::from_utf8(&bytes[..length]) {
+        Ok(text) => push_bytes(room, text.as_bytes()),
+        Err(_) => Ok(()),
+    }
+}
+
+// Puts bytes behind others.
+fn push_bytes(room: &mut Vec<u8>, bytes: &[u8]) -> Result<(), NoMemory>
+    ensures { OnOk result (room.new.items ≡ room.old.items ++ bytes.now) }
+{
+    room.extend_from_slice(bytes)?;
+    Ok(())
 }

@@ -2,6 +2,7 @@ mod Chains
 mod Gathered
 mod Held
 mod Joined
+mod LentColumns
 mod Listed
 mod Made
 mod Paired

@@ -1,5 +1,5 @@
 //! Columns of whole numbers, in 64 bits as long as they fit.
-ghost use Rattle.std.specs.Prelude.{◌≡◌, ◌≤◌, ◌∷◌, ◌++◌, [], IfOk, OnOk, OnErr, length, map, replicate, slice_range};
+ghost use Rattle.std.specs.Prelude.{◌≡◌, ◌≤◌, ◌∷◌, ◌++◌, [], IfOk, IfSome, OnOk, OnErr, length, map, replicate, slice_range};
 ghost use Rattle.au_columns.specs.Steps.{AllFit, AreBelow, number_at};
 
 use crate::wide::widen;
@@ -48,8 +48,8 @@ impl Column {
         }
     }
 
-    // A column of numbers of 64 bits.
-    pub(crate) fn narrow(numbers: Vec<i64>) -> Column
+    /// A column of numbers of 64 bits.
+    pub fn narrow(numbers: Vec<i64>) -> Column
         ensures { result ≡ numbers.items }
     {
         Column {
@@ -57,12 +57,22 @@ impl Column {
         }
     }
 
-    // A column of numbers of 128 bits.
-    pub(crate) fn wide(numbers: Vec<i128>) -> Column
+    /// A column of numbers of 128 bits.
+    pub fn wide(numbers: Vec<i128>) -> Column
         ensures { result ≡ numbers.items }
     {
         Column {
             numbers: Numbers::Wide(numbers),
+        }
+    }
+
+    /// Its numbers, lent, where they are held in 64 bits.
+    pub fn as_narrow(&self) -> Option<&[i64]>
+        ensures { IfSome result (λ numbers. numbers.now ≡ self.now) }
+    {
+        match &self.numbers {
+            Numbers::Narrow(numbers) => Some(numbers),
+            Numbers::Wide(_) => None,
         }
     }
 

@@ -2,13 +2,12 @@
 use Rattle.std.specs.Prelude.{◌≡◌, Bool, List, [], IfOk, Result, Ok}
 use Rattle.std.proofs.Common.{subst}
 use Rattle.au_expr.specs.declared.fault.EvalFault.{EvalFault}
-use Rattle.au_algebra.specs.Bounded.{Bounded}
 use Rattle.au_typing.specs.declared.fault.TypingFault.{TypingFault}
 use Rattle.au_engine.specs.Answers.{AnswerCause, RowsCause}
 use Rattle.au_engine.specs.declared.faults.EngineFault.{EngineFault}
 use Rattle.au_engine.specs.declared.faults.EngineFault.TheVariants as engine
 
-pub made_rows_hold : (P : Bounded → Type 0) (made : Result Bounded EvalFault) (rows : Bounded) → made ≡ Ok rows → IfOk made P → P rows
+pub made_rows_hold : {A : Type 0} (P : A → Type 0) (made : Result A EvalFault) (rows : A) → made ≡ Ok rows → IfOk made P → P rows
 made_rows_hold P made rows e h = subst (λ r. IfOk r P) e h
 
 pub rows_cause : (found : List TypingFault) (fit : Bool) (f : EngineFault) → found ≡ [] → RowsCause fit f → AnswerCause found fit f

@@ -1,9 +1,10 @@
 mod AskedAnswers
+mod CodedAnswers
 pub mod EncodedPlans
+mod GuessPlans
 mod GuessRows
 mod GuessSizes
 mod GuessTables
-mod GuessedRows
 mod CountedFound
 mod CountedGuesses
 mod CountedRuns
@@ -18,13 +19,8 @@ mod PositiveTrees
 mod ReadPlaces
 mod ReadCauses
 mod RunRows
-mod SharedRows
 mod Shown
 mod ShownPrograms
-mod SliceCodes
-mod SliceRows
-mod SliceRuns
-mod SlicedPrograms
 mod SourceSizes
 mod StableSorts
 mod AnswerRows
@@ -38,4 +34,3 @@ pub mod WritableRows
 pub mod ReadValues
 pub mod GuessCounts
 pub mod EncodedGuesses
-mod ScanRows

@@ -1,14 +1,12 @@
 -- The rows of block tables in the guess world as plain rows: the values, and behind them the number of copies, or how many of them
 -- are certain and how many are guessed.
-use Rattle.std.specs.Prelude.{◌≡◌, List, [], ◌∷◌, ◌++◌, length, map}
+use Rattle.std.specs.Prelude.{◌≡◌, List, length, map}
 use Rattle.std.specs.List.{AllByRecursion}
 use Rattle.au_value.specs.declared.kinds.Kind.{Kind}
-use Rattle.au_value.specs.declared.value.Value.{Value}
-use Rattle.au_value.specs.Ranges.{guesses}
 use Rattle.au_algebra.specs.Counted.{CountedRow}
 use Rattle.au_algebra.specs.Ordinary.{Rows}
-use Rattle.au_blocks.specs.Blocks.{Candidate, Choices}
-use Rattle.au_rwcounted.specs.CountedRows.{CountsRow, count_value, counts_rows, one_count, two_counts}
+use Rattle.au_blocks.specs.Blocks.{Choices}
+use Rattle.au_rwcounted.specs.CountedRows.{CountsRow, counts_rows, one_count, two_counts}
 use Rattle.au_translate.specs.Translate.{guessed_blocks}
 use Rattle.au_ua.specs.UaTables.{ua_blocks}
 
@@ -22,10 +20,6 @@ counted_guesses bs = counts_rows (guessed_counts bs)
 -- the rows of the guess world with how many of their copies are certain and how many guessed, each of which is a count
 abbrev pub certain_guesses : List Choices → Rows
 certain_guesses bs = counts_rows (map two_counts (ua_blocks bs))
-
--- the row of an alternative
-abbrev pub guess_row : Candidate → List Value
-guess_row a = guesses a.cells ++ count_value a.copies.guess ∷ []
 
 -- each row has a value for each of so many kinds
 abbrev pub HaveColumns : List Kind → List CountedRow → Type 0

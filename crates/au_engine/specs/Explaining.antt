@@ -8,12 +8,10 @@ use Rattle.au_parse.specs.Tree.{QueryTree}
 use Rattle.au_physical.specs.Physicals.{physical_tree}
 use Rattle.au_sqltext.specs.Texts.{column_text, listed}
 use Rattle.au_explain.specs.Lines.{plan_lines}
-use Rattle.au_program.specs.RowPlans.{IsProgram}
+use Rattle.au_program.specs.Programs.{IsProgram}
 use Rattle.au_program.specs.Rules.{plain_rules}
 use Rattle.au_program.specs.Sources.{count}
 use Rattle.au_program.specs.declared.program.Program.{Program}
-use Rattle.au_program.specs.declared.program.Program.TheVariants as program
-use Rattle.au_program.specs.declared.program.Whole.{Whole}
 use Rattle.au_program.specs.declared.sources.Sources.{Sources}
 use Rattle.au_program.specs.declared.sources.Sources.TheVariants as code
 use Rattle.au_program.specs.declared.sources.Ways.{Ways}
@@ -92,14 +90,12 @@ steps_text names ran (code.Pairs' p before q left r right pairing) =
 -- ---- programs
 
 -- the sources and the lines of the last plan, behind its title
-abbrev pub last_text : List (List ℕ) → Whole → List ℕ
-last_text names w = codes "\n" ++ sources_text names 0 w.sources ++ plan_lines 1 (physical_tree w.plan)
+abbrev pub last_text : List (List ℕ) → Program → List ℕ
+last_text names p = codes "\n" ++ sources_text names 0 p.sources ++ plan_lines 1 (physical_tree p.plan)
 
 -- a program over tables of these names
 abbrev pub program_text : List (List ℕ) → Program → List ℕ
-program_text names (program.Whole w) = steps_text names 0 w.sources ++ codes "answer" ++ last_text names w
-program_text names (program.Sliced place w) =
-    steps_text names 0 w.sources ++ (codes "answer, slice by slice of " ++ name_at names place) ++ last_text names w
+program_text names p = steps_text names 0 p.sources ++ codes "answer" ++ last_text names p
 
 -- ---- statements
 

@@ -4,6 +4,7 @@ use Rattle.std.specs.Prelude.{◌≡◌, ◌⊎◌, ◌++◌, false, List}
 use Rattle.au_expr.specs.Figures.{fit}
 use Rattle.au_algebra.specs.Ordinary.{Rows}
 use Rattle.au_blocks.specs.Tables.{BlockTable}
+use Rattle.au_physical.specs.PhysicalMeaning.{physical_rows}
 use Rattle.au_physical.specs.PhysicalNumbers.{physical_numbers}
 use Rattle.au_physical.specs.Physicals.{PhysicalTree}
 use Rattle.au_program.specs.Sources.{Holds, LeavesOver, PairsLeave, Stops}
@@ -21,6 +22,10 @@ StepStops ts before own how = Stops ts before ⊎ (Stops ts own ⊎ LeavesOver (
 
 abbrev pub ProductStops : List BlockTable → Sources → Sources → Sources → Pairing → Type 0
 ProductStops ts before left right pairing = Stops ts before ⊎ (Stops ts left ⊎ (Stops ts right ⊎ PairsLeave (Holds ts left) (Holds ts right) pairing))
+
+-- rows that a plan gives over something that its sources hold
+abbrev pub IsFoundBy : List BlockTable → Sources → PhysicalTree → Rows → Type 0
+IsFoundBy ts own p rows = (held : List Rows) × (Holds ts own held × (rows ≡ physical_rows p held))
 
 abbrev pub SideStops : List BlockTable → Sources → PhysicalTree → Type 0
 SideStops ts own p = Stops ts own ⊎ ((held : List Rows) × (Holds ts own held × (fit (physical_numbers p held) ≡ false)))

@@ -2,6 +2,7 @@
 pub mod Reading
 pub mod Options
 pub mod Answers
+pub mod CodedAnswers
 pub mod Certainty
 pub mod Exchange
 pub mod PlanAnswers
@@ -9,10 +10,9 @@ pub mod EncodedTables
 pub mod Explaining
 -- What the contracts of inner calls and the proofs speak of.
 pub mod CountedTables
+pub mod GuessReads
 pub mod CountedInputs
 pub mod HeldTables
 pub mod InputRows
 pub mod Finding
-pub mod Slicing
-pub mod Shares
-pub mod SliceWork
+pub mod ReadPlaces

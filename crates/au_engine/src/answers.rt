@@ -2,8 +2,8 @@
 
 pub(crate) mod answering;
 pub(crate) mod certainty;
+pub(crate) mod coded_answer;
 pub(crate) mod counted;
-pub(crate) mod guess_counts;
 pub(crate) mod guess_rows;
 pub(crate) mod guess_size;
 pub(crate) mod guessing;

@@ -4,14 +4,14 @@ ghost use Rattle.au_value.specs.declared.kinds.Kind.{Kind};
 ghost use Rattle.au_algebra.specs.Laws.{IsRelation};
 
 use crate::cases::{Call, judge};
-use crate::relations::{relation, triple};
+use crate::relations::relation;
 use crate::row_texts::{outcome_text, push_values, relation_text};
-use au_algebra::{Gathered, Rel, normal};
+use au_algebra::{Rel, normal};
 use au_annot::Triple;
 use au_encode::{decode, decode_rows, encode};
 use au_plain::PRow;
 use au_print::demo_text;
-use au_value::{NoMemory, Range, Value};
+use au_value::{NoMemory, Range};
 use std::alloc::{AllocError, Global};
 use std::process::Abort;
 use std::test::Fail;
@@ -27,46 +27,6 @@ impl Call for Normal {
     ) -> Result<String, Fail> {
         let rel = relation(rt, alloc, 1, given)?;
         outcome_text(alloc, &normal(alloc, rel))
-    }
-}
-
-// So many rows with the numbers 0, 1 and 2 by turns.
-fn rows_by_turns(
-    rt: &impl Abort,
-    alloc: Global,
-    count: u32,
-) -> Result<Rel<Range, Triple>, NoMemory> {
-    let mut rel = Rel::new(alloc);
-    for number in 0..count {
-        let range = Range::certain(&Value::Int((number % 3) as i128))?;
-        rel.push(vec![in alloc; range]?, triple(rt, "1"))?;
-    }
-    Ok(rel)
-}
-
-// So many pieces of so many rows: how many rows are held of them, and their normal form.
-struct Gather;
-
-impl Call for Gather {
-    fn outcome(
-        rt: &(impl Abort + Threads + Sync),
-        alloc: Global,
-        given: &str,
-    ) -> Result<String, Fail> {
-        let (pieces, rows) = given.split_once(' ').ok_or("two numbers")?;
-        let rows = rows.parse::<u32>().ok().ok_or("a number")?;
-        let mut gathered = Gathered::new(alloc);
-        for _ in 0..pieces.parse::<u32>().ok().ok_or("a number")? {
-            let piece = rows_by_turns(rt, alloc, rows)?;
-            gathered = match gathered.put(alloc, piece) {
-                Ok(gathered) => gathered,
-                Err(fault) => return Ok(format!(in alloc; "{fault:?}")?),
-            };
-        }
-        let held = gathered.into_rows();
-        let count = held.rows().len();
-        let form = outcome_text(alloc, &normal(alloc, held))?;
-        Ok(format!(in alloc; "{count}: {}", form.as_str())?)
     }
 }
 
@@ -143,10 +103,6 @@ const NORMAL: &str = " ->
 1 0/0/170141183460469231731687303715884105727; 1/1/2 0/0/1 -> 1 0/0/170141183460469231731687303715884105727; 1/1/2 0/0/1; ";
 
 // Few rows are held as they came, and equal ones of many rows are one.
-const GATHERED: &str = "0 1 -> 0: 
-1 6 -> 6: 0 2/2/2; 1 2/2/2; 2 2/2/2; 
-2 40000 -> 3: 0 26668/26668/26668; 1 26666/26666/26666; 2 26666/26666/26666; ";
-
 const LINES: &str = " -> rows 0;least 0;guess 0;most 0;
 1 0/1/2; 2 1/1/1 -> rows 2;least 1;guess 2;most 3;
 1 0/0/170141183460469231731687303715884105727; 2 0/0/1 -> Overflow";
@@ -157,11 +113,6 @@ const ENCODED: &str = " -> |
 #[test]
 fn normal_forms(rt: HostRuntime) -> Result<(), Fail> {
     judge::<Normal>(&rt, rt.alloc(), NORMAL)
-}
-
-#[test]
-fn gathered_rows(rt: HostRuntime) -> Result<(), Fail> {
-    judge::<Gather>(&rt, rt.alloc(), GATHERED)
 }
 
 #[test]

@@ -227,7 +227,7 @@ const CHOSEN: &str =
 SELECT x.c0 AS c0, x.c1 AS c1, x.c2 AS c2, x.c3 AS c3, x.c4 AS c4, x.c5 AS c5, y.c0 AS c6, y.c1 AS c7, y.c2 AS c8, y.c3 AS c9, y.c4 AS c10, y.c5 AS c11 FROM (SELECT c0, c1, c2, c3, c4, c5 FROM t0) x, (SELECT c0, c1, c2, c3, c4, c5 FROM t1) y WHERE (((((TRUE AND (x.c0 <= y.c2)) AND (y.c0 <= x.c2)) AND (y.c3 = x.c3)) AND (x.c0 = x.c3)) AND (x.c1 = y.c1)) -> hash [(3, 3), (1, 1)](filter(t0), t1)
 SELECT x.c0 AS c0, x.c1 AS c1, x.c2 AS c2, x.c3 AS c3, x.c4 AS c4, x.c5 AS c5, y.c0 AS c6, y.c1 AS c7, y.c2 AS c8, y.c3 AS c9, y.c4 AS c10, y.c5 AS c11 FROM (SELECT c0, c1, c2, c3, c4, c5 FROM t0) x, (SELECT c0, c1, c2, c3, c4, c5 FROM t1) y WHERE ((TRUE AND (x.c0 <= y.c2)) AND (y.c0 < x.c2)) -> nested(t0, t1)
 SELECT c0 AS c0 FROM (SELECT c0 AS c0, c2 AS c1 FROM (SELECT x.*, (c0 + 1) AS c2 FROM (SELECT c0, c1 FROM t0) x) x) x -> keep [0](t0)
-SELECT c2 AS c0 FROM (SELECT x.*, (c0 + 1) AS c2 FROM (SELECT c0, c1 FROM t0) x) x -> keep [2](extend(t0))
+SELECT c2 AS c0 FROM (SELECT x.*, (c0 + 1) AS c2 FROM (SELECT c0, c1 FROM t0) x) x -> keep [1](extend(keep [0](t0)))
 SELECT * FROM (SELECT x.c0 AS c0, x.c1 AS c1, x.c2 AS c2, x.c3 AS c3, x.c4 AS c4, x.c5 AS c5, y.c0 AS c6, y.c1 AS c7, y.c2 AS c8, y.c3 AS c9, y.c4 AS c10, y.c5 AS c11 FROM (SELECT c0, c1, c2, c3, c4, c5 FROM t0) x, (SELECT c0, c1, c2, c3, c4, c5 FROM t1) y WHERE (TRUE AND (x.c0 <= y.c2))) x WHERE (c7 < c8) -> nested(t0, filter(t1))
 (SELECT * FROM (SELECT c0, c1 FROM t0) x WHERE (c0 < c1)) UNION ALL (SELECT c0, c1 FROM t0) -> union(filter(t0), t0)
 SELECT c0 AS c0, SUM(c1) AS c1 FROM (SELECT c0, c1 FROM t0) x GROUP BY c0 -> group [0] [Sum(1)](t0)
@@ -235,7 +235,7 @@ SELECT * FROM (VALUES (5, TRUE), (-3, FALSE)) x(c0, c1) -> rows";
 
 // All Scans of table 0 stand below a Keep of the same places, or else they stay.
 const NARROWED: &str =
-    "SELECT c2 AS c0, c0 AS c1 FROM (SELECT c0, c1, c2 FROM t0) x -> Some([2, 0]) t0
+    "SELECT c2 AS c0, c0 AS c1 FROM (SELECT c0, c1, c2 FROM t0) x -> Some([0, 2]) keep [1, 0](t0)
 SELECT c0, c1, c2 FROM t0 -> None t0
 SELECT c2 AS c0 FROM (SELECT c0, c1, c2 FROM t1) x -> None keep [2](t1)
 (SELECT c1 AS c0 FROM (SELECT c0, c1 FROM t0) x) UNION ALL (SELECT c1 AS c0 FROM (SELECT c0, c1 FROM t0) x) -> Some([1]) union(t0, t0)

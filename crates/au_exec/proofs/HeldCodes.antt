@@ -14,7 +14,8 @@ use Rattle.au_codes.specs.Decoding.{decoded_row}
 use Rattle.au_codes.specs.Gathering.{with_row, with_rows, with_value}
 use Rattle.au_codes.specs.TextCodes.{knows_text, text_code}
 use Rattle.au_exec.specs.KnownKinds.{first_kinds}
-use Rattle.au_exec.specs.Ready.{IsCoded, IsReady, ReadyPlansStand}
+use Rattle.au_exec.specs.Ready.{IsReady, ReadyPlansStand}
+use Rattle.au_settled.specs.Coded.{IsCoded}
 
 first_suffices : (b c : Bool) → (b || false) ≡ true → (b || c) ≡ true
 first_suffices true c h = refl

@@ -26,13 +26,6 @@ pub record IsReady (book : Book) (kinds : List Kind) (plan : PhysicalTree) (ts :
   pub knows_tables : KnowsTables (text_code book) ts
   pub have_kinds : HaveKinds kinds (physical_rows plan ts)
 
--- Rows of cells are the codes of rows of these kinds, whose texts the book knows.
-pub record IsCoded (book : Book) (kinds : List Kind) (cells : CellRows) : Type 0 where
-  pub is_book : IsCodebook book
-  pub are_codes : cells ≡ coded_rows (text_code book) (map (decoded_row book kinds) cells)
-  pub knows : KnowsRows (text_code book) (map (decoded_row book kinds) cells)
-  pub have_kinds : HaveKinds kinds (map (decoded_row book kinds) cells)
-
 -- Over the tables' codes the coded plan gives the codes of its rows, which decode to them, its numbers fit 128 bits exactly
 -- where those of the plan do, and the book knows the texts of its rows.
 pub record ReadyPlansStand : Type 0 where

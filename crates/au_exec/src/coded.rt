@@ -1,5 +1,8 @@
 //! Rows that are held as codes.
-ghost use Rattle.std.specs.Prelude.{◌≡◌, [], IfErr, IfOk, OnOk, false, map, true};
+ghost use Rattle.std.specs.Prelude.{◌≡◌, [], Err, IfErr, IfOk, OnOk, false, map, true};
+ghost use Rattle.au_algebra.specs.Bounded.{normal as normal_of};
+ghost use Rattle.au_algebra.specs.Fits.{triples_fit};
+ghost use Rattle.au_codes.specs.Books.{IsCodebook};
 ghost use Rattle.au_codes.specs.Codes.{coded_rows};
 ghost use Rattle.au_codes.specs.Decoding.{decoded_row};
 ghost use Rattle.au_codes.specs.Gathering.{with_rows};
@@ -13,7 +16,8 @@ ghost use Rattle.au_physical.specs.PhysicalNumbers.{physical_numbers};
 ghost use Rattle.au_physical.specs.Physicals.{physical_tree};
 ghost use Rattle.au_exec.specs.HeldRows.{rows_of};
 ghost use Rattle.au_exec.specs.KnownKinds.{first_kinds, held_kinds};
-ghost use Rattle.au_exec.specs.Ready.{IsCoded, IsReady};
+ghost use Rattle.au_exec.specs.Ready.{IsReady};
+ghost use Rattle.au_settled.specs.Coded.{IsCoded};
 
 use crate::decoded_values::decoded_values;
 use crate::readying::{Ready, made_ready};
@@ -30,6 +34,7 @@ use au_expr::EvalFault;
 use au_par::Gate;
 use au_physical::Physical;
 use au_plain::PRow;
+use au_settled::{settled, settled_is_normal};
 use au_value::{Kind, NoMemory, Range, beside};
 use au_vector::Crew;
 use std::alloc::Global;
@@ -48,7 +53,7 @@ impl Model for Coded {
     ghost use Rattle.std.specs.Prelude.{List, map};
     ghost use Rattle.au_value.specs.declared.value.Value.{Value as Cell};
     ghost use Rattle.au_codes.specs.Decoding.{decoded_row};
-    ghost use Rattle.au_exec.specs.Ready.{IsCoded};
+    ghost use Rattle.au_settled.specs.Coded.{IsCoded};
 
     ghost Value = { List (List Cell) };
 
@@ -83,6 +88,28 @@ impl Coded {
         ensures { IfOk result (λ v. rows_of v ≡ self.now) }
     {
         decoded_values(alloc, &self.book, &self.kinds, &self.batch)
+    }
+
+    /// The normal form of the relation that the rows encode, each with so many columns: it stays coded.
+    ///
+    /// `Overflow` comes only where a count of the normal form passes 2^127-1.
+    pub fn normal(self, alloc: Global, columns: usize) -> Result<Coded, EvalFault>
+        requires { AreEncoded columns self }
+        ensures encoded { IfOk result (λ c. AreEncoded columns c) }
+        ensures form { IfOk result (λ c. decode_of columns c ≡ normal_of (decode_of columns self)) }
+        ensures overflow { result ≡ Err EvalFault.Overflow → triples_fit (normal_of (decode_of columns self)) ≡ false }
+    {
+        let Coded { book, kinds, batch } = self;
+        let told = Ready { book, kinds };
+        settle(alloc, told, &batch, columns)
+    }
+
+    /// The book of the long texts of the rows, the kinds of their values, and the rows' codes, lent.
+    pub fn parts(&self) -> (&Codebook, &[Kind], &Batch)
+        ensures book { IsCodebook result.0.now }
+        ensures rows { map (decoded_row result.0.now result.1.now) result.2.now ≡ self.now }
+    {
+        (&self.book, &self.kinds, &self.batch)
     }
 
     /// The rows as they are held.
@@ -122,6 +149,21 @@ impl Coded {
         } else {
             self.batch.share(alloc)
         }
+    }
+}
+
+// The normal form of the relation that the rows encode for which those of a batch stand.
+fn settle(alloc: Global, told: Ready, batch: &Batch, columns: usize) -> Result<Coded, EvalFault>
+    requires coded { IsCoded told.book told.kinds.items batch.now }
+    requires encoded { AreEncoded columns (map (decoded_row told.book told.kinds.items) batch.now) }
+    ensures encoded { IfOk result (λ c. AreEncoded columns c) }
+    ensures form { IfOk result (λ c. decode_of columns c ≡ normal_of (decode_of columns (map (decoded_row told.book told.kinds.items) batch.now))) }
+    ensures overflow { IfErr result (λ f. f ≡ fault.Overflow → triples_fit (normal_of (decode_of columns (map (decoded_row told.book told.kinds.items) batch.now))) ≡ false) }
+{
+    settled_is_normal();
+    match settled(alloc, batch, columns) {
+        Ok(made) => Ok(Coded::of(told, made)),
+        Err(fault) => Err(fault),
     }
 }
 

@@ -3,8 +3,8 @@
 //! A [`Source`] is a table that a plan scans, as it is given: blocks of a table with the places of their encoded rows that
 //! are read, rows of values that stand in memory, or what an earlier plan gave. [`run_coded`] gathers one book of the long
 //! texts of all sources and of the plan, makes a column of codes of each place of each source, and runs the plan over these
-//! by `au_vector`. What it gives stays coded: [`Coded`] reads it as rows of values, or as the relation that they encode. The
-//! clauses speak of values alone. No source's rows are made as rows of cells. A [`Run`] gives the rows of a plan over lists
+//! by `au_vector`. What it gives stays coded: [`Coded`] brings it into its normal form, lends its parts, or reads it as rows of
+//! values, or as the relation that they encode. The clauses speak of values alone. No source's rows are made as rows of cells. A [`Run`] gives the rows of a plan over lists
 //! of rows batch by batch: [`Run::next_batch`] up to 256 at once, and [`Run::all`] all that are left.
 //!
 //! The values are told from their numbers by the kinds of the plan's rows, which [`kinds_of`] reckons from the first row of

@@ -27,7 +27,7 @@ use Rattle.au_passes.specs.Reading.{agg_column, at_least_one, chosen, columns, i
 use Rattle.au_passes.proofs.KeptColumns.{kinds_itself, places_there}
 use Rattle.au_passes.proofs.MarkLaws.{all_long, all_places, all_set, all_stay, one_at_least_long, one_at_least_stays, places_count, places_within, ranks_long, some_place}
 use Rattle.au_passes.proofs.NarrowedGroups.{AggFound, of_group}
-use Rattle.au_passes.proofs.NarrowedPlans.{counted_finds, drop_long, first_part, found_columns, marked_back, marked_front, places_marked, ranks_find, second_part, take_long, width_some}
+use Rattle.au_passes.proofs.NarrowedPlans.{counted_finds, drop_long, first_part, found_columns, marked_back, marked_front, narrowed_leaf, places_marked, ranks_find, second_part, take_long, width_some}
 use Rattle.au_passes.proofs.Narrowing.{all_itself, of_join, of_kept, of_sides, wanted, without_keep}
 use Rattle.au_plain.proofs.Widths.{rows_wide, same_number, width_is}
 use Rattle.au_passes.proofs.Renumbering.{Reaches}
@@ -59,6 +59,25 @@ module _ (p q r : PlanTree) (marks : List Bool) (found : List ℕ) (n : Narrowed
 
   pub exact_columns : 0 < length (read_places marks) → HasColumns p → HasColumns r
   exact_columns some h = kept_columns (map (slice_index found) (read_places marks)) q r kept (omega (arith, some, length-map (read_places marks) (slice_index found))) (n.wide h)
+
+-- ---- a table
+
+pub narrowed_scan :
+    (p r : PlanTree) (marks : List Bool) (found new is : List ℕ) (w : ℕ) → w ≡ plan_width p → length marks ≡ plan_width p → found ≡ range_with_len 0 w →
+    is ≡ read_places (at_least_one marks) → new ≡ ranks 0 (at_least_one marks) → IsKept (map (slice_index found) is) p r → Narrowed p marks r new
+narrowed_scan p r marks found new is w wide long f is_are new_is kept =
+    let read = at_least_one marks in
+    let n = narrowed_leaf p p read found w wide (one_at_least_long marks ∙ long) refl f in
+    let here = subst (λ xs. IsKept (map (slice_index found) xs) p r) is_are kept in
+    record {
+      places = read_places read;
+      narrows = exact_narrows p p r read found n here;
+      counted = sym (exact_width p p r read found n here);
+      found_long = ap length new_is ∙ ranks_long 0 read ∙ one_at_least_long marks;
+      finds = λ i h. ap (λ f. slice_get (read_places read) (slice_index f i)) new_is ∙ ranks_find read i (one_at_least_stays marks i h);
+      some = λ h. some_place marks h;
+      wide = λ h. exact_columns p p r read found n here (some_place marks (let some = width_some p h in omega (arith, some, long))) h;
+    }
 
 -- ---- a Keep
 

@@ -4,7 +4,7 @@ ghost use Rattle.std.specs.List.{range_with_len};
 ghost use Rattle.au_plain.specs.PTerms.{pterm};
 ghost use Rattle.au_plain.specs.Plans.{plan_tree};
 ghost use Rattle.au_plain.specs.Plans as tree;
-ghost use Rattle.au_passes.specs.Pruning.{IsKept, renumbered, renumbered_agg};
+ghost use Rattle.au_passes.specs.Pruning.{IsKept, Narrowed, renumbered, renumbered_agg};
 ghost use Rattle.au_plain.specs.Widths.{plan_width};
 ghost use Rattle.au_passes.specs.Reading.{agg_column, at_least_one, chosen, mark_all, ranks, read_aggs, read_places};
 
@@ -24,7 +24,7 @@ pub(crate) struct Narrow {
     pub count: usize,
 }
 
-/// Which columns of a Keep are read: their places below it, and where each of its columns is among them.
+/// Which columns of a Keep or of a table are read: their places below it, and where each of its columns is among them.
 #[derive(Drop)]
 pub(crate) struct Columns {
     pub wanted: Vec<usize>,
@@ -125,6 +125,22 @@ pub(crate) fn filter(alloc: Global, test: PExpr, below: Narrow) -> Result<Narrow
     Ok(Narrow { plan, found, count })
 }
 
+/// Of a table with so many columns those that are read: one at least, if there is one.
+pub(crate) fn scan(
+    alloc: Global,
+    table: usize,
+    width: usize,
+    marks: Vec<bool>,
+) -> Result<Narrow, NoMemory>
+    requires { length marks.items ≡ width }
+    ensures narrowed { IfOk result (λ n. Narrowed (tree.Scan table width) marks.items (plan_tree n.plan) n.found.items) }
+    ensures count { IfOk result (λ n. n.count ≡ plan_width (plan_tree n.plan)) }
+{
+    let below = whole(alloc, Plan::Scan(table, width), width);
+    let (read, below) = both(read_columns(alloc, marks), below)?;
+    keep_columns(alloc, read, below)
+}
+
 /// Which columns of a Keep of these places are read: one at least, if there is one.
 pub(crate) fn kept_columns(
     alloc: Global,
@@ -133,10 +149,18 @@ pub(crate) fn kept_columns(
 ) -> Result<Columns, NoMemory>
     ensures { IfOk result (λ c. (c.wanted.items ≡ map (slice_index places.now) (read_places (at_least_one marks.items))) × (c.found.items ≡ ranks 0 (at_least_one marks.items))) }
 {
+    let Columns { wanted, found } = read_columns(alloc, marks)?;
+    let (wanted, found) = beside(all_found(alloc, places, &wanted), found)?;
+    Ok(Columns { wanted, found })
+}
+
+// Which columns are read of those that are marked: one at least, if there is one.
+fn read_columns(alloc: Global, marks: Vec<bool>) -> Result<Columns, NoMemory>
+    ensures { IfOk result (λ c. (c.wanted.items ≡ read_places (at_least_one marks.items)) × (c.found.items ≡ ranks 0 (at_least_one marks.items))) }
+{
     let mut marks = marks;
     mark_one(&mut marks);
-    let read = marked(alloc, &marks)?;
-    let wanted = all_found(alloc, places, &read)?;
+    let wanted = marked(alloc, &marks)?;
     let found = ranks_of(alloc, &marks)?;
     Ok(Columns { wanted, found })
 }

@@ -8,7 +8,7 @@ ghost use Rattle.au_passes.specs.Reading.{read_places};
 
 use crate::narrow::{
     Narrow, extend, filter, group, group_columns, group_reads, join, join_sides, keep,
-    keep_columns, kept_columns, leave_out, union, union_sides, whole, width,
+    keep_columns, kept_columns, leave_out, scan, union, union_sides, whole, width,
 };
 use crate::reads::{all_read, marked, places_read, reads_last, with_reads, without_last};
 use au_plain::Plan;
@@ -18,7 +18,7 @@ use std::alloc::Global;
 /// The plan without the columns that nobody reads.
 ///
 /// An added column that no operator above it reads goes, with the numbers that it would have made, and so do aggregates;
-/// the keys of a grouping stay. A side of a join or of a union gives what is read of it. `NoMemory` comes also where a row
+/// the keys of a grouping stay. A table, and a side of a join or of a union, gives what is read of it. `NoMemory` comes also where a row
 /// cannot have as many columns as the plan says.
 pub fn prune(alloc: Global, plan: Plan) -> Result<Plan, NoMemory>
     ensures same { IfOk result (λ q. Keeps (plan_tree plan) (plan_tree q)) }
@@ -66,7 +66,7 @@ fn narrow(alloc: Global, plan: Plan, marks: Vec<bool>) -> Result<Narrow, NoMemor
     ensures count { IfOk result (λ n. n.count ≡ plan_width (plan_tree n.plan)) }
 {
     match plan {
-        Plan::Scan(table, width) => whole(alloc, Plan::Scan(table, width), width),
+        Plan::Scan(table, width) => scan(alloc, table, width, marks),
         Plan::Rows(width, rows) => whole(alloc, Plan::Rows(width, rows), width),
         Plan::Extend(e, of) => {
             if reads_last(&marks) {

@@ -1,14 +1,14 @@
 //! Answers as CSV.
-ghost use Rattle.std.specs.Prelude.{◌≡◌, ◌++◌, IfOk, OnOk, [], length, flat_map};
+ghost use Rattle.std.specs.Prelude.{◌≡◌, ◌++◌, IfOk, OnOk, length, flat_map};
 ghost use Rattle.std.specs.List.{AllByRecursion};
-ghost use Rattle.csv.specs.Records.{partial_of};
 ghost use Rattle.au_algebra.specs.Entries.{entry};
 ghost use Rattle.au_print.specs.Records.{IsReady, written};
 ghost use Rattle.au_print.specs.Texts.{csv_text as text_of, record_text, row_fields};
 
 use crate::answer::Answer;
-use crate::fields::{push_header, push_row};
-use crate::page::{finish, start, write};
+use crate::fields::push_row;
+use crate::header::headed;
+use crate::page::{finish, write};
 use au_annot::Triple;
 use au_value::{Kind, NoMemory, Range};
 use csv::{ByteRecord, Writer};
@@ -20,27 +20,24 @@ pub fn csv_text(alloc: Global, answer: &Answer) -> Result<Vec<u8>, NoMemory>
     requires rows { AllByRecursion (λ r. length r.cells ≡ length answer.now.names.items) answer.now.rows }
     ensures { IfOk result (λ t. t.items ≡ text_of answer.now.names.items answer.now.kinds.items answer.now.rows) }
 {
-    let mut writer = start(alloc);
-    let mut record = ByteRecord::new(alloc);
-    push_header(alloc, &mut record, answer.names.as_slice())?;
-    write(&mut writer, &record)?;
+    let mut writer = headed(alloc, answer.names.as_slice())?;
     let kinds = answer.kinds.as_slice();
     let rows = answer.rows.rows.as_slice();
-    write_rows(alloc, &mut writer, record, kinds, rows)?;
+    write_rows(alloc, &mut writer, kinds, rows)?;
     finish(writer)
 }
 
-/// The rows' records, made one after the other in the memory of one.
-pub(crate) fn write_rows(
+// The rows' records, made one after the other in the memory of one.
+fn write_rows(
     alloc: Global,
     writer: &mut Writer<Vec<u8>>,
-    mut record: ByteRecord,
     kinds: &[Kind],
     rows: &[(Vec<Range>, Triple)],
 ) -> Result<(), NoMemory>
     requires { IsReady writer.old }
     ensures { OnOk result (written writer.new (λ v. v.items) ≡ written writer.old (λ v. v.items) ++ flat_map (λ r. record_text (row_fields kinds.now (entry r.0.items r.1))) rows.now) }
 {
+    let mut record = ByteRecord::new(alloc);
     let mut room = Vec::new(alloc);
     for (ranges, triple) in rows {
         record.clear();

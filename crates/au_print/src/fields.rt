@@ -1,9 +1,9 @@
 //! The fields of a printed record.
-ghost use Rattle.std.specs.Prelude.{◌≡◌, [], ◌∷◌, ◌++◌, OnOk, flat_map, map, decimal, codes};
+ghost use Rattle.std.specs.Prelude.{◌≡◌, [], ◌∷◌, ◌++◌, OnOk, decimal};
 ghost use Rattle.csv.specs.Records.{fields_of, partial_of};
-ghost use Rattle.au_print.specs.Texts.{number_text, value_text, value_texts, three_names, range_fields, cells_fields, count_fields, header_fields, row_fields};
+ghost use Rattle.au_print.specs.Texts.{number_text, value_text, value_texts, three_names, range_fields, cells_fields, count_fields, header_fields};
 
-use crate::fixed::push_fixed;
+use crate::numbers::form_number;
 use au_annot::Triple;
 use au_value::{Kind, NoMemory, Range, Value, Word};
 use csv::ByteRecord;
@@ -42,6 +42,7 @@ pub fn push_value(
     Ok(())
 }
 
+// Adds the text of a number of a column of this kind.
 fn push_number(
     row: &mut ByteRecord,
     room: &mut Vec<u8>,
@@ -52,17 +53,8 @@ fn push_number(
     ensures fields { OnOk result (fields_of row.new ≡ fields_of row.old ++ (number_text kind n ∷ [])) }
     ensures whole { OnOk result (partial_of row.new ≡ []) }
 {
-    match kind {
-        Kind::Dec(scale) => {
-            room.clear();
-            push_fixed(room, n, scale)?;
-            row.push_field(room.as_slice())?;
-        }
-        Kind::Int | Kind::Text | Kind::Flag => {
-            let mut buffer = Buffer::new();
-            row.push_field(buffer.format(n).as_bytes())?;
-        }
-    }
+    form_number(room, kind, n)?;
+    row.push_field(room.as_slice())?;
     Ok(())
 }
 

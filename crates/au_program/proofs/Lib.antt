@@ -1,4 +1,3 @@
-mod ChosenPrograms
 pub mod CompressedPairs
 mod CountedSteps
 mod FoundPairs

@@ -2,10 +2,8 @@
 pub mod Rules
 pub mod Rewriting
 pub mod CountedPlans
-pub mod RowQueries
 pub mod KeptRows
 pub mod Inputs
 pub mod Stages
 pub mod Sources
 pub mod Programs
-pub mod RowPlans

@@ -20,6 +20,7 @@ use Rattle.au_program.specs.Inputs.{ReadsAll}
 use Rattle.au_program.specs.Rules.{tree_numbers, tree_rows}
 use Rattle.au_program.specs.Sources.{AreParts, Behind, CanRun, Holds, IsFound, IsRead, IsThere, LeavesOver, PairsLeave, PairsOver, ProductRuns, StartsOver, StepRuns, Stops, count, part_rows}
 use Rattle.au_program.specs.Stages.{Adds, AddsCompressed, AddsPairs, AddsTree, GroupsBy, Shows}
+use Rattle.au_program.specs.declared.program.Program.{Program}
 use Rattle.au_program.specs.declared.rules.Rules.{Rules}
 use Rattle.au_program.specs.declared.sources.Pairing.{Pairing}
 use Rattle.au_program.specs.declared.sources.Sources.{Sources}
@@ -169,3 +170,7 @@ pub record ShowsTree (rules : Rules) (combined : Bool) (kinds : List (List Kind)
   pub shows : Shows combined columns of shown
   pub wide : d ≡ columns
   pub ready : IsReady own sources shown p
+
+-- the program of what is shown of a tree
+abbrev pub IsProgram : Rules → Bool → List (List Kind) → Tree → Program → Type 0
+IsProgram rules combined kinds q p = ShowsTree rules combined kinds q p.sources (physical_tree p.plan) p.columns

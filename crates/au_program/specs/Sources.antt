@@ -1,6 +1,6 @@
 -- What a plan reads before it is there: the encoded rows of tables, what other plans find over sources of their own, and the
 -- parts of two relations whose product is compressed. Each of these gives rows to the plan's tables, one after the other.
-use Rattle.std.specs.Prelude.{◌≡◌, ◌⊎◌, ◌+◌, ◌≤◌, ◌&&◌, ◌==◌, ℕ, ⊤, Bool, true, false, List, [], ◌∷◌, ◌++◌, Option, Some, slice_get, Vec}
+use Rattle.std.specs.Prelude.{◌≡◌, ◌⊎◌, ◌+◌, ◌≤◌, ◌&&◌, ℕ, ⊤, false, List, [], ◌∷◌, ◌++◌, Option, Some, slice_get, Vec}
 use Rattle.std.specs.declared.alloc.Global.{Global}
 use Rattle.au_expr.specs.Figures.{fit}
 use Rattle.au_algebra.specs.Bounded.{Bounded}
@@ -28,19 +28,6 @@ count code.Nothing = 0
 count (code.Table' p before place kept) = count before + 1
 count (code.Step' p before q own how) = count before + 1
 count (code.Pairs' p before q left r right pairing) = count before + 4
-
--- they are the table at a place alone
-abbrev pub is_nothing : Sources → Bool
-is_nothing code.Nothing = true
-is_nothing (code.Table' p before place kept) = false
-is_nothing (code.Step' p before q own how) = false
-is_nothing (code.Pairs' p before q left r right pairing) = false
-
-abbrev pub is_only : ℕ → Sources → Bool
-is_only place code.Nothing = false
-is_only place (code.Table' p before i kept) = is_nothing before && (i == place)
-is_only place (code.Step' p before q own how) = false
-is_only place (code.Pairs' p before q left r right pairing) = false
 
 -- rows behind those of other sources
 pub record Behind (First Last : List Rows → Type 0) (rows : List Rows) : Type 0 where

@@ -9,10 +9,8 @@
 //!
 //! ```text
 //! let rules = Rules { compress: None, points: false };
-//! match program_of(alloc, &typed.query, schemas.as_slice(), rules, false)? {
-//!     Program::Whole(whole) => run_over(&whole.sources, &whole.plan),
-//!     Program::Sliced(place, whole) => run_over_slices(place, &whole.plan),
-//! }
+//! let program = program_of(alloc, &typed.query, schemas.as_slice(), rules, false)?;
+//! run_over(&program.sources, &program.plan)
 //! ```
 //!
 //! It belongs to docs/ARCHITECTURE.md.
@@ -27,7 +25,6 @@ mod planning;
 mod program;
 mod readiness;
 mod rewriting;
-mod row_queries;
 mod rules;
 mod sources;
 mod stage;
@@ -37,8 +34,7 @@ pub use copying::copy_physical;
 pub use counted::counted_plan;
 pub use counted_steps::Counted;
 pub use placing::{count, more};
-pub use program::{Program, Whole, program_of};
+pub use program::{Program, program_of};
 pub use rewriting::{encoded_kinds, rewritten};
-pub use row_queries::is_scan;
 pub use rules::Rules;
 pub use sources::{Pairing, Sources, Ways};

@@ -110,7 +110,7 @@ demo|--table|1|1 -> 2 Usage(Words) ! audb: usage: audb answer SQL NAME=PATH..~";
 const PAIRS: &str =
     "SELECT a.grp, MAX(a.id) AS m FROM t a, t b WHERE a.amount = b.amount AND a.grp = 'g0' AND b.grp = 'g1' GROUP BY a.grp";
 
-// A query that is answered slice by slice, and one whose rows are few.
+// A query that works row by row, and one whose rows are few.
 const BY_ROW: &str = "SELECT id, amount * 2 AS d FROM t WHERE amount > 50";
 
 const FEW_ROWS: &str = "SELECT grp FROM (SELECT * FROM t) s";

@@ -3,8 +3,8 @@ use crate::runs::{answer_of, judge};
 use std::test::Fail;
 
 const EXPLAINED: &str =
-    "explain|SELECT city FROM orders|orders=orders.csv -> 0 Done answer, slice by slice of orders~  t0 = orders~  keep c12, c13, c14, c9, c10, c11~  extend c14 = c5~  extend c13 = c4~  extend c12 = c3~  scan t0~! 
-explain|SELECT n + 1 FROM most|most=most.csv -> 0 Done answer, slice by slice of most~  t0 = most~  keep c12, c13, c14, c3, c4, c5~  extend c14 = (c8 + c11)~  extend c13 = (c7 + c10)~  extend c12 = (c6 + c9)~  extend c11 = 1~  extend c10 = 1~  extend c9 = 1~  extend c8 = c2~  extend c7 = c1~  extend c6 = c0~  scan t0~! 
+    "explain|SELECT city FROM orders|orders=orders.csv -> 0 Done answer~  t0 = orders (c3, c4, c5, c9, c10, c11)~  keep c6, c7, c8, c3, c4, c5~  extend c8 = c2~  extend c7 = c1~  extend c6 = c0~  scan t0~! 
+explain|SELECT n + 1 FROM most|most=most.csv -> 0 Done answer~  t0 = most~  keep c12, c13, c14, c3, c4, c5~  extend c14 = (c8 + c11)~  extend c13 = (c7 + c10)~  extend c12 = (c6 + c9)~  extend c11 = 1~  extend c10 = 1~  extend c9 = 1~  extend c8 = c2~  extend c7 = c1~  extend c6 = c0~  scan t0~! 
 explain|SELECT z FROM orders|orders=orders.csv -> 1 Query(UnknownColumn(7)) ! audb: query: unknown column at byte 7~
 explain|SELECT * FROM orders|orders=no.csv -> 9 NoFile(0) ! audb: file 0 is not there~
 explain|--combine|SELECT * FROM t|t=orders.csv -> 2 Usage(Words) ! audb: usage: audb answer SQL NAME=PATH..~";

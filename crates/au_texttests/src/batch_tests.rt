@@ -1,9 +1,9 @@
 //! A chain over the codes of the blocks of a table.
 use crate::cases::{Call, file_bytes, judge};
 use crate::column_tests::{column, rows_text};
-use au_batches::{book_over, coded_places};
+use au_batches::{add_texts, coded_places};
 use au_blocks::{Table, read_table};
-use au_codes::{Codebook, code_plan};
+use au_codes::{Codebook, LongTexts, add_plan, code_plan};
 use au_columns::{Batch, run_chain};
 use au_expr::EvalFault;
 use au_physical::{Physical, is_chain};
@@ -38,7 +38,10 @@ fn coded(alloc: Global, book: &Codebook, table: &Table) -> Result<Batch, NoMemor
 fn book_of(alloc: Global, table: &Table, plan: &Physical) -> Result<Codebook, NoMemory> {
     let columns = table.columns();
     let blocks = table.blocks();
-    let book = book_over(alloc, columns, &blocks, &[0, 5], plan)?;
+    let mut texts = LongTexts::new(alloc);
+    add_texts(&mut texts, columns, &blocks, &[0, 5])?;
+    add_plan(&mut texts, plan)?;
+    let book = texts.book()?;
     Ok(book)
 }
 

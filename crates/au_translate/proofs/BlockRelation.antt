@@ -39,7 +39,7 @@ FitsBlock ks b = list_all (λ a. fits_kinds ks a.cells) b.alternatives ≡ true
 abbrev shown_at : Choices → Option ℕ → Candidate
 shown_at b o = unwrap_or (slice_get b.alternatives (unwrap_or o 0)) (candidate [] once)
 
-guess_within : (b : Choices) (o : Option ℕ) → MayMark b o → 0 < length b.alternatives → unwrap_or o 0 < length b.alternatives
+pub guess_within : (b : Choices) (o : Option ℕ) → MayMark b o → 0 < length b.alternatives → unwrap_or o 0 < length b.alternatives
 guess_within b None h some = some
 guess_within b (Some i) h some = h
 

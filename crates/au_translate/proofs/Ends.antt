@@ -4,7 +4,6 @@ use Rattle.std.proofs.Common.{arith, refl, sym, ◌∙◌, ap}
 use Rattle.au_value.specs.declared.value.Value.{Value}
 use Rattle.au_value.specs.Ranges.{lesser, greater}
 use Rattle.au_value.proofs.RangeLaws.{lesser_assoc, greater_assoc}
-use Rattle.au_blocks.specs.Blocks.{Candidate}
 use Rattle.au_algebra.specs.Lists.{least, greatest}
 use Rattle.au_translate.proofs.Places.{left_at}
 
@@ -17,8 +16,8 @@ greatest_two : (a b : Value) (vs : List Value) → greatest (a ∷ b ∷ vs) ≡
 greatest_two a b [] = refl
 greatest_two a b (v ∷ vs) = greater_assoc a b (greatest (v ∷ vs))
 
--- one alternative more
-module _ (f : Candidate → Value) (alternatives : List Candidate) (i : ℕ) (a : Candidate) (at : slice_get alternatives i ≡ Some a) where
+-- one item more
+module _ {X : Type 0} (f : X → Value) (alternatives : List X) (i : ℕ) (a : X) (at : slice_get alternatives i ≡ Some a) where
   pub next_least : (best found all : Value) → found ≡ lesser best (f a) → least (best ∷ map f (drop i alternatives)) ≡ all → least (found ∷ map f (drop (i + 1) alternatives)) ≡ all
   next_least best found all e h =
       let others = map f (drop (i + 1) alternatives) in

@@ -11,4 +11,6 @@ pub mod BoundedAnswer
 pub mod ShownCells
 mod Misread
 mod PlaceValues
+pub mod ColumnParts
+pub mod SingleBlocks
 mod FitNumbers

@@ -18,6 +18,17 @@ use au_blocks::{Alternative, Block, Blocks, Scalar};
 pub fn row_count(blocks: &Blocks<'_>) -> usize
     ensures { result ≡ length (bounded_blocks blocks.now) }
 {
+    if blocks.stand_once() {
+        blocks.len()
+    } else {
+        counted_rows(blocks)
+    }
+}
+
+// The same, block by block.
+fn counted_rows(blocks: &Blocks<'_>) -> usize
+    ensures { result ≡ length (bounded_blocks blocks.now) }
+{
     let mut count = 0;
     for place in 0..blocks.len() {
         count += rows_in(&blocks.get(place));

@@ -7,6 +7,7 @@ ghost use Rattle.au_parse.specs.Whole.{WholeQuery};
 ghost use Rattle.au_algebra.specs.Trees.{tree};
 ghost use Rattle.au_algebra.specs.Typing.{kinds_of};
 ghost use Rattle.au_blocks.specs.Tables.{IsBlockTable, column_kinds};
+ghost use Rattle.au_encode.specs.Encode.{AreEncoded, decode};
 ghost use Rattle.au_translate.specs.Translate.{bounded_table};
 ghost use Rattle.au_algebra.specs.Bounded.{bounded, combine as combine_of, normal as normal_of};
 ghost use Rattle.au_algebra.specs.Fits.{numbers, triples_fit};
@@ -14,13 +15,13 @@ ghost use Rattle.au_value.specs.declared.kinds.Kind.{Kind};
 ghost use Rattle.au_value.specs.Order.{data_kind};
 ghost use Rattle.au_value.specs.Numeral.{is_i128};
 ghost use Rattle.au_program.specs.Rules.{IsCompression};
-ghost use Rattle.au_engine.specs.Answers.{AnswerCause, RowsCause, RowsHold, blocks_of, combined_normal_fits, tree_answer, tree_asked, tree_asked_fits, tree_answer_fits, answer_fits, answer_kinds, answer_names, answer_rows as answer_rows_of, asked_fits, asked_rows, statement_defects};
+ghost use Rattle.au_engine.specs.Answers.{AnswerCause, RowsCause, RowsHold, blocks_of, combined_normal_fits, tree_answer, tree_answer_fits, answer_fits, answer_kinds, answer_names, answer_rows as answer_rows_of, asked_fits, asked_rows, statement_defects};
 ghost use Rattle.au_engine.specs.Options.{rules_of};
 
+use crate::answers::coded_answer::{CodedAnswer, coded_answer};
 use crate::answers::tables::bounded_tables;
 use crate::faults::EngineFault;
 use crate::options::Options;
-use crate::running::evaluation::evaluated_by_plan;
 use crate::typing::{names_and_kinds, resolved};
 use au_algebra::{Query, Rel, normal};
 use au_annot::Triple;
@@ -32,7 +33,6 @@ use au_parse::Statement;
 use au_print::Answer;
 use au_typing::Typed;
 use au_value::{Kind, NoMemory, Range, Word, beside};
-use au_vector::Crew;
 use std::alloc::Global;
 use std::thread::Threads;
 
@@ -61,16 +61,28 @@ pub fn answer<R: Threads + Sync, G: Gate + Sync>(
     ensures holds { IfOk result (λ a. RowsHold tables.now (statement_tree statement.now) a.rows) }
     ensures refused { IfErr result (AnswerCause (statement_defects tables.now (statement_tree statement.now)) (asked_fits (rules_of options) options.combine tables.now (statement_tree statement.now))) }
 {
-    let typed = match resolved(alloc, statement, tables) {
-        Ok(typed) => typed,
+    let coded = match coded_answer(rt, alloc, statement, tables, options, gate) {
+        Ok(coded) => coded,
         Err(fault) => return Err(fault),
     };
-    let crew = Crew::new(rt, options.workers, gate);
-    let rows = planned_rows(&crew, alloc, &typed.query, &typed.kinds, tables, options);
-    match answer_of_rows(typed, rows) {
+    match decoded(alloc, coded) {
         Ok(answer) => Ok(answer),
-        Err(fault) => Err(fault),
+        Err(NoMemory) => Err(EngineFault::NoMemory),
     }
+}
+
+// An answer whose rows are read from their codes.
+fn decoded(alloc: Global, coded: CodedAnswer) -> Result<Answer, NoMemory>
+    requires { AreEncoded (length coded.kinds.items) coded.rows }
+    ensures names { IfOk result (λ a. a.names ≡ coded.names) }
+    ensures kinds { IfOk result (λ a. a.kinds ≡ coded.kinds) }
+    ensures rows { IfOk result (λ a. a.rows ≡ decode (length coded.kinds.items) coded.rows) }
+{
+    let CodedAnswer { names, kinds, rows } = coded;
+    let relation = rows.relation(alloc, kinds.len());
+    let (rows, columns) = beside(relation, (names, kinds))?;
+    let (names, kinds) = columns;
+    Ok(Answer { names, kinds, rows })
 }
 
 /// The bounded answer, by the generic evaluator: its rows are combined where that is asked for. `Overflow` comes exactly
@@ -121,30 +133,6 @@ fn answer_of_rows(
         }
         Err(EvalFault::Overflow) => Err(EngineFault::Overflow),
         Err(EvalFault::NoMemory) => Err(EngineFault::NoMemory),
-    }
-}
-
-// The rows of the answer by the plans of the tree, in which rows are also combined where that is asked for.
-fn planned_rows<R: Threads + Sync, G: Gate + Sync>(
-    crew: &Crew<'_, R, G>,
-    alloc: Global,
-    query: &Query,
-    kinds: &[Kind],
-    tables: &[(Word, Table)],
-    options: Options,
-) -> Result<Rel<Range, Triple>, EvalFault>
-    requires typed { kinds_of (map column_kinds (blocks_of tables.now)) (tree query.now) ≡ Some (map data_kind kinds.now) }
-    requires compression { IsCompression options.compress }
-    ensures rows { IfOk result (λ r. r ≡ tree_asked (rules_of options) options.combine tables.now (tree query.now)) }
-    ensures overflow { result ≡ Err EvalFault.Overflow → tree_asked_fits (rules_of options) options.combine tables.now (tree query.now) ≡ false }
-{
-    let rows = match evaluated_by_plan(crew, alloc, query, kinds, tables, options) {
-        Ok(rows) => rows,
-        Err(fault) => return Err(fault),
-    };
-    match normal(alloc, rows) {
-        Ok(answer) => Ok(answer),
-        Err(fault) => Err(fault),
     }
 }
 

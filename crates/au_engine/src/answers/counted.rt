@@ -50,7 +50,7 @@ pub(crate) fn counted_rows<R: Threads + Sync, G: Gate + Sync>(
         Ok(counted) => counted,
         Err(NoMemory) => return Err(EvalFault::NoMemory),
     };
-    let (plan, held) = match plan_with_rows(alloc, counted.plan, inputs) {
+    let (plan, held) = match plan_with_rows(crew, alloc, counted.plan, inputs) {
         Ok(both) => both,
         Err(NoMemory) => return Err(EvalFault::NoMemory),
     };
@@ -80,7 +80,8 @@ fn table_plan(
 }
 
 // The physical plan of a plan, and what it reads of its inputs.
-fn plan_with_rows<'a>(
+fn plan_with_rows<'a, R: Threads + Sync, G: Gate + Sync>(
+    crew: &Crew<'_, R, G>,
     alloc: Global,
     plan: Plan,
     inputs: Vec<Input<'a>>,
@@ -88,7 +89,7 @@ fn plan_with_rows<'a>(
     ensures { IfOk result (λ v. StandsReady inputs.entry.items v.1.items (plan_tree plan) (physical_tree v.0)) }
 {
     let mut physical = improve(alloc, plan)?;
-    let held = read_inputs(alloc, &mut physical, inputs);
+    let held = read_inputs(crew, alloc, &mut physical, inputs);
     let (held, physical) = beside(held, physical)?;
     Ok((physical, held))
 }

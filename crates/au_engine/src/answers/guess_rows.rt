@@ -99,8 +99,8 @@ fn push_copies(
     Ok(())
 }
 
-/// The guesses of an alternative, whose numbers lie in 128 bits.
-pub(crate) fn guesses(alloc: Global, alternative: &Alternative<'_>) -> Result<PRow, NoMemory>
+// The guesses of an alternative, whose numbers lie in 128 bits.
+fn guesses(alloc: Global, alternative: &Alternative<'_>) -> Result<PRow, NoMemory>
     ensures row { IfOk result (λ v. v.items ≡ guesses_of alternative.now.cells) }
     ensures fits { OnOk result (row_fits (guesses_of alternative.now.cells) ≡ true) }
 {
@@ -114,8 +114,8 @@ pub(crate) fn guesses(alloc: Global, alternative: &Alternative<'_>) -> Result<PR
     Ok(guesses)
 }
 
-/// Nothing but that the number of a value, if it is one, lies in the range of its type.
-pub(crate) fn read_value(value: Scalar<'_>)
+// Nothing but that the number of a value, if it is one, lies in the range of its type.
+fn read_value(value: Scalar<'_>)
     ensures { fit (number_if_any (scalar_value value.entry)) ≡ true }
 {
     match value {

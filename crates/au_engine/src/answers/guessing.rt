@@ -129,9 +129,7 @@ fn guess_inputs(alloc: Global, tables: &[(Word, Table)]) -> Result<Vec<Input<'_>
 {
     let mut inputs = Vec::with_capacity(alloc, tables.len())?;
     for table in tables {
-        // Read for the proof alone: the columns and the blocks of a table make one.
-        let _columns = table.1.columns();
-        inputs.push(Input::of_guesses(table.1.blocks()))?;
+        inputs.push(Input::of_guesses(table.1.columns(), table.1.blocks()))?;
     }
     Ok(inputs)
 }

@@ -8,7 +8,7 @@ ghost use Rattle.au_engine.specs.Explaining.{kept_text, last_text, name_at, name
 use au_blocks::Table;
 use au_explain::push_plan;
 use au_physical::Physical;
-use au_program::{Program, Sources, Ways, Whole, count, more};
+use au_program::{Program, Sources, Ways, count, more};
 use au_sqltext::{push_columns_at, push_number};
 use au_value::{NoMemory, Word};
 
@@ -276,46 +276,12 @@ fn push_steps(
 // ---- programs
 
 // The sources and the lines of the last plan, behind its title.
-fn push_last(out: &mut String, tables: &[(Word, Table)], whole: &Whole) -> Result<(), NoMemory>
-    ensures { OnOk result (string_bytes out.new ≡ string_bytes out.old ++ last_text (names_of tables.now) whole.now) }
+fn push_last(out: &mut String, tables: &[(Word, Table)], program: &Program) -> Result<(), NoMemory>
+    ensures { OnOk result (string_bytes out.new ≡ string_bytes out.old ++ last_text (names_of tables.now) program.now) }
 {
     out.push_str("\n")?;
-    push_sources(out, tables, 0, &whole.sources)?;
-    push_plan(out, 1, &whole.plan)
-}
-
-// That a table is worked slice by slice.
-fn push_slices(out: &mut String, tables: &[(Word, Table)], place: usize) -> Result<(), NoMemory>
-    ensures { OnOk result (string_bytes out.new ≡ string_bytes out.old ++ (codes "answer, slice by slice of " ++ name_at (names_of tables.now) place)) }
-{
-    out.push_str("answer, slice by slice of ")?;
-    push_name(out, tables, place)?;
-    Ok(())
-}
-
-// A plan that is run over slices of the table at a place.
-fn push_sliced(
-    out: &mut String,
-    tables: &[(Word, Table)],
-    place: usize,
-    whole: &Whole,
-) -> Result<(), NoMemory>
-    ensures { OnOk result (string_bytes out.new ≡ string_bytes out.old ++ (steps_text (names_of tables.now) 0 whole.now.sources ++ (codes "answer, slice by slice of " ++ name_at (names_of tables.now) place) ++ last_text (names_of tables.now) whole.now)) }
-{
-    push_steps(out, tables, 0, &whole.sources)?;
-    push_slices(out, tables, place)?;
-    push_last(out, tables, whole)?;
-    Ok(())
-}
-
-// A plan that is run over its sources.
-fn push_whole(out: &mut String, tables: &[(Word, Table)], whole: &Whole) -> Result<(), NoMemory>
-    ensures { OnOk result (string_bytes out.new ≡ string_bytes out.old ++ (steps_text (names_of tables.now) 0 whole.now.sources ++ codes "answer" ++ last_text (names_of tables.now) whole.now)) }
-{
-    push_steps(out, tables, 0, &whole.sources)?;
-    out.push_str("answer")?;
-    push_last(out, tables, whole)?;
-    Ok(())
+    push_sources(out, tables, 0, &program.sources)?;
+    push_plan(out, 1, &program.plan)
 }
 
 /// A program over tables.
@@ -326,8 +292,8 @@ pub(crate) fn push_program(
 ) -> Result<(), NoMemory>
     ensures { OnOk result (string_bytes out.new ≡ string_bytes out.old ++ program_text (names_of tables.now) program.now) }
 {
-    match program {
-        Program::Whole(whole) => push_whole(out, tables, whole),
-        Program::Sliced(place, whole) => push_sliced(out, tables, *place, whole),
-    }
+    push_steps(out, tables, 0, &program.sources)?;
+    out.push_str("answer")?;
+    push_last(out, tables, program)?;
+    Ok(())
 }

@@ -15,13 +15,13 @@ ghost use Rattle.au_engine.specs.Answers.{blocks_of};
 ghost use Rattle.au_program.specs.KeptRows.{kept_rows};
 ghost use Rattle.au_translate.specs.Translate.{bounded_blocks};
 ghost use Rattle.au_program.specs.Sources.{AreParts, Behind, CanRun, CanStart, Gives, Holds, IsFound, IsRead, IsThere, Leaves, PairsOver, StartsOver, Stops};
-ghost use Rattle.au_engine.specs.Finding.{IsAppended, ProductStops, SideStops, StepStops};
+ghost use Rattle.au_engine.specs.Finding.{IsAppended, IsFoundBy, ProductStops, SideStops, StepStops};
 
 use crate::running::held::Held;
 use crate::running::input::Input;
 use crate::running::key_sample::folding_for;
 use crate::running::places::places_read;
-use crate::running::running::{run, run_decoded};
+use crate::running::running::run;
 use crate::running::splitting::put_parts;
 use au_algebra::Rel;
 use au_annot::Triple;
@@ -247,11 +247,31 @@ fn with_pairs<'a, R: Threads + Sync, G: Gate + Sync>(
     put_parts(alloc, &first, &second, pairing.size, inputs)
 }
 
-/// The relation that a plan finds over its sources, each of whose rows has so many columns, in some order.
+/// The rows that a plan finds over its sources. They stay coded.
 ///
 /// `Overflow` comes only where a number of the plan or of what a step finds leaves 128 bits.
 #[cycle(finds)]
-pub(crate) fn relation_found<R: Threads + Sync, G: Gate + Sync>(
+pub(crate) fn rows_found<R: Threads + Sync, G: Gate + Sync>(
+    crew: &Crew<'_, R, G>,
+    alloc: Global,
+    sources: &Sources,
+    plan: &Physical,
+    tables: &[(Word, Table)],
+) -> Result<Coded, EvalFault>
+    requires runs { CanRun (blocks_of tables.now) sources.now }
+    requires starts { (held : List Rows) → Holds (blocks_of tables.now) sources.now held → IsPhysicalFor held (physical_tree plan.now) }
+    ensures rows { IfOk result (λ c. IsFoundBy (blocks_of tables.now) sources.now (physical_tree plan.now) c) }
+    ensures overflow { result ≡ Err EvalFault.Overflow → SideStops (blocks_of tables.now) sources.now (physical_tree plan.now) }
+{
+    let inputs = inputs_of(crew, alloc, sources, tables)?;
+    found_by(crew, alloc, plan, inputs)
+}
+
+// The relation that a plan finds over its sources, each of whose rows has so many columns, in some order.
+//
+// `Overflow` comes only where a number of the plan or of what a step finds leaves 128 bits.
+#[cycle(finds)]
+fn relation_found<R: Threads + Sync, G: Gate + Sync>(
     crew: &Crew<'_, R, G>,
     alloc: Global,
     sources: &Sources,
@@ -265,10 +285,9 @@ pub(crate) fn relation_found<R: Threads + Sync, G: Gate + Sync>(
     ensures rows { IfOk result (λ rel. (held : List Rows) × (Holds (blocks_of tables.now) sources.now held × (rel ≡ decode columns (physical_rows (physical_tree plan.now) held)))) }
     ensures overflow { result ≡ Err EvalFault.Overflow → SideStops (blocks_of tables.now) sources.now (physical_tree plan.now) }
 {
-    let inputs = inputs_of(crew, alloc, sources, tables)?;
-    let (plan, inputs) = match beside(copy_physical(alloc, plan), inputs) {
-        Ok(both) => both,
-        Err(NoMemory) => return Err(EvalFault::NoMemory),
-    };
-    run_decoded(crew, alloc, plan, inputs, columns)
+    let rows = rows_found(crew, alloc, sources, plan, tables)?;
+    match rows.relation(alloc, columns) {
+        Ok(relation) => Ok(relation),
+        Err(NoMemory) => Err(EvalFault::NoMemory),
+    }
 }

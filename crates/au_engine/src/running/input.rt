@@ -1,11 +1,12 @@
 //! Tables that plans read.
 ghost use Rattle.std.specs.Prelude.{◌≡◌};
+ghost use Rattle.au_blocks.specs.Tables.{IsBlockTable, table};
 ghost use Rattle.au_plain.specs.PlanKinds.{FitRows};
 ghost use Rattle.au_engine.specs.CountedTables.{certain_guesses, counted_guesses};
 ghost use Rattle.au_engine.specs.InputRows.{content_rows, IsContent};
 
 use crate::running::held::Held;
-use au_blocks::Blocks;
+use au_blocks::{Blocks, Column};
 use std::marker::Model;
 
 /// A table that plans read. Contracts see its rows, whether they are there or are still to be made.
@@ -14,12 +15,13 @@ pub(crate) struct Input<'a> {
     content: Content<'a>,
 }
 
-/// What a plan can be run over as it is; or blocks, whose rows in the guess world, with the number of their copies, or with how
-/// many of these are certain and how many guessed, are made when a plan is run.
+/// What a plan can be run over as it is; or the columns and some blocks of a block table, whose rows in the guess world, with
+/// the number of their copies, are found when a plan is run; or blocks, whose rows there, with how many of the copies are certain
+/// and how many guessed, are made then.
 #[derive(Drop)]
 pub(crate) enum Content<'a> {
     Ready(Held<'a>),
-    Guesses(Blocks<'a>),
+    Guesses(&'a [Column], Blocks<'a>),
     Certain(Blocks<'a>),
 }
 
@@ -46,16 +48,18 @@ impl<'a> Input<'a> {
         }
     }
 
-    /// The rows of some blocks in the guess world, in block order, each with the number of its copies.
-    pub(crate) fn of_guesses(blocks: Blocks<'a>) -> Input<'a>
+    /// The rows of some blocks of a table of these columns in the guess world, in block order, each with the number of its
+    /// copies.
+    pub(crate) fn of_guesses(columns: &'a [Column], blocks: Blocks<'a>) -> Input<'a>
+        requires { IsBlockTable (table columns.now blocks) }
         ensures { result ≡ counted_guesses blocks.entry }
     {
         Input {
-            content: Content::Guesses(blocks),
+            content: Content::Guesses(columns, blocks),
         }
     }
 
-    /// The same with how many of the copies are certain before how many are guessed.
+    /// The rows of some blocks there with how many of the copies are certain before how many are guessed.
     pub(crate) fn of_certain(blocks: Blocks<'a>) -> Input<'a>
         ensures { result ≡ certain_guesses blocks.entry }
     {

@@ -1,7 +1,7 @@
 //! The places that are read of the encoded rows of a table.
 ghost use Rattle.std.specs.Prelude.{◌≡◌, ◌++◌, ◌∷◌, ◌+◌, ◌*◌, ℕ, [], IfOk, OnOk, length};
 ghost use Rattle.std.specs.List.{range_with_len};
-ghost use Rattle.au_engine.specs.SliceWork.{places_in};
+ghost use Rattle.au_engine.specs.ReadPlaces.{places_in};
 
 use au_blocks::Column;
 use au_value::NoMemory;

@@ -1,24 +1,29 @@
-//! What a plan reads of its inputs. Of rows in the guess world just the columns are made that the plan keeps.
-ghost use Rattle.std.specs.Prelude.{◌≡◌, IfOk, OnOk, map};
+//! What a plan reads of its inputs. Of rows in the guess world just the columns are found or made that the plan keeps.
+ghost use Rattle.std.specs.Prelude.{◌≡◌, IfOk, OnOk};
+ghost use Rattle.au_blocks.specs.Tables.{IsBlockTable, table};
 ghost use Rattle.au_exec.specs.HeldRows.{rows_of};
 ghost use Rattle.au_physical.specs.Physicals.{physical_tree};
 ghost use Rattle.au_plain.specs.PlanKinds.{FitRows, FitTables};
 ghost use Rattle.au_engine.specs.CountedTables.{certain_guesses, counted_guesses};
 ghost use Rattle.au_program.specs.Inputs.{ReadsNext, Reads, ReadsAll};
 
-use crate::answers::guess_counts::{all_guesses, kept_guesses};
+use crate::running::guessed::{all_guesses, kept_guesses};
 use crate::running::held::Held;
 use crate::running::input::{Content, Input};
-use au_blocks::Blocks;
+use au_blocks::{Blocks, Column};
+use au_par::Gate;
 use au_physical::Physical;
 use au_plain::PRow;
 use au_plan::narrow_scans;
 use au_ua::{counted_blocks, counted_places};
 use au_value::NoMemory;
+use au_vector::Crew;
 use std::alloc::Global;
+use std::thread::Threads;
 
 /// What the plan reads of its inputs, with the plan changed to read that.
-pub(crate) fn read_inputs<'a>(
+pub(crate) fn read_inputs<'a, R: Threads + Sync, G: Gate + Sync>(
+    crew: &Crew<'_, R, G>,
     alloc: Global,
     plan: &mut Physical,
     inputs: Vec<Input<'a>>,
@@ -28,13 +33,14 @@ pub(crate) fn read_inputs<'a>(
 {
     let mut held = Vec::with_capacity(alloc, inputs.len())?;
     for input in inputs {
-        read_next(alloc, plan, input, &mut held)?;
+        read_next(crew, alloc, plan, input, &mut held)?;
     }
     Ok(held)
 }
 
 // Puts what the plan reads of the next input behind what it reads of those before it.
-fn read_next<'a>(
+fn read_next<'a, R: Threads + Sync, G: Gate + Sync>(
+    crew: &Crew<'_, R, G>,
     alloc: Global,
     plan: &mut Physical,
     input: Input<'a>,
@@ -44,13 +50,14 @@ fn read_next<'a>(
     ensures fit { OnOk result (FitRows input.entry) }
 {
     let place = held.len();
-    let rows = rows_read(alloc, plan, place, input)?;
+    let rows = rows_read(crew, alloc, plan, place, input)?;
     held.push(rows)?;
     Ok(())
 }
 
 // What the plan reads of the input of this number.
-fn rows_read<'a>(
+fn rows_read<'a, R: Threads + Sync, G: Gate + Sync>(
+    crew: &Crew<'_, R, G>,
     alloc: Global,
     plan: &mut Physical,
     number: usize,
@@ -61,8 +68,8 @@ fn rows_read<'a>(
 {
     match input.into_content() {
         Content::Ready(rows) => Ok(rows),
-        Content::Guesses(blocks) => {
-            Ok(Held::of_rows(guesses_read(alloc, plan, number, &blocks)?))
+        Content::Guesses(columns, blocks) => {
+            guesses_read(crew, alloc, plan, number, columns, blocks)
         }
         Content::Certain(blocks) => {
             Ok(Held::of_rows(certain_read(alloc, plan, number, &blocks)?))
@@ -70,20 +77,23 @@ fn rows_read<'a>(
     }
 }
 
-// The rows of blocks in the guess world.
-fn guesses_read(
+// The rows of some blocks of a table of these columns in the guess world.
+fn guesses_read<'a, R: Threads + Sync, G: Gate + Sync>(
+    crew: &Crew<'_, R, G>,
     alloc: Global,
     plan: &mut Physical,
     number: usize,
-    blocks: &Blocks<'_>,
-) -> Result<Vec<PRow>, NoMemory>
-    ensures reads { IfOk result (λ v. Reads number (counted_guesses blocks.now) (rows_of v) (physical_tree plan.old) (physical_tree plan.new)) }
-    ensures fit { OnOk result (FitRows (counted_guesses blocks.now)) }
+    columns: &'a [Column],
+    blocks: Blocks<'a>,
+) -> Result<Held<'a>, NoMemory>
+    requires table { IsBlockTable (table columns.now blocks) }
+    ensures reads { IfOk result (λ h. Reads number (counted_guesses blocks.entry) h (physical_tree plan.old) (physical_tree plan.new)) }
+    ensures fit { OnOk result (FitRows (counted_guesses blocks.entry)) }
 {
     let kept = narrow_scans(alloc, plan, number)?;
     match kept {
-        Some(places) => kept_guesses(alloc, blocks, &places),
-        None => all_guesses(alloc, blocks),
+        Some(places) => kept_guesses(crew, alloc, columns, blocks, &places),
+        None => all_guesses(crew, alloc, columns, blocks),
     }
 }
 

@@ -1,6 +1,5 @@
 //! Physical plans that are run over their inputs.
 ghost use Rattle.std.specs.Prelude.{◌≡◌, IfOk, OnOk, false, true};
-ghost use Rattle.au_encode.specs.Encode.{AreEncoded, decode};
 ghost use Rattle.au_expr.specs.Figures.{fit};
 ghost use Rattle.au_physical.specs.PhysicalKinds.{IsPhysicalFor};
 ghost use Rattle.au_physical.specs.PhysicalMeaning.{physical_rows};
@@ -12,19 +11,18 @@ ghost use Rattle.au_program.specs.Inputs.{ReadsAll};
 use crate::running::held::{Held, sources_of};
 use crate::running::input::Input;
 use crate::running::reads::read_inputs;
-use au_algebra::Rel;
-use au_annot::Triple;
 use au_exec::{Coded, run_coded};
 use au_expr::EvalFault;
 use au_par::Gate;
 use au_physical::Physical;
-use au_value::{NoMemory, Range, beside};
+use au_value::{NoMemory, beside};
 use au_vector::Crew;
 use std::alloc::Global;
 use std::thread::Threads;
 
 // A plan, and what it reads of its inputs.
-fn plan_with_rows<'a>(
+fn plan_with_rows<'a, R: Threads + Sync, G: Gate + Sync>(
+    crew: &Crew<'_, R, G>,
     alloc: Global,
     plan: Physical,
     inputs: Vec<Input<'a>>,
@@ -33,7 +31,7 @@ fn plan_with_rows<'a>(
     ensures fit { OnOk result (FitTables inputs.entry.items) }
 {
     let mut plan = plan;
-    let held = read_inputs(alloc, &mut plan, inputs);
+    let held = read_inputs(crew, alloc, &mut plan, inputs);
     let (held, plan) = beside(held, plan)?;
     Ok((plan, held))
 }
@@ -76,34 +74,9 @@ pub(crate) fn run<R: Threads + Sync, G: Gate + Sync>(
     ensures fit { IfOk result (λ c. FitRows c) }
     ensures overflow { result ≡ Err EvalFault.Overflow → fit (physical_numbers (physical_tree plan) inputs.entry.items) ≡ false }
 {
-    let (plan, held) = match plan_with_rows(alloc, plan, inputs) {
+    let (plan, held) = match plan_with_rows(crew, alloc, plan, inputs) {
         Ok(both) => both,
         Err(NoMemory) => return Err(EvalFault::NoMemory),
     };
     run_over(crew, alloc, plan, &held)
-}
-
-/// The relation that the rows of a plan over its inputs, which are let go, encode, each with so many columns.
-///
-/// `Overflow` comes only where a number of the plan leaves 128 bits.
-pub(crate) fn run_decoded<R: Threads + Sync, G: Gate + Sync>(
-    crew: &Crew<'_, R, G>,
-    alloc: Global,
-    plan: Physical,
-    inputs: Vec<Input<'_>>,
-    columns: usize,
-) -> Result<Rel<Range, Triple>, EvalFault>
-    requires starts { IsPhysicalFor inputs.items (physical_tree plan) }
-    requires encoded { AreEncoded columns (physical_rows (physical_tree plan) inputs.items) }
-    ensures rows { IfOk result (λ rel. rel ≡ decode columns (physical_rows (physical_tree plan) inputs.entry.items)) }
-    ensures overflow { result ≡ Err EvalFault.Overflow → fit (physical_numbers (physical_tree plan) inputs.entry.items) ≡ false }
-{
-    let coded = match run(crew, alloc, plan, inputs) {
-        Ok(coded) => coded,
-        Err(fault) => return Err(fault),
-    };
-    match coded.relation(alloc, columns) {
-        Ok(relation) => Ok(relation),
-        Err(NoMemory) => Err(EvalFault::NoMemory),
-    }
 }

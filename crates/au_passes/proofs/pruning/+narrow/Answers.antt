@@ -7,7 +7,7 @@ use Rattle.au_plain.specs.declared.plan.Plan.TheVariants as code
 use Rattle.au_plain.specs.PTerms.{pterm}
 use Rattle.au_plain.specs.Plans.{plan_tree, Extend, Filter, Keep, Join, Union, Group}
 use Rattle.au_passes.specs.declared.narrow.Columns.{Columns}
-use Rattle.au_passes.specs.Pruning.{IsKept, renumbered, renumbered_agg}
+use Rattle.au_passes.specs.Pruning.{IsKept, Narrowed, renumbered, renumbered_agg}
 use Rattle.au_plain.specs.Widths.{plan_width}
 use Rattle.au_passes.specs.Reading.{agg_column, at_least_one, chosen, mark_all, ranks, read_aggs, read_places, reads_last}
 use Rattle.au_passes.proofs.NarrowedPlans.{narrowed_leaf}
@@ -119,17 +119,19 @@ narrow-narrow-requires-in-Group t c =
           c.in_ok-read-in-Group.read.aggs.items c.args.marks.items c.in_ok-marks-in-Group.marks.items w is c.requires wide m,
     )
 
+pub narrow-scan-requires : goal.narrow-scan-requires
+narrow-scan-requires t c = c.requires ∙ ap (λ p. plan_width (plan_tree p)) c.in-Scan.is
+
 pub narrow-returns-in-Scan-clause-narrowed : goal.narrow-returns-in-Scan-clause-narrowed
 narrow-returns-in-Scan-clause-narrowed t c =
-    IfOk-weaker c.whole.result _ _ (λ n f.
-    narrowed_leaf (plan_tree c.args.plan) (plan_tree n.plan) c.args.marks.items n.found.items c.in-Scan.width
-    (sym (ap (λ p. plan_width (plan_tree p)) c.in-Scan.is)) c.requires (f.0 ∙ sym (ap plan_tree c.in-Scan.is)) f.1) c.whole.ensures
+    IfOk-weaker c.scan.result _ _ (λ n f. subst (λ p. Narrowed (plan_tree p) c.args.marks.items (plan_tree n.plan) n.found.items) (sym c.in-Scan.is) f)
+    c.scan.ensures.narrowed
 
 pub narrow-returns-in-Rows-clause-narrowed : goal.narrow-returns-in-Rows-clause-narrowed
 narrow-returns-in-Rows-clause-narrowed t c =
-    IfOk-weaker c.whole-in-Rows.result _ _ (λ n f.
+    IfOk-weaker c.whole.result _ _ (λ n f.
     narrowed_leaf (plan_tree c.args.plan) (plan_tree n.plan) c.args.marks.items n.found.items c.in-Rows.width
-    (sym (ap (λ p. plan_width (plan_tree p)) c.in-Rows.is)) c.requires (f.0 ∙ sym (ap plan_tree c.in-Rows.is)) f.1) c.whole-in-Rows.ensures
+    (sym (ap (λ p. plan_width (plan_tree p)) c.in-Rows.is)) c.requires (f.0 ∙ sym (ap plan_tree c.in-Rows.is)) f.1) c.whole.ensures
 
 pub narrow-returns-in_ok-made-in-Extend-clause-narrowed : goal.narrow-returns-in_ok-made-in-Extend-clause-narrowed
 narrow-returns-in_ok-made-in-Extend-clause-narrowed t c =

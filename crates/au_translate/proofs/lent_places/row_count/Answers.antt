@@ -1,20 +1,12 @@
--- The rows of one block more.
-use Rattle.std.proofs.Common.{◌≡◌, ◌∙◌, ◌+◌, ◌∷◌, [], ap, arith, drop, length}
-use Rattle.std.proofs.lemmas.List.{length-append}
-use Rattle.au_translate.specs.EncodingPieces.{bounded_apart}
-use Rattle.au_translate.specs.Translate.{bounded_blocks}
-use Rattle.au_translate.proofs.Places.{left_at}
+-- Blocks that stand once have a row each.
+use Rattle.std.proofs.Common.{◌∙◌, ap, length, sym}
+use Rattle.std.proofs.lemmas.List.{length-map}
+use Rattle.au_translate.specs.Translate.{block_row}
+use Rattle.au_translate.proofs.SingleBlocks.{rows_once}
 use Rattle.au_translate.proofs.lent_places.row_count.Goals as goal
 
-pub loop-place-preserved : goal.loop-place-preserved
-loop-place-preserved c =
-    let i = c.loop-place.place in
-    let b = c.get.result in
-    let later = drop (i + 1) c.args.blocks.now in
-    let left : length (bounded_blocks (drop i c.args.blocks.now)) ≡ length (bounded_blocks (b ∷ [])) + length (bounded_blocks later) =
-    ap (λ bs. length (bounded_blocks bs)) (left_at c.args.blocks.now i b c.get.ensures)
-    ∙ (ap length (bounded_apart (b ∷ []) later) ∙ length-append (bounded_blocks (b ∷ [])) (bounded_blocks later)) in
-    record {
-      rows = omega (arith, left, c.rows_in-count.ensures.rows, c.loop-place.invariant.rows);
-      few = omega (arith, c.rows_in-count.ensures.few, c.loop-place.invariant.few);
-    }
+pub returns-then-stand_once : goal.returns-then-stand_once
+returns-then-stand_once c =
+    let bs = c.args.blocks.now in
+    let all = sym c.stand_once.ensures ∙ c.if-stand_once.true in
+    c.len.ensures ∙ sym (ap length (rows_once bs all) ∙ length-map bs block_row)

@@ -4,7 +4,7 @@ use Rattle.std.proofs.lemmas.Result.{IfOk-weaker}
 use Rattle.au_algebra.specs.Trees.{tree}
 use Rattle.au_algebra.specs.Typing.{IsTyped}
 use Rattle.au_typing.specs.Queries.{relations, table_kinds}
-use Rattle.au_program.specs.RowPlans.{IsProgram}
+use Rattle.au_program.specs.Programs.{IsProgram}
 use Rattle.au_program.specs.Rules.{plain_rules}
 use Rattle.au_engine.specs.Exchange.{value_kinds}
 use Rattle.au_engine.proofs.TableRelations.{same_kinds}

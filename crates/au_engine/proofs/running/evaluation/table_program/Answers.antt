@@ -3,7 +3,7 @@ use Rattle.std.proofs.Common.{ap, subst, sym, ◌∙◌}
 use Rattle.au_algebra.specs.Trees.{tree}
 use Rattle.au_algebra.specs.Typing.{IsTyped}
 use Rattle.au_typing.specs.Queries.{relations, table_kinds}
-use Rattle.au_program.specs.RowPlans.{IsProgram}
+use Rattle.au_program.specs.Programs.{IsProgram}
 use Rattle.au_engine.specs.Options.{rules_of}
 use Rattle.au_engine.proofs.TableRelations.{same_kinds}
 use Rattle.au_engine.proofs.running.evaluation.table_program.Goals as goal

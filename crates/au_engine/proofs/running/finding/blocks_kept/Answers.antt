@@ -6,7 +6,7 @@ use Rattle.au_translate.specs.Translate.{bounded_blocks}
 use Rattle.au_batches.specs.BlockRows.{block_rows}
 use Rattle.au_program.specs.KeptRows.{kept_rows}
 use Rattle.au_program.proofs.HeldSources.{kept_fit}
-use Rattle.au_engine.proofs.SliceCodes.{all_read}
+use Rattle.au_engine.proofs.ReadPlaces.{all_read}
 use Rattle.au_engine.proofs.running.finding.blocks_kept.Goals as goal
 
 pub of-requires : goal.of-requires

@@ -9,7 +9,7 @@ use Rattle.au_program.proofs.ReadRows.{next_read}
 use Rattle.au_engine.proofs.running.reads.read_inputs.Goals as goal
 
 pub loop-input-preserved : goal.loop-input-preserved
-loop-input-preserved c =
+loop-input-preserved g c =
     let done = c.loop-input.held.items in
     let now = c.read_next.new.held.items in
     let later = into_iter_items c.next.new.self in

@@ -1,0 +1,8 @@
+-- The answer has as many kinds as names.
+use Rattle.au_parse.specs.Views.{statement_tree}
+use Rattle.au_cli.proofs.AnswerColumns.{columns_fit}
+use Rattle.au_cli.proofs.answering.table_answer.Goals as goal
+
+pub table_text-requires-clause-columns : goal.table_text-requires-clause-columns
+table_text-requires-clause-columns g c =
+    columns_fit c.args.tables.now (statement_tree c.args.statement.now) c.in-Ok.answer.names.items c.in-Ok.answer.kinds.items c.in-Ok.ensures.names c.in-Ok.ensures.kinds

@@ -1,0 +1,7 @@
+-- The numbers so far.
+use Rattle.std.proofs.Common.{◌≡◌}
+use Rattle.std.specs.List.{range_with_len}
+use Rattle.au_engine.proofs.running.guess_plan.up_to.Given as goal
+
+abbrev pub invariant-loop-i : goal.invariant-loop-i
+invariant-loop-i l = l.numbers.items ≡ range_with_len 0 l.i

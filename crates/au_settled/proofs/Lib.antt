@@ -1,0 +1,8 @@
+mod RowOrder
+mod Ranges
+mod Spans
+mod Pass
+mod Heads
+mod OwnForm
+mod Gathered
+mod Normal
