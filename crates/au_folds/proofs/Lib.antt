@@ -2,6 +2,7 @@ pub mod CellKeys
 mod KeyRows
 mod KeySets
 pub mod MergeLaws
+mod PackedLaws
 pub mod PutLaws
 pub mod TableLaws
 mod TableShapes

@@ -4,6 +4,7 @@ pub mod Kept
 pub mod Places
 pub mod Tables
 pub mod Merged
+pub mod Packed
 pub mod Keyed
 pub mod Known
 pub mod Held

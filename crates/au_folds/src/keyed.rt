@@ -56,9 +56,9 @@ fn single_stands(known: &IndexSet<i128>, key: i128, place: usize) -> bool
     }
 }
 
-// Whether two numbers are equal.
+/// Whether two numbers are equal.
 #[inline(always)]
-fn are_equal(x: i128, y: i128) -> bool
+pub(crate) fn are_equal(x: i128, y: i128) -> bool
     ensures { result ≡ int_eq x y }
 {
     x == y
@@ -187,8 +187,8 @@ fn known_place(known: &IndexSet<Vec<i128>>, key: &[i128]) -> Option<usize>
     }
 }
 
-// Puts a key behind the others, if it is new, and tells its place.
-fn put_new(known: &mut IndexSet<Vec<i128>>, key: Vec<i128>) -> Result<usize, NoMemory>
+/// Puts a key behind the others, if it is new, and tells its place.
+pub(crate) fn put_new(known: &mut IndexSet<Vec<i128>>, key: Vec<i128>) -> Result<usize, NoMemory>
     ensures place { IfOk result (λ place. place ≡ place_of (lists known.old.keys) key.items) }
     ensures seen { OnOk result (lists known.new.keys ≡ seen_with (lists known.old.keys) key.items) }
 {

@@ -1,10 +1,16 @@
 //! Keys, each of which has a place.
-ghost use Rattle.std.specs.Prelude.{◌≡◌, [], ◌∷◌, IfOk, length};
-ghost use Rattle.au_folds.specs.Keyed.{key_cells, lists, singles};
+ghost use Rattle.std.specs.Prelude.{◌≡◌, [], ◌∷◌, ◌<◌, IfOk, length, map};
+ghost use Rattle.std.specs.List.{AllByRecursion};
+ghost use Rattle.std.specs.Int.{w128};
+ghost use Rattle.std.specs.Int.RustNames.{FitsSigned};
+ghost use Rattle.au_folds.specs.Keyed.{key_cells, key_lists, lists, singles};
 ghost use Rattle.au_folds.specs.Known.{Finds, known_with};
+ghost use Rattle.au_folds.specs.Packed.{unpacked};
 ghost use Rattle.au_folds.specs.Places.{places_among, seen_after};
 ghost use Rattle.au_folds.specs.Tables.{keys_of};
 
+use crate::held::KeyLists;
+use crate::packed::{holds_list, list_packed, width};
 use crate::seen::{Seen, nothing_seen, row_places};
 use au_columns::Batch;
 use au_value::NoMemory;
@@ -55,7 +61,7 @@ impl Keys {
     {
         match &self.seen {
             Seen::One(_, known) => single_found(known, key[0]),
-            Seen::Several(_, known) => list_found(known, key),
+            Seen::Several(_, known) => held_found(known, key),
         }
     }
 }
@@ -66,7 +72,17 @@ fn count(seen: &Seen) -> usize
 {
     match seen {
         Seen::One(_, known) => known.len(),
-        Seen::Several(_, known) => known.len(),
+        Seen::Several(_, known) => lists_len(known),
+    }
+}
+
+// How many keys are held, in either form.
+fn lists_len(known: &KeyLists) -> usize
+    ensures { result ≡ length (key_lists known.now) }
+{
+    match known {
+        KeyLists::Packed(_, known) => known.len(),
+        KeyLists::Free(known) => known.len(),
     }
 }
 
@@ -75,6 +91,47 @@ fn single_found(known: &IndexSet<i128>, key: i128) -> Option<usize>
     ensures { Finds (singles known.now.keys) (key ∷ []) result }
 {
     known.get_index_of(&key)
+}
+
+// The place of a key of several numbers, in either form.
+fn held_found(known: &KeyLists, key: &[i128]) -> Option<usize>
+    ensures { Finds (key_lists known.now) key.now result }
+{
+    match known {
+        KeyLists::Packed(deep, known) => packed_found(known, key, *deep, width(*deep)),
+        KeyLists::Free(known) => list_found(known, key),
+    }
+}
+
+// The place of a key of several numbers among those that are packed. One that doesn't fit is none of them.
+fn packed_found(known: &IndexSet<i128>, key: &[i128], deep: usize, width: u32) -> Option<usize>
+    requires { width < 127 }
+    ensures { Finds (map (unpacked width deep) known.now.keys) key.now result }
+{
+    let packed = list_packed(key, width);
+    if holds_list(packed, key, deep, width) {
+        known.get_index_of(&packed)
+    } else {
+        read_numbers(known.as_slice());
+        None
+    }
+}
+
+// Nothing but that numbers which are held lie in the range of their type. That is known of a number once it is read.
+fn read_numbers(numbers: &[i128])
+    ensures { AllByRecursion (FitsSigned w128) numbers.now }
+{
+    for number in numbers {
+        read_number(*number);
+    }
+}
+
+// One number.
+#[inline(always)]
+fn read_number(number: i128)
+    ensures { FitsSigned w128 number }
+{
+    let _number = number;
 }
 
 // The place of a key of several numbers.

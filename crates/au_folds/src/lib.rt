@@ -2,7 +2,8 @@
 //!
 //! [`Groups`] keeps of the rows that were added each key once, in the order in which keys come first, and for each aggregate
 //! a list by the groups' places: sums with their magnitudes, or the best numbers. A batch is added by the place of each
-//! row's group, and then by one loop for each aggregate. No row is kept, and no call takes memory for each row but the places
+//! row's group, and then by one loop for each aggregate. A key of several numbers is held as one number, into which they are
+//! packed, until the first key comes that doesn't fit. No row is kept, and no call takes memory for each row but the places
 //! of one batch and its columns. Groups of rows that stand behind others are merged with theirs, so that workers can share
 //! the rows. [`grouped`] groups the rows of one batch. [`Keys`] are the keys of one batch alone, with the place of each one.
 //!
@@ -19,10 +20,12 @@
 
 mod fold;
 mod groups;
+mod held;
 mod joining;
 mod keyed;
 mod keys;
 mod numbers;
+mod packed;
 mod results;
 mod seen;
 mod theorems;

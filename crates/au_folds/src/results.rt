@@ -5,11 +5,14 @@ ghost use Rattle.au_columns.specs.Batches.{beside};
 ghost use Rattle.au_columns.specs.Steps.{number_at};
 ghost use Rattle.au_folds.specs.Held.{kept_in, kept_in_all};
 ghost use Rattle.au_folds.specs.Kept.{kept_values};
-ghost use Rattle.au_folds.specs.Keyed.{key_cells, key_places, lists, singles};
+ghost use Rattle.au_folds.specs.Keyed.{key_cells, key_lists, key_places, lists, singles};
+ghost use Rattle.au_folds.specs.Packed.{unpacked};
 ghost use Rattle.au_folds.specs.Tables.{beside_all};
 
 use crate::fold::Fold;
+use crate::held::KeyLists;
 use crate::keyed::number;
+use crate::packed::{number_in, width};
 use crate::seen::Seen;
 use au_columns::{Batch, Column};
 use au_value::{Adder, NoMemory};
@@ -22,7 +25,7 @@ pub(crate) fn key_rows(alloc: Global, seen: &Seen) -> Result<Batch, NoMemory>
 {
     match seen {
         Seen::One(_, known) => single_rows(alloc, known.as_slice()),
-        Seen::Several(places, known) => list_rows(alloc, places.len(), known.as_slice()),
+        Seen::Several(places, known) => held_rows(alloc, places.len(), known),
     }
 }
 
@@ -33,6 +36,57 @@ fn single_rows(alloc: Global, keys: &[i128]) -> Result<Batch, NoMemory>
     let column = listed(alloc, keys)?;
     let rows = Batch::new(alloc, keys.len()).with_column(alloc, column)?;
     Ok(rows)
+}
+
+// Rows of so many numbers each, in either form.
+fn held_rows(alloc: Global, count: usize, known: &KeyLists) -> Result<Batch, NoMemory>
+    requires { AllByRecursion (λ key. length key ≡ count) (key_lists known.now) }
+    ensures { IfOk result (λ b. b ≡ key_lists known.now) }
+{
+    match known {
+        KeyLists::Packed(deep, known) => {
+            packed_rows(alloc, count, *deep, width(*deep), known.as_slice())
+        }
+        KeyLists::Free(known) => list_rows(alloc, count, known.as_slice()),
+    }
+}
+
+// Rows of so many numbers each that are packed into one.
+fn packed_rows(
+    alloc: Global,
+    count: usize,
+    deep: usize,
+    width: u32,
+    keys: &[i128],
+) -> Result<Batch, NoMemory>
+    requires long { AllByRecursion (λ key. length key ≡ count) (map (unpacked width deep) keys.now) }
+    requires small { width < 127 }
+    ensures { IfOk result (λ b. b ≡ map (unpacked width deep) keys.now) }
+{
+    let mut rows = Batch::new(alloc, keys.len());
+    for place in 0..count {
+        let column = packed_place(alloc, keys, place, deep, width)?;
+        rows = rows.with_column(alloc, column)?;
+    }
+    Ok(rows)
+}
+
+// The numbers of a place of keys that are packed.
+fn packed_place(
+    alloc: Global,
+    keys: &[i128],
+    place: usize,
+    deep: usize,
+    width: u32,
+) -> Result<Column, NoMemory>
+    requires { width < 127 }
+    ensures { IfOk result (λ c. c ≡ map (λ key. number_at key place) (map (unpacked width deep) keys.now)) }
+{
+    let mut column = Column::new(alloc);
+    for key in keys {
+        column.push(alloc, number_in(*key, place, deep, width))?;
+    }
+    Ok(column)
 }
 
 // Rows of so many numbers each.

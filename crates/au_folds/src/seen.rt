@@ -6,7 +6,8 @@ ghost use Rattle.au_folds.specs.Keyed.{key_cells, key_places, lists};
 ghost use Rattle.au_folds.specs.Places.{places_among, seen_after};
 ghost use Rattle.au_folds.specs.Tables.{keys_of};
 
-use crate::keyed::{list_places, single_places};
+use crate::held::{KeyLists, held_places, no_lists};
+use crate::keyed::single_places;
 use au_columns::Batch;
 use au_value::NoMemory;
 use indexmap::IndexSet;
@@ -17,7 +18,7 @@ use std::alloc::Global;
 pub(crate) enum Seen {
     /// Of one column the numbers alone.
     One(usize, IndexSet<i128>),
-    Several(Vec<usize>, IndexSet<Vec<i128>>),
+    Several(Vec<usize>, KeyLists),
 }
 
 /// No keys of these columns.
@@ -27,7 +28,7 @@ pub(crate) fn nothing_seen(alloc: Global, keys: &[usize]) -> Result<Seen, NoMemo
     if keys.len() == 1 {
         Ok(Seen::One(keys[0], IndexSet::new(alloc)))
     } else {
-        Ok(Seen::Several(Vec::from_slice(alloc, keys)?, IndexSet::new(alloc)))
+        Ok(Seen::Several(Vec::from_slice(alloc, keys)?, no_lists(alloc, keys.len())))
     }
 }
 
@@ -49,7 +50,7 @@ pub(crate) fn row_places(
         }
         Seen::Several(places, known) => {
             let columns = key_columns(alloc, places, rows)?;
-            let found = list_places(alloc, known, &columns, rows.len())?;
+            let found = held_places(alloc, known, &columns, rows.len())?;
             Ok(found)
         }
     }
@@ -75,7 +76,7 @@ pub(crate) fn key_set_places(
         Seen::Several(places, known) => {
             let all = first_places(alloc, places.len())?;
             let columns = key_columns(alloc, &all, keys)?;
-            let found = list_places(alloc, known, &columns, keys.len())?;
+            let found = held_places(alloc, known, &columns, keys.len())?;
             Ok(found)
         }
     }

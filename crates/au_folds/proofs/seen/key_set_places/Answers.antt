@@ -4,7 +4,7 @@ use Rattle.std.specs.List.{AllByRecursion, range_with_len}
 use Rattle.au_columns.specs.Batches.{rows_of}
 use Rattle.au_folds.specs.declared.seen.Seen.{Seen}
 use Rattle.au_folds.specs.Kept.{column_of}
-use Rattle.au_folds.specs.Keyed.{key_cells, key_places, lists, singles}
+use Rattle.au_folds.specs.Keyed.{key_cells, key_lists, key_places, lists, singles}
 use Rattle.au_folds.specs.Places.{places_among, seen_after}
 use Rattle.au_folds.proofs.KeyRows.{keys_are, single_keys, whole_keys}
 use Rattle.au_folds.proofs.seen.key_set_places.Goals as goal
@@ -41,7 +41,7 @@ returns-in_ok-found-in-Several-clause-places c =
     ∙ keys_are (range_with_len 0 n) keys c.len-in-Several.result c.len-in-Several.ensures
     ∙ whole_keys n keys wide in
     c.in_ok-found-in-Several.ensures.places
-    ∙ ap (places_among (lists c.in-Several.known.keys)) are
+    ∙ ap (places_among (key_lists c.in-Several.known)) are
     ∙ sym (ap (λ (s : Seen). places_among (key_cells s) keys) c.in-Several.is)
 
 pub returns-in_ok-found-in-Several-clause-seen : goal.returns-in_ok-found-in-Several-clause-seen
@@ -58,5 +58,5 @@ returns-in_ok-found-in-Several-clause-seen c =
     ∙ keys_are (range_with_len 0 n) keys c.len-in-Several.result c.len-in-Several.ensures
     ∙ whole_keys n keys wide in
     c.in_ok-found-in-Several.ensures.seen
-    ∙ ap (seen_after (lists c.in-Several.known.keys)) are
+    ∙ ap (seen_after (key_lists c.in-Several.known)) are
     ∙ sym (ap (λ (s : Seen). seen_after (key_cells s) keys) c.in-Several.is)

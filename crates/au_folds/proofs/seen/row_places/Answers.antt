@@ -3,7 +3,7 @@ use Rattle.std.proofs.Common.{◌≡◌, ◌∷◌, [], ap, map, sym, ◌∙◌,
 use Rattle.au_columns.specs.Batches.{rows_of}
 use Rattle.au_folds.specs.declared.seen.Seen.{Seen}
 use Rattle.au_folds.specs.Kept.{column_of}
-use Rattle.au_folds.specs.Keyed.{key_cells, key_places, lists, singles}
+use Rattle.au_folds.specs.Keyed.{key_cells, key_lists, key_places, lists, singles}
 use Rattle.au_folds.specs.Places.{places_among, seen_after}
 use Rattle.au_folds.specs.Tables.{keys_of}
 use Rattle.au_folds.proofs.KeyRows.{keys_are, single_keys}
@@ -35,7 +35,7 @@ returns-in_ok-found-in-Several-clause-places c =
     ap lists c.deref-in-Several-2.ensures.value ∙ c.in_ok-columns-in-Several.ensures ∙ ap (map (λ (p : ℕ). column_of p rows)) c.deref-in-Several.ensures.value in
     let keys : rows_of c.len.result (lists c.deref-in-Several-2.result.now) ≡ keys_of places rows = ap (rows_of c.len.result) columns ∙ keys_are places rows c.len.result c.len.ensures in
     c.in_ok-found-in-Several.ensures.places
-    ∙ ap (places_among (lists c.in-Several.known.keys)) keys
+    ∙ ap (places_among (key_lists c.in-Several.known)) keys
     ∙ sym (ap (λ (s : Seen). places_among (key_cells s) (keys_of (key_places s) rows)) c.in-Several.is)
 
 pub returns-in_ok-found-in-Several-clause-seen : goal.returns-in_ok-found-in-Several-clause-seen
@@ -46,5 +46,5 @@ returns-in_ok-found-in-Several-clause-seen c =
     ap lists c.deref-in-Several-2.ensures.value ∙ c.in_ok-columns-in-Several.ensures ∙ ap (map (λ (p : ℕ). column_of p rows)) c.deref-in-Several.ensures.value in
     let keys : rows_of c.len.result (lists c.deref-in-Several-2.result.now) ≡ keys_of places rows = ap (rows_of c.len.result) columns ∙ keys_are places rows c.len.result c.len.ensures in
     c.in_ok-found-in-Several.ensures.seen
-    ∙ ap (seen_after (lists c.in-Several.known.keys)) keys
+    ∙ ap (seen_after (key_lists c.in-Several.known)) keys
     ∙ sym (ap (λ (s : Seen). seen_after (key_cells s) (keys_of (key_places s) rows)) c.in-Several.is)
