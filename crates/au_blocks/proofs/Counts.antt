@@ -51,7 +51,7 @@ digits text h =
     and_from _ _ (and_from _ _ (and_parts _ _ parts.0).0 wide) parts.1
 
 -- the number that std reads in such digits is that of the numeral
-pub count_number : (text : List ℕ) (n : ℕ) → is_count text ≡ true → n ≡ digits_value 10 (without_leading_plus text) → n < 2 ^ 64 → numeral_value text ≡ Some (pos n)
+count_number : (text : List ℕ) (n : ℕ) → is_count text ≡ true → n ≡ digits_value 10 (without_leading_plus text) → n < 2 ^ 64 → numeral_value text ≡ Some (pos n)
 count_number [] n h is low = absurd (true≢false (sym h))
 count_number (c ∷ cs) n h is low =
     let first = no_minus c (and_parts _ _ (and_parts _ _ h).1).0 in

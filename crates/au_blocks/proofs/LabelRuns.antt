@@ -8,17 +8,13 @@ use Rattle.std.proofs.lemmas.Slice.Eq.{bytes_eq-Decides}
 use Rattle.au_value.specs.Texts.{Text}
 use Rattle.au_value.proofs.FirstSeen.{any-distinct}
 use Rattle.au_csv.specs.Texts.{Record}
+use Rattle.au_blocks.specs.BlockPlaces.{Before, Parted}
 use Rattle.au_blocks.specs.Entries.{label_of, labelled}
 use Rattle.au_blocks.specs.Runs.{label_order}
 use Rattle.au_blocks.proofs.Distinct.{itself, turned}
 use Rattle.au_blocks.specs.Order.{labels}
 use Rattle.au_blocks.proofs.GatherStep.{labels-push, labelled-absent, labelled-other, labelled-own}
 use Rattle.au_blocks.proofs.LabelOrder.{apart, label_total, one_label}
-
--- each of these labels comes before one
-abbrev Before : List Text → Text → Type 0
-Before [] l = Unit {0}
-Before (k ∷ ks) l = (label_order k l ≡ Less) × Before ks l
 
 -- where labels come before l, and l before m, all come before m; l is none of those before it, but one of those up to it
 before-push : (ks : List Text) (l m : Text) → Before ks l → label_order l m ≡ Less → Before (ks ++ l ∷ []) m
@@ -44,20 +40,12 @@ kept : (ks : List Text) (rows : List Record) (r : Record) → Before ks (label_o
 kept [] rows r h = refl
 kept (k ∷ ks) rows r h = rw (labelled-other k rows r (apart k (label_of r) h.0), kept ks rows r h.1) refl
 
--- of records in which no label descends: the runs before the last one, the last one, and its label, with the labels before it
-pub record Parted (rows : List Record) (done : List (List Record)) (run : List Record) (last : Text) : Type 0 where
-  pub known : List Text
-  pub all : labels rows ≡ known ++ last ∷ []
-  pub before : Before known last
-  pub others : done ≡ map (λ l. labelled l rows) known
-  pub own : run ≡ labelled last rows
-
 -- these are the records of each label
-all-runs : (rows : List Record) (done : List (List Record)) (run : List Record) (last : Text) (p : Parted rows done run last) → done ++ run ∷ [] ≡ map (λ l. labelled l rows) (p.known ++ last ∷ [])
+pub all-runs : (rows : List Record) (done : List (List Record)) (run : List Record) (last : Text) (p : Parted rows done run last) → done ++ run ∷ [] ≡ map (λ l. labelled l rows) (p.known ++ last ∷ [])
 all-runs rows done run last p = rw (p.others, p.own) (sym (map-append (λ l. labelled l rows) p.known (last ∷ [])))
 
 -- one record more of the last run
-longer-run : (rows : List Record) (done : List (List Record)) (run : List Record) (r : Record) → Parted rows done run (label_of r) → Parted (rows ++ r ∷ []) done (run ++ r ∷ []) (label_of r)
+pub longer-run : (rows : List Record) (done : List (List Record)) (run : List Record) (r : Record) → Parted rows done run (label_of r) → Parted (rows ++ r ∷ []) done (run ++ r ∷ []) (label_of r)
 longer-run rows done run r p =
     let there : list_any (bytes_eq (label_of r)) (labels rows) ≡ true = ap (list_any (bytes_eq (label_of r))) p.all ∙ any-last p.known (label_of r) in
     record {
@@ -69,7 +57,7 @@ longer-run rows done run r p =
     }
 
 -- the first record of a new run
-new-run : (rows : List Record) (done : List (List Record)) (run : List Record) (last : Text) (r : Record) → label_order last (label_of r) ≡ Less → Parted rows done run last
+pub new-run : (rows : List Record) (done : List (List Record)) (run : List Record) (last : Text) (r : Record) → label_order last (label_of r) ≡ Less → Parted rows done run last
     → Parted (rows ++ r ∷ []) (done ++ run ∷ []) (r ∷ []) (label_of r)
 new-run rows done run last r less p =
     let l = label_of r in

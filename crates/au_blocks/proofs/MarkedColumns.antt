@@ -2,6 +2,7 @@
 use Rattle.std.proofs.Common.{◌≡◌, ◌<◌, ◌+◌, ◌∙◌, ℕ, zero, suc, Bool, true, false, ◌&&◌, List, [], ◌∷◌, ◌++◌, length, take, drop, get_or, map, Option, Some, None, refl, ap, sym, arith}
 use Rattle.std.specs.Prelude.{is_none, set, unwrap_or, zip}
 use Rattle.std.specs.List.{enumerate_from, list_all, list_any}
+use Rattle.std.proofs.lemmas.List.Folds.{list_all-append}
 use Rattle.au_value.specs.declared.kinds.Kind.{Kind}
 use Rattle.au_csv.specs.Texts.{Record}
 use Rattle.au_blocks.specs.declared.format.Format.{Format}
@@ -10,17 +11,17 @@ use Rattle.au_blocks.specs.Inferring.{column_kind, holds_numeral, inferred, is_a
 use Rattle.au_blocks.specs.Marks.{marks}
 use Rattle.au_blocks.proofs.InferredKinds.{inferred_kind-rows}
 
-regroup : (a b c : Bool) → ((a && (b && true)) && c) ≡ (a && (b && c))
-regroup true true c = refl
-regroup true false c = refl
+regroup : (a b c : Bool) → ((a && b) && c) ≡ (a && (b && c))
+regroup true b c = refl
 regroup false b c = refl
 
--- one record more
-pub marks-more : (f : Format) (r : Record) (rows : List Record) (j : ℕ) (bs : List Bool) → marks f rows j (marks f (r ∷ []) j bs) ≡ marks f (r ∷ rows) j bs
-marks-more f r rows j [] = refl
-marks-more f r rows j (b ∷ bs) =
-    let here = regroup b (holds_numeral f j r) (list_all (holds_numeral f j) rows) in
-    let rest = marks-more f r rows (j + 1) bs in
+-- some records, and more behind them
+pub marks-append : (f : Format) (rows more : List Record) (j : ℕ) (bs : List Bool) → marks f more j (marks f rows j bs) ≡ marks f (rows ++ more) j bs
+marks-append f rows more j [] = refl
+marks-append f rows more j (b ∷ bs) =
+    let here : ((b && list_all (holds_numeral f j) rows) && list_all (holds_numeral f j) more) ≡ (b && list_all (holds_numeral f j) (rows ++ more)) =
+    regroup b (list_all (holds_numeral f j) rows) (list_all (holds_numeral f j) more) ∙ ap (λ h. b && h) (sym (list_all-append (holds_numeral f j) rows more)) in
+    let rest = marks-append f rows more (j + 1) bs in
     λ i. here i ∷ rest i
 
 stays : (b : Bool) → (b && true) ≡ b

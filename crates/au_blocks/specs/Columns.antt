@@ -1,7 +1,6 @@
 -- The alternatives of records, made a column at a time.
-use Rattle.std.specs.Prelude.{◌≡◌, ℕ, ◌+◌, Bool, List, [], ◌∷◌, ◌++◌, length, map, if◌then◌else◌, nat_le}
+use Rattle.std.specs.Prelude.{ℕ, ◌+◌, Bool, List, [], ◌∷◌, length, map, if◌then◌else◌, nat_le}
 use Rattle.std.specs.Borrow.{Bor}
-use Rattle.std.proofs.lemmas.List.{map-append}
 use Rattle.au_value.specs.declared.kinds.Kind.{Kind}
 use Rattle.au_value.specs.Ranges.{Span}
 use Rattle.au_csv.specs.Texts.{Record}
@@ -23,9 +22,6 @@ column_cells f k i rows = map (λ r. cell (k, field i (cells_of f r.now))) rows
 -- the cells of columns
 abbrev pub all_cells : Format → List (Bor Record) → List Place → List (List Span)
 all_cells f rows places = map (λ p. column_cells f p.kind p.place rows) places
-
-pub all_cells_apart : (f : Format) (rows : List (Bor Record)) (xs ys : List Place) → all_cells f rows (xs ++ ys) ≡ all_cells f rows xs ++ all_cells f rows ys
-all_cells_apart f rows xs ys = map-append (λ (p : Place). column_cells f p.kind p.place rows) xs ys
 
 -- columns of these kinds, from a place on
 abbrev pub places_from : ℕ → List Kind → List Place

@@ -13,10 +13,10 @@ pub mod Read
 pub mod Cells
 pub mod Faults
 pub mod Scalars
+pub mod FewDigits
 pub mod Spans
 pub mod Labels
 pub mod Marks
-pub mod Pieces
 pub mod Runs
 pub mod Order
 pub mod Tallies
@@ -24,3 +24,6 @@ pub mod Columns
 pub mod Held
 pub mod Laid
 pub mod Singles
+pub mod OnePass
+pub mod BlockPlaces
+pub mod Intakes

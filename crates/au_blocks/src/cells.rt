@@ -2,7 +2,7 @@
 ghost use Rattle.std.specs.Prelude.{◌≡◌, ◌<◌, IfSome, length, map};
 ghost use Rattle.au_value.specs.declared.value.Value.TheVariants as value;
 ghost use Rattle.au_value.specs.Ranges.{certain};
-ghost use Rattle.au_blocks.specs.Spans.{cell_at, lent_span};
+ghost use Rattle.au_blocks.specs.Spans.{cell_at, lent_span, spans_of};
 ghost use Rattle.au_blocks.specs.Scalars.{scalar_value};
 
 use crate::cell::Cell;
@@ -44,6 +44,13 @@ impl Model for Cells {
 }
 
 impl Cells {
+    /// Cells that are held in one of these forms.
+    pub(crate) fn of(held: Held) -> Cells
+        ensures { result ≡ spans_of held }
+    {
+        Cells { held }
+    }
+
     /// Numbers of 64 bits.
     pub(crate) fn narrow(numbers: Vec<i64>) -> Cells
         ensures { result ≡ map (λ n. certain (value.Int n)) numbers.items }

@@ -10,7 +10,7 @@ use crate::cell::Cell;
 use crate::cells::Cells;
 use crate::fields::cell_text;
 use crate::format::Format;
-use crate::spellings::{flag_written, number_written};
+use crate::spellings::{flag_written, number_written, short_number};
 use crate::values::cell;
 use au_csv::Rec;
 use au_value::{Kind, NoMemory, Word};
@@ -125,9 +125,14 @@ fn narrow(
 }
 
 // The number that a text writes, if it is one of 64 bits.
-fn narrow_number(kind: Kind, text: &str) -> Option<i64>
+pub(crate) fn narrow_number(kind: Kind, text: &str) -> Option<i64>
     ensures { IfSome result (λ n. number_written_of kind text.now ≡ Some n) }
 {
+    if let Kind::Int = kind {
+        if let Some(number) = short_number(text) {
+            return Some(number);
+        }
+    }
     let number = number_written(kind, text)?;
     match i64::try_from(number) {
         Ok(number) => Some(number),

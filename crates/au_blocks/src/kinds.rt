@@ -28,7 +28,7 @@ pub(crate) fn kinds(
 }
 
 // Which columns may have numerals alone: where there is an alternative, those without a written kind.
-fn unwritten_columns(
+pub(crate) fn unwritten_columns(
     alloc: Global,
     written: &[Option<Kind>],
     any: bool,
@@ -51,7 +51,7 @@ fn numerals(format: Format, rows: &[Rec<'_>], marks: Vec<bool>) -> Vec<bool>
 }
 
 // The same of one record.
-fn narrow(format: Format, record: &Rec<'_>, marks: &mut [bool])
+pub(crate) fn narrow(format: Format, record: &Rec<'_>, marks: &mut [bool])
     ensures { marks.new ≡ marks_of format («record».now ∷ []) 0 marks.old }
 {
     for place in 0..marks.len() {
@@ -61,7 +61,7 @@ fn narrow(format: Format, record: &Rec<'_>, marks: &mut [bool])
 }
 
 // The kinds of columns with these written kinds, of which these have numerals alone.
-fn column_kinds(
+pub(crate) fn column_kinds(
     alloc: Global,
     written: &[Option<Kind>],
     numerals: Vec<bool>,

@@ -1,7 +1,6 @@
 //! Block tables: rows of which one alternative holds, and the table files that hold them.
 //!
 //! [`read_table`] reads the bytes of a CSV file as a [`Table`], or names the first of their defects, a [`TableFault`].
-//! [`read_table_by`] does the same by several workers.
 //! A table has columns and blocks: [`Table::columns`] and [`Table::blocks`] read it. A [`Block`] has at least one
 //! alternative, may be optional, and marks one choice as the guess: [`Block::alternatives`], [`Block::optional`] and
 //! [`Block::guess`] read it. An [`Alternative`] has a cell for each column, which lies between [`Alternative::lo`] and
@@ -25,24 +24,29 @@
 mod alternative;
 mod alternatives;
 mod block;
+mod block_places;
 mod blocks;
 mod candidates;
 mod cell;
 mod cells;
 mod column;
-mod defect_pieces;
 mod extent;
 mod extents;
 mod faults;
 mod fields;
+mod filler;
+mod fillers;
 mod filling;
 mod format;
 mod gather;
 mod header;
 mod header_faults;
+mod inference;
+mod intake;
 mod item;
 mod kinds;
 mod layout;
+mod one_pass;
 mod read;
 mod role;
 mod row_faults;
@@ -66,7 +70,7 @@ pub use candidates::Candidates;
 pub use column::{Column, copy_columns};
 pub use extent::Extent;
 pub use faults::TableFault;
-pub use read::{read_table, read_table_by};
+pub use read::read_table;
 pub use scalar::Scalar;
 pub use table::Table;
 pub use times::Times;

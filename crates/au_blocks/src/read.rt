@@ -7,13 +7,13 @@ ghost use Rattle.au_blocks.specs.Read.{contents, first, table_of, unless};
 use crate::faults::TableFault;
 use crate::format::Format;
 use crate::layout::layout;
-use crate::rows::{alternatives, alternatives_by};
-use crate::schema::{schema, schema_by};
+use crate::one_pass::table_in_one_pass;
+use crate::rows::alternatives;
+use crate::schema::schema;
 use crate::table::Table;
-use au_csv::{Rec, records, records_by};
+use au_csv::{Rec, records};
 use au_value::Word;
 use std::alloc::Global;
-use std::thread::Threads;
 
 /// The block table of the bytes of a table file.
 ///
@@ -29,28 +29,20 @@ pub fn read_table(alloc: Global, bytes: &[u8]) -> Result<Table, TableFault>
     ensures table { IfOk result (λ t. table_of bytes.now ≡ Ok t) }
     ensures fault { IfErr result (λ e. (e ≡ TableFault.NoMemory) ⊎ (table_of bytes.now ≡ Err e)) }
 {
-    let held = records(alloc, bytes)?;
-    let rows = held.rows(alloc)?;
-    table_of_records(alloc, rows.as_slice())
+    match table_in_one_pass(alloc, bytes)? {
+        Some(table) => Ok(table),
+        None => table_of_kept(alloc, bytes),
+    }
 }
 
-/// The table of [`read_table`], whose records so many workers judge and make cells of.
-pub fn read_table_by<R: Threads + Sync>(
-    rt: &R,
-    alloc: Global,
-    workers: usize,
-    bytes: &[u8],
-) -> Result<Table, TableFault>
-    requires workers { 1 ≤ workers }
+// The same by way of all records, which are kept.
+fn table_of_kept(alloc: Global, bytes: &[u8]) -> Result<Table, TableFault>
     ensures table { IfOk result (λ t. table_of bytes.now ≡ Ok t) }
     ensures fault { IfErr result (λ e. (e ≡ TableFault.NoMemory) ⊎ (table_of bytes.now ≡ Err e)) }
 {
-    if workers == 1 {
-        return read_table(alloc, bytes);
-    }
-    let held = records_by(rt, alloc, workers, bytes)?;
+    let held = records(alloc, bytes)?;
     let rows = held.rows(alloc)?;
-    table_of_by(rt, alloc, workers, rows.as_slice())
+    table_of_records(alloc, rows.as_slice())
 }
 
 // The header, which is the first record.
@@ -90,40 +82,5 @@ fn table_under(alloc: Global, header: &[Word], rows: &[Rec<'_>]) -> Result<Table
     let format = Format::of(header);
     let (extents, records) = layout(alloc, format, rows)?;
     let alternatives = alternatives(alloc, format, columns.as_slice(), records.as_slice())?;
-    Ok(Table::of(columns, alternatives, extents))
-}
-
-// The block table of these records, the header first, of which so many workers judge the others and make the cells.
-fn table_of_by<R: Threads + Sync>(
-    rt: &R,
-    alloc: Global,
-    workers: usize,
-    rows: &[Rec<'_>],
-) -> Result<Table, TableFault>
-    requires { 1 ≤ workers }
-    ensures table { IfOk result (λ t. unless (first (table_defects rows.now)) (contents rows.now) ≡ Ok t) }
-    ensures fault { IfErr result (λ e. (e ≡ TableFault.NoMemory) ⊎ (first (table_defects rows.now) ≡ Some e)) }
-{
-    let header = header_of(alloc, rows)?;
-    table_by(rt, alloc, workers, header.as_slice(), below(rows))
-}
-
-// The same, of a header and the records below it.
-fn table_by<R: Threads + Sync>(
-    rt: &R,
-    alloc: Global,
-    workers: usize,
-    header: &[Word],
-    rows: &[Rec<'_>],
-) -> Result<Table, TableFault>
-    requires { 1 ≤ workers }
-    ensures table { IfOk result (λ t. unless (first (table_defects (header.now ∷ rows.now))) (contents (header.now ∷ rows.now)) ≡ Ok t) }
-    ensures fault { IfErr result (λ e. (e ≡ TableFault.NoMemory) ⊎ (first (table_defects (header.now ∷ rows.now)) ≡ Some e)) }
-{
-    let columns = schema_by(rt, alloc, workers, header, rows)?;
-    let format = Format::of(header);
-    let (extents, records) = layout(alloc, format, rows)?;
-    let (named, lent) = (columns.as_slice(), records.as_slice());
-    let alternatives = alternatives_by(rt, alloc, workers, format, named, lent)?;
     Ok(Table::of(columns, alternatives, extents))
 }

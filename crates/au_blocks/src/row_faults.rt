@@ -82,7 +82,7 @@ fn role_fault(
 }
 
 // Whether a field behind the label and the role isn't empty.
-fn has_value(record: &Rec<'_>) -> bool
+pub(crate) fn has_value(record: &Rec<'_>) -> bool
     ensures { result ≡ list_any (λ text. nat_lt 0 (length text)) (drop 2 «record».now) }
 {
     for place in 0..cell_count(Format::Blocks, record) {

@@ -1,8 +1,7 @@
 //! The alternatives of records, made a column at a time.
-ghost use Rattle.std.specs.Prelude.{◌≡◌, ◌≤◌, ⊤, false, true, length, map, IfOk};
+ghost use Rattle.std.specs.Prelude.{◌≡◌, true, length, map, IfOk};
 ghost use Rattle.std.specs.List.{list_all};
-ghost use Rattle.std.proofs.Common.{refl};
-ghost use Rattle.au_blocks.specs.Columns.{all_cells, all_cells_apart, all_copies, alternatives_of, is_wide, places_from};
+ghost use Rattle.au_blocks.specs.Columns.{all_cells, all_copies, alternatives_of, is_wide, places_from};
 ghost use Rattle.au_blocks.specs.Entries.{copies_in};
 ghost use Rattle.au_blocks.specs.Order.{lent_records};
 
@@ -14,45 +13,14 @@ use crate::format::Format;
 use crate::row_faults::times_in;
 use crate::times::Times;
 use au_csv::Rec;
-use au_expr::EvalFault;
-use au_par::{NoGate, Piece, by_drawn_pieces};
 use au_value::{Kind, NoMemory};
 use std::alloc::Global;
-use std::thread::Threads;
 
 // A column's place, and the kind of its values.
 #[derive(Clone, Copy)]
 struct Place {
     place: usize,
     kind: Kind,
-}
-
-// What columns are filled from.
-#[derive(Clone, Copy)]
-struct Filling<'a, 'b, 'c> {
-    format: Format,
-    records: &'a [&'b Rec<'c>],
-}
-
-impl<'a, 'b, 'c> Piece<Place, Cells> for Filling<'a, 'b, 'c> {
-    ghost takes = { λ _ _. ⊤ };
-
-    ghost results = { λ w places. all_cells w.format w.records.now places };
-
-    ghost overflows = { λ _ _. false };
-
-    fn work(&self, alloc: Global, places: &[Place]) -> Result<Vec<Cells>, EvalFault> {
-        match all_filled(alloc, self.format, places, self.records) {
-            Ok(columns) => Ok(columns),
-            Err(NoMemory) => Err(EvalFault::NoMemory),
-        }
-    }
-
-    ghost results_join = { λ w xs ys _ _. all_cells_apart w.format w.records.now xs ys };
-
-    ghost overflows_join = { λ _ _ _ _ _. refl };
-
-    ghost empty_fits = { λ _. refl };
 }
 
 // The alternatives of records below a header of these columns.
@@ -67,25 +35,6 @@ pub(crate) fn alternatives(
 {
     let places = places(alloc, columns)?;
     let cells = all_filled(alloc, format, &places, records)?;
-    let times = all_times(alloc, format, records)?;
-    Ok(Alternatives::of(cells, times, records.len()))
-}
-
-// The same, where so many workers fill the columns.
-pub(crate) fn alternatives_by<R: Threads + Sync>(
-    rt: &R,
-    alloc: Global,
-    workers: usize,
-    format: Format,
-    columns: &[Column],
-    records: &[&Rec<'_>],
-) -> Result<Alternatives, NoMemory>
-    requires workers { 1 ≤ workers }
-    requires wide { list_all (is_wide format (length columns.now)) (lent_records records.now) ≡ true }
-    ensures { IfOk result (λ a. a ≡ alternatives_of format (map (λ c. c.kind) columns.now) (lent_records records.now)) }
-{
-    let places = places(alloc, columns)?;
-    let cells = all_filled_by(rt, alloc, workers, format, &places, records)?;
     let times = all_times(alloc, format, records)?;
     Ok(Alternatives::of(cells, times, records.len()))
 }
@@ -118,26 +67,6 @@ fn all_filled(
         columns.push(filled(alloc, format, at.kind, at.place, records)?)?;
     }
     Ok(columns)
-}
-
-// The same by so many workers.
-fn all_filled_by<R: Threads + Sync>(
-    rt: &R,
-    alloc: Global,
-    workers: usize,
-    format: Format,
-    places: &[Place],
-    records: &[&Rec<'_>],
-) -> Result<Vec<Cells>, NoMemory>
-    requires workers { 1 ≤ workers }
-    ensures { IfOk result (λ v. v.items ≡ all_cells format records.now places.now) }
-{
-    let work = Filling { format, records };
-    match by_drawn_pieces(rt, alloc, places, workers, &work, &NoGate) {
-        Ok(columns) => Ok(columns),
-        Err(EvalFault::NoMemory) => Err(NoMemory),
-        Err(EvalFault::Overflow) => unreachable!(),
-    }
 }
 
 // The numbers of copies of records, and none where their format has none.

@@ -48,7 +48,7 @@ pub(crate) fn runs<'a, 'b>(
 }
 
 // The order of two labels: a shorter one comes first, as a lesser number does.
-fn compare_labels(a: &str, b: &str) -> Ordering
+pub(crate) fn compare_labels(a: &str, b: &str) -> Ordering
     ensures { result ≡ label_order a.now b.now }
 {
     match a.len().cmp(&b.len()) {

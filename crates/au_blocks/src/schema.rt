@@ -1,5 +1,5 @@
 //! The columns of a table file.
-ghost use Rattle.std.specs.Prelude.{◌≡◌, ◌≤◌, ◌⊎◌, Some, None, IfErr, IfOk};
+ghost use Rattle.std.specs.Prelude.{◌≡◌, ◌⊎◌, Some, None, IfErr, IfOk};
 ghost use Rattle.au_blocks.specs.Defects.{header_defects, schema_defects};
 ghost use Rattle.au_blocks.specs.Entries.{entries_of};
 ghost use Rattle.au_blocks.specs.Headers.{column_names as column_names_of, written_kinds as written_kinds_of};
@@ -7,7 +7,6 @@ ghost use Rattle.au_blocks.specs.Inferring.{inferred_kinds};
 ghost use Rattle.au_blocks.specs.Read.{columns_of, first, header_columns};
 
 use crate::column::Column;
-use crate::defect_pieces::row_fault_by;
 use crate::faults::TableFault;
 use crate::format::Format;
 use crate::header::{cells, column_names, written_kinds};
@@ -17,7 +16,6 @@ use crate::row_faults::row_fault;
 use au_csv::Rec;
 use au_value::{Kind, NoMemory, Word};
 use std::alloc::Global;
-use std::thread::Threads;
 
 // The columns of a header over the records below it, or the first defect of these but for the blocks.
 pub(crate) fn schema(
@@ -37,38 +35,8 @@ pub(crate) fn schema(
     Ok(typed(alloc, format, names, written.as_slice(), rows)?)
 }
 
-// The same, where so many workers judge the records.
-pub(crate) fn schema_by<R: Threads + Sync>(
-    rt: &R,
-    alloc: Global,
-    workers: usize,
-    header: &[Word],
-    rows: &[Rec<'_>],
-) -> Result<Vec<Column>, TableFault>
-    requires workers { 1 ≤ workers }
-    ensures sound { IfOk result (λ _. first (schema_defects header.now rows.now) ≡ None) }
-    ensures columns { IfOk result (λ columns. columns.items ≡ header_columns header.now rows.now) }
-    ensures fault { IfErr result (λ e. (e ≡ TableFault.NoMemory) ⊎ (first (schema_defects header.now rows.now) ≡ Some e)) }
-{
-    let format = Format::of(header);
-    let (names, written) = heading(alloc, format, cells(format, header))?;
-    let width = header.len();
-    if let Some(fault) = row_fault_by(
-        rt,
-        alloc,
-        workers,
-        format,
-        width,
-        written.as_slice(),
-        rows,
-    )? {
-        return Err(fault);
-    }
-    Ok(typed(alloc, format, names, written.as_slice(), rows)?)
-}
-
 // The names and the written kinds of the columns of these header fields, or the first defect of one.
-fn heading(
+pub(crate) fn heading(
     alloc: Global,
     format: Format,
     fields: &[Word],
@@ -101,7 +69,11 @@ fn typed(
 }
 
 // The columns with these names and kinds.
-fn columns(alloc: Global, names: Vec<Word>, kinds: Vec<Kind>) -> Result<Vec<Column>, NoMemory>
+pub(crate) fn columns(
+    alloc: Global,
+    names: Vec<Word>,
+    kinds: Vec<Kind>,
+) -> Result<Vec<Column>, NoMemory>
     ensures { IfOk result (λ columns. columns.items ≡ columns_of names.items kinds.items) }
 {
     let columns = names

@@ -1,8 +1,9 @@
 //! What the fields of a table file write.
-ghost use Rattle.std.specs.Prelude.{◌≡◌, ◌≤◌, ◌^◌, IfSome, option_map};
+ghost use Rattle.std.specs.Prelude.{◌≡◌, ◌<◌, ◌≤◌, ◌^◌, IfSome, Some, option_map, if◌then◌else◌, neg_ℤ, pos};
 ghost use Rattle.au_value.specs.declared.value.Value.{Value};
-ghost use Rattle.au_value.specs.Numeral.{numeral_value};
+ghost use Rattle.au_value.specs.Numeral.{has_minus, numeral_value, without_minus};
 ghost use Rattle.au_value.specs.Order.{kind_of};
+ghost use Rattle.au_blocks.specs.FewDigits.{AreFew};
 ghost use Rattle.au_blocks.specs.Inferring.{is_numeral as is_numeral_of};
 ghost use Rattle.au_blocks.specs.Spellings.{count_written as count_written_of, copies_written, cut_dots, flag_written as flag_written_of, is_count as is_count_of, number_written as number_written_of, ordered_copies, ordered_range as ordered_range_of, part_texts, parts as parts_of, number_range, range_written as range_written_of, three};
 
@@ -29,16 +30,62 @@ pub(crate) fn number_written(kind: Kind, field: &str) -> Option<i128>
     }
 }
 
-// The number of a numeral. Few digits are read as a number of 64 bits, which takes a part of the time.
+// The number of a numeral. Few digits are read in one pass, as a number of 64 bits, which takes a part of the time.
 fn whole_number(field: &str) -> Option<i128>
     ensures { result ≡ numeral_value field.now }
 {
-    if !is_count(field) {
-        return read_numeral(field.as_bytes());
+    match short_number(field) {
+        Some(number) => Some(number as i128),
+        None => read_numeral(field.as_bytes()),
     }
-    match u64::from_str_radix(field, 10) {
-        Ok(number) => Some(number as i128),
-        Err(_) => None,
+}
+
+/// The number that an optional `-` and 1 to 18 digits write, and perhaps none of any other text.
+pub(crate) fn short_number(field: &str) -> Option<i64>
+    ensures { IfSome result (λ n. numeral_value field.now ≡ Some n) }
+{
+    let (minus, digits) = cut_minus(field.as_bytes());
+    let number = few_digits(digits)?;
+    Some(signed(minus, number))
+}
+
+// Whether a text begins with `-`, and the text without it.
+fn cut_minus(text: &[u8]) -> (bool, &[u8])
+    ensures minus { result.0 ≡ has_minus text.now }
+    ensures digits { result.1.now ≡ without_minus text.now }
+{
+    match text.split_first() {
+        Some((b'-', digits)) => (true, digits),
+        _ => (false, text),
+    }
+}
+
+// The number that 1 to 18 digits write, which 64 bits hold.
+fn few_digits(text: &[u8]) -> Option<u64>
+    ensures { IfSome result (AreFew text.now) }
+{
+    if text.is_empty() || 18 < text.len() {
+        return None;
+    }
+    let mut number = 0;
+    for byte in text {
+        if !byte.is_ascii_digit() {
+            return None;
+        }
+        number = number * 10 + (*byte - b'0') as u64;
+    }
+    Some(number)
+}
+
+// A number with its sign.
+fn signed(minus: bool, number: u64) -> i64
+    requires { number < 10 ^ 18 }
+    ensures { result ≡ (if minus then neg_ℤ (pos number) else pos number) }
+{
+    if minus {
+        -(number as i64)
+    } else {
+        number as i64
     }
 }
 

@@ -10,7 +10,7 @@ ghost use Rattle.au_engine.specs.Reading.{statement_of};
 ghost use Rattle.au_words.specs.Words.{greatest_workers};
 ghost use Rattle.au_cli.specs.Demo.{Demonstrates, demo_name, demo_query};
 
-use au_blocks::{Table, TableFault, read_table_by};
+use au_blocks::{Table, TableFault, read_table};
 use au_engine::{EngineFault, Options, answer, read_query};
 use au_expr::EvalFault;
 use au_gen::table_text;
@@ -50,21 +50,14 @@ fn table_fault(_fault: TableFault) -> NoMemory
     NoMemory
 }
 
-// The block table that is generated, parsed by so many workers.
-fn generated<R: Threads + Sync>(
-    rt: &R,
-    alloc: Global,
-    start: u32,
-    blocks: u32,
-    workers: usize,
-) -> Result<Table, NoMemory>
+// The block table that is generated.
+fn generated(alloc: Global, start: u32, blocks: u32) -> Result<Table, NoMemory>
     requires some { 1 ≤ blocks }
     requires few { blocks ≤ 100000 }
-    requires workers { 1 ≤ workers }
     ensures { IfOk result (λ t. table_of (text_of start blocks) ≡ Ok t) }
 {
     let text = table_text(alloc, start, blocks)?;
-    match read_table_by(rt, alloc, workers, text.as_slice()) {
+    match read_table(alloc, text.as_slice()) {
         Ok(table) => Ok(table),
         Err(fault) => Err(table_fault(fault)),
     }
@@ -149,7 +142,7 @@ pub(crate) fn demonstration<R: Threads + Sync, G: Gate + Sync>(
         Ok(statement) => statement,
         Err(NoMemory) => return Err(EvalFault::NoMemory),
     };
-    let table = match generated(rt, alloc, start, blocks, workers) {
+    let table = match generated(alloc, start, blocks) {
         Ok(table) => table,
         Err(NoMemory) => return Err(EvalFault::NoMemory),
     };

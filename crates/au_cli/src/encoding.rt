@@ -12,11 +12,9 @@ use au_io::Shelf;
 use au_value::NoMemory;
 use au_words::TableWord;
 use std::alloc::Global;
-use std::thread::Threads;
 
 /// The encoded rows of the table in the file that a word names, or the outcome that is in their place.
-pub(crate) fn file_text<R: Threads + Sync, S: Shelf>(
-    rt: &R,
+pub(crate) fn file_text<S: Shelf>(
     alloc: Global,
     shelf: &mut S,
     word: &TableWord<'_>,
@@ -26,7 +24,7 @@ pub(crate) fn file_text<R: Threads + Sync, S: Shelf>(
     ensures files { S.files shelf.new ≡ S.files shelf.old }
     ensures counts { (S.faults shelf.old ≤ S.faults shelf.new) × (S.absences shelf.old ≤ S.absences shelf.new) }
 {
-    let file = match file_table(rt, alloc, shelf, 1, Purpose::Encode, 0, 0, word) {
+    let file = match file_table(alloc, shelf, Purpose::Encode, 0, 0, word) {
         Ok(file) => file,
         Err(outcome) => return Err(outcome),
     };

@@ -7,13 +7,12 @@ ghost use Rattle.au_cli.specs.Files.{FileFound, FilesFound, IsFoundAt, file_byte
 
 use crate::outcome::Outcome;
 use crate::reading::{ReadingFault, read_file};
-use au_blocks::{Table, TableFault, read_table_by};
+use au_blocks::{Table, TableFault, read_table};
 use au_engine::{LimitFault, fits_plain};
 use au_io::Shelf;
 use au_value::{NoMemory, Word};
 use au_words::TableWord;
 use std::alloc::Global;
-use std::thread::Threads;
 
 /// The greatest number of files that words name.
 pub(crate) const MAX_FILES: usize = 8;
@@ -44,13 +43,11 @@ pub(crate) struct FileTable {
     pub(crate) table: (Word, Table),
 }
 
-/// The tables of the files that the words name, each under its name, in the order of the words, and each parsed by so
-/// many workers. The first file has this number, and so many bytes were read of files before it.
-pub(crate) fn read_tables<R: Threads + Sync, S: Shelf>(
-    rt: &R,
+/// The tables of the files that the words name, each under its name, in the order of the words. The first file has this
+/// number, and so many bytes were read of files before it.
+pub(crate) fn read_tables<S: Shelf>(
     alloc: Global,
     shelf: &mut S,
-    workers: usize,
     purpose: Purpose,
     first: usize,
     before: usize,
@@ -67,7 +64,7 @@ pub(crate) fn read_tables<R: Threads + Sync, S: Shelf>(
     let mut read = before;
     for word in words {
         let file = first + tables.len();
-        match file_table(rt, alloc, shelf, workers, purpose, file, read, word) {
+        match file_table(alloc, shelf, purpose, file, read, word) {
             Ok(file) => {
                 read += file.size;
                 if tables.push(file.table).is_err() {
@@ -80,12 +77,10 @@ pub(crate) fn read_tables<R: Threads + Sync, S: Shelf>(
     Ok(tables)
 }
 
-/// The table of the file of this number, behind so many bytes of the files before it, parsed by so many workers.
-pub(crate) fn file_table<R: Threads + Sync, S: Shelf>(
-    rt: &R,
+/// The table of the file of this number, behind so many bytes of the files before it.
+pub(crate) fn file_table<S: Shelf>(
     alloc: Global,
     shelf: &mut S,
-    workers: usize,
     purpose: Purpose,
     file: usize,
     before: usize,
@@ -103,15 +98,7 @@ pub(crate) fn file_table<R: Threads + Sync, S: Shelf>(
         Ok(bytes) => bytes,
         Err(outcome) => return Err(outcome),
     };
-    match named_table(
-        rt,
-        alloc,
-        workers,
-        purpose,
-        file,
-        word.name,
-        bytes.as_slice(),
-    ) {
+    match named_table(alloc, purpose, file, word.name, bytes.as_slice()) {
         Ok(table) => Ok(FileTable {
             size: bytes.len(),
             table,
@@ -181,10 +168,8 @@ fn passed_limit(purpose: Purpose, file: usize, table: &Table) -> Option<LimitFau
 }
 
 // The table of a file's bytes, within its limit.
-fn table_within<R: Threads + Sync>(
-    rt: &R,
+fn table_within(
     alloc: Global,
-    workers: usize,
     purpose: Purpose,
     file: usize,
     bytes: &[u8],
@@ -192,7 +177,7 @@ fn table_within<R: Threads + Sync>(
     ensures table { IfOk result (λ t. table_or_defect purpose file (table_of bytes.now) ≡ Ok t) }
     ensures refused { IfErr result (BytesCause purpose file bytes.now) }
 {
-    let table = match read_table_by(rt, alloc, workers.max(1), bytes) {
+    let table = match read_table(alloc, bytes) {
         Ok(table) => table,
         Err(TableFault::NoMemory) => return Err(Outcome::NoMemory),
         Err(fault) => return Err(Outcome::Table(file, fault)),
@@ -203,11 +188,9 @@ fn table_within<R: Threads + Sync>(
     }
 }
 
-/// The table of a file's bytes, within its limit and under its name, parsed by so many workers, or else by one.
-pub(crate) fn named_table<R: Threads + Sync>(
-    rt: &R,
+/// The table of a file's bytes, within its limit and under its name.
+pub(crate) fn named_table(
     alloc: Global,
-    workers: usize,
     purpose: Purpose,
     file: usize,
     name: &str,
@@ -217,7 +200,7 @@ pub(crate) fn named_table<R: Threads + Sync>(
     ensures table { IfOk result (λ t. table_or_defect purpose file (table_of bytes.now) ≡ Ok t.1) }
     ensures refused { IfErr result (BytesCause purpose file bytes.now) }
 {
-    let table = match table_within(rt, alloc, workers, purpose, file, bytes) {
+    let table = match table_within(alloc, purpose, file, bytes) {
         Ok(table) => table,
         Err(outcome) => return Err(outcome),
     };

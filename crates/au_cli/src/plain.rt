@@ -69,7 +69,7 @@ fn over_tables<R: Threads + Sync, S: Shelf, G: Gate + Sync>(
     ensures files { S.files shelf.new ≡ S.files shelf.old }
     ensures counts { (S.faults shelf.old ≤ S.faults shelf.new) × (S.absences shelf.old ≤ S.absences shelf.new) }
 {
-    let tables = match read_tables(rt, alloc, shelf, 1, Purpose::Plan, 1, file.size, words) {
+    let tables = match read_tables(alloc, shelf, Purpose::Plan, 1, file.size, words) {
         Ok(tables) => tables,
         Err(outcome) => return Err(outcome),
     };

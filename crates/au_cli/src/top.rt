@@ -135,7 +135,7 @@ fn line_text<R: Threads + Sync, S: Shelf, G: Gate + Sync>(
                 workers,
             },
         ) => demo_text(rt, alloc, start, blocks, workers, gate),
-        Ok(Asked::Encode(word)) => file_text(rt, alloc, shelf, &word),
+        Ok(Asked::Encode(word)) => file_text(alloc, shelf, &word),
         Ok(Asked::Plain { plan, tables }) => {
             plain_text(rt, alloc, shelf, plan, tables.as_slice(), gate)
         }

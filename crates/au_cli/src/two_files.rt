@@ -1,13 +1,12 @@
 //! The tables of two files, which are parsed side by side.
 //!
 //! The bytes are read one file after the other, as the shelf gives them. Each file's bytes are then made a table in a thread
-//! of its own, by half of the workers.
+//! of its own.
 ghost use Rattle.std.specs.Prelude.{◌≡◌, ◌≤◌, ◌∷◌, [], Ok, IfErr, IfOk, IfSome, map};
 ghost use Rattle.au_words.specs.CommandLine.{seen_table};
 ghost use Rattle.au_cli.specs.FileCauses.{FilesCause};
 ghost use Rattle.au_cli.specs.Files.{FilesFound, tables_from};
 ghost use Rattle.au_cli.specs.TwoFiles.{BothTables, NamesRead, NamesTable};
-ghost use denote.Param.Send.{IsSync};
 
 use crate::files::{Purpose, file_bytes, named_table, read_tables};
 use crate::outcome::Outcome;
@@ -18,8 +17,8 @@ use au_words::TableWord;
 use std::alloc::Global;
 use std::thread::{Threads, join};
 
-/// The tables of a query's files, each under its name, in the order of the words. Two files are parsed side by side, each
-/// by half of the workers, where there are several. Other files are parsed one after the other, each by all workers.
+/// The tables of a query's files, each under its name, in the order of the words. Two files are parsed side by side where
+/// there are several workers. Other files are parsed one after the other.
 pub(crate) fn query_tables<R: Threads + Sync, S: Shelf>(
     rt: &R,
     alloc: Global,
@@ -33,11 +32,11 @@ pub(crate) fn query_tables<R: Threads + Sync, S: Shelf>(
     ensures counts { (S.faults shelf.old ≤ S.faults shelf.new) × (S.absences shelf.old ≤ S.absences shelf.new) }
 {
     if workers == 1 {
-        return read_tables(rt, alloc, shelf, workers, Purpose::Query, 0, 0, words);
+        return read_tables(alloc, shelf, Purpose::Query, 0, 0, words);
     }
     match two_words(words) {
-        Some((first, second)) => two_tables(rt, alloc, shelf, workers / 2, first, second),
-        None => read_tables(rt, alloc, shelf, workers, Purpose::Query, 0, 0, words),
+        Some((first, second)) => two_tables(rt, alloc, shelf, first, second),
+        None => read_tables(alloc, shelf, Purpose::Query, 0, 0, words),
     }
 }
 
@@ -54,12 +53,11 @@ fn two_words<'a, 'w>(words: &'a [TableWord<'w>]) -> Option<(&'a TableWord<'w>, &
     }
 }
 
-// The tables of two files, each parsed by so many workers.
+// The tables of two files.
 fn two_tables<R: Threads + Sync, S: Shelf>(
     rt: &R,
     alloc: Global,
     shelf: &mut S,
-    workers: usize,
     first: &TableWord<'_>,
     second: &TableWord<'_>,
 ) -> Result<Vec<(Word, Table)>, Outcome>
@@ -73,15 +71,7 @@ fn two_tables<R: Threads + Sync, S: Shelf>(
         Err(outcome) => return Err(outcome),
     };
     let more = file_bytes(alloc, shelf, 1, bytes.len(), second.path);
-    let (one, other) = parsed(
-        rt,
-        alloc,
-        workers,
-        first.name,
-        bytes.as_slice(),
-        second.name,
-        &more,
-    );
+    let (one, other) = parsed(rt, alloc, first.name, bytes.as_slice(), second.name, &more);
     both_tables(alloc, one, other)
 }
 
@@ -89,7 +79,6 @@ fn two_tables<R: Threads + Sync, S: Shelf>(
 fn parsed<R: Threads + Sync>(
     rt: &R,
     alloc: Global,
-    workers: usize,
     first: &str,
     bytes: &[u8],
     second: &str,
@@ -104,21 +93,17 @@ fn parsed<R: Threads + Sync>(
     join(
         rt,
         || -> Result<(Word, Table), Outcome>
-            requires { IsSync R.row }
             ensures { NamesTable Purpose.Query 0 first.entry.now bytes.entry.now result }
-        { named_table(rt, alloc, workers, Purpose::Query, 0, first, bytes) },
+        { named_table(alloc, Purpose::Query, 0, first, bytes) },
         || -> Result<(Word, Table), Outcome>
-            requires { IsSync R.row }
             ensures { NamesRead Purpose.Query 1 second.entry.now more.entry.now result }
-        { named_read(rt, alloc, workers, 1, second, more) },
+        { named_read(alloc, 1, second, more) },
     )
 }
 
 // The table of a file's bytes, where they were read.
-fn named_read<R: Threads + Sync>(
-    rt: &R,
+fn named_read(
     alloc: Global,
-    workers: usize,
     file: usize,
     name: &str,
     bytes: &Result<Vec<u8>, Outcome>,
@@ -126,17 +111,7 @@ fn named_read<R: Threads + Sync>(
     ensures { NamesRead Purpose.Query file name.now bytes.now result }
 {
     match bytes {
-        Ok(bytes) => {
-            named_table(
-                rt,
-                alloc,
-                workers,
-                Purpose::Query,
-                file,
-                name,
-                bytes.as_slice(),
-            )
-        }
+        Ok(bytes) => named_table(alloc, Purpose::Query, file, name, bytes.as_slice()),
         Err(outcome) => Err(*outcome),
     }
 }

@@ -1,5 +1,4 @@
 pub mod Between
-pub mod Cuts
 pub mod Fields
 pub mod NotText
 pub mod Reached

@@ -1,4 +1,5 @@
 pub mod Faults
 pub mod Flat
 pub mod Texts
-pub mod Pieces
+pub mod Setups
+pub mod Reader

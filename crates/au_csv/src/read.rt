@@ -1,13 +1,11 @@
 //! The records of a text.
-ghost use Rattle.std.specs.Prelude.{◌≡◌, ◌⊎◌, ◌||◌, true, Ok, Err, IfOk, IfErr};
-ghost use Rattle.csv.specs.Reading.{error_kind, stops_reader};
-ghost use Rattle.au_csv.specs.Faults.{is_not_text};
+ghost use Rattle.std.specs.Prelude.{◌≡◌, ◌⊎◌, Ok, Err, IfOk, IfErr};
 ghost use Rattle.au_csv.specs.Texts.{text_records};
 
 use crate::faults::CsvFault;
-use crate::part::{Part, push_record};
-use crate::parts::Records;
-use csv::{Error, ErrorKind, ReaderBuilder, StringRecord};
+use crate::kept::{Records, push_record};
+use crate::reader::RecordReader;
+use csv::StringRecord;
 use std::alloc::Global;
 
 // Records take no fewer bytes than these mostly, so that the room that is held for them stays in proportion to the text.
@@ -25,17 +23,6 @@ pub fn records(alloc: Global, bytes: &[u8]) -> Result<Records, CsvFault>
     ensures records { IfOk result (λ rs. text_records bytes.now ≡ Ok rs) }
     ensures fault { IfErr result (λ e. (e ≡ CsvFault.NoMemory) ⊎ (text_records bytes.now ≡ Err e)) }
 {
-    match part_of(alloc, bytes) {
-        Ok(part) => Records::of_one(alloc, part),
-        Err(fault) => Err(fault),
-    }
-}
-
-// The records of a text, in one part.
-fn part_of(alloc: Global, bytes: &[u8]) -> Result<Part, CsvFault>
-    ensures records { IfOk result (λ part. text_records bytes.now ≡ Ok part) }
-    ensures fault { IfErr result (λ e. (e ≡ CsvFault.NoMemory) ⊎ (text_records bytes.now ≡ Err e)) }
-{
     let room = room_for(bytes);
     let mut fields = StringRecord::with_capacity(
         alloc,
@@ -43,24 +30,20 @@ fn part_of(alloc: Global, bytes: &[u8]) -> Result<Part, CsvFault>
         count(bytes, b',').saturating_add(room),
     )?;
     let mut stops = Vec::with_capacity(alloc, room)?;
-    let mut reader = ReaderBuilder::new()
-        .has_headers(false)
-        .flexible(true)
-        .from_reader(alloc, bytes);
-    let mut row = StringRecord::new(alloc);
+    let mut reader = RecordReader::new(alloc, bytes);
     // There is at most one record more than there are bytes, and then the end.
     let turns = bytes.len() as u128 + 2;
     for _ in 0..turns {
-        match reader.read_record(&mut row) {
-            Ok(true) => push_record(&mut fields, &mut stops, &row)?,
-            Ok(false) => return Ok(Part::of(fields, stops)),
-            Err(error) => return Err(fault_of(&error, stops.len())),
+        match reader.read() {
+            Ok(true) => push_record(&mut fields, &mut stops, reader.row())?,
+            Ok(false) => return Ok(Records::of(fields, stops)),
+            Err(fault) => return Err(fault),
         }
     }
     unreachable!()
 }
 
-// For how many records there should be room at once: a list that grows moves, and all threads wait for that.
+// For how many records there should be room at once: a list that grows moves.
 fn room_for(bytes: &[u8]) -> usize {
     count(bytes, b'\n')
         .min(bytes.len() / SHORT)
@@ -85,17 +68,4 @@ fn count_few(bytes: &[u8], value: u8) -> u8 {
         }
     }
     count
-}
-
-// The fault of a reader of bytes that are in memory, whose next record has this number. A slice gives its bytes and no fault,
-// so that the reader under them never is the cause, though the reader's contract doesn't say it.
-fn fault_of(error: &Error, number: usize) -> CsvFault
-    requires { (stops_reader (error_kind error.now) || is_not_text (error_kind error.now)) ≡ true }
-    ensures { (result ≡ CsvFault.NoMemory) ⊎ ((result ≡ CsvFault.NotText number) × (is_not_text (error_kind error.now) ≡ true)) }
-{
-    match error.kind() {
-        ErrorKind::OutOfMemory | ErrorKind::Io(_) => CsvFault::NoMemory,
-        ErrorKind::Utf8 { .. } => CsvFault::NotText(number),
-        _ => unreachable!(),
-    }
 }

@@ -9,13 +9,15 @@ pub(crate) trait Call {
     fn outcome(alloc: Global, given: &str) -> Result<String, Fail>;
 }
 
-/// Whether the call gives for each line `GIVEN -> WANTED` what is wanted, where `~` is an LF of the result.
+/// Whether the call gives for each line `GIVEN -> WANTED` what is wanted, where `~` is an LF of the result, and `«33 (»` is so
+/// often the piece.
 pub(crate) fn judge<C: Call>(rt: &impl Abort, alloc: Global, cases: &str) -> Result<(), Fail> {
     for line in cases.lines() {
         let (given, wanted) = line.split_once(" -> ").expect(rt, "an arrow");
         let outcome = C::outcome(alloc, given)?;
         let found = outcome.replace(alloc, '\n', "~")?;
-        assert_eq!(rt; found.as_str(), wanted, "{given}");
+        let wanted = unfolded(alloc, wanted)?;
+        assert_eq!(rt; found.as_str(), wanted.as_str(), "{given}");
     }
     Ok(())
 }

@@ -1,10 +1,9 @@
 //! Texts and their records.
 use crate::cases::{Call, file_bytes, judge};
-use au_csv::{CsvFault, Rec, Records, records, records_by};
+use au_csv::{CsvFault, Rec, RecordReader, Records, records};
 use std::alloc::{AllocError, Global};
 use std::process::Abort;
 use std::test::Fail;
-use std::thread::Threads;
 
 // A bar, and the fields in brackets.
 fn push_record(text: &mut String, record: &Rec<'_>) -> Result<(), AllocError> {
@@ -62,22 +61,46 @@ fn records_of_texts(rt: HostRuntime) -> Result<(), Fail> {
     judge::<RecordsOf>(&rt, rt.alloc(), RECORDS)
 }
 
-// Whether four workers read what one does, and that ends so.
-fn judge_shared<R: Abort + Threads + Sync>(
-    rt: &R,
-    alloc: Global,
-    given: &str,
-    end: &str,
-) -> Result<(), Fail> {
+// The records that a reader gives one after the other, of which it keeps the last alone.
+fn read_text(alloc: Global, bytes: &[u8]) -> Result<String, AllocError> {
+    let mut reader = RecordReader::new(alloc, bytes);
+    let mut text = String::new(alloc);
+    let turns = bytes.len() as u128 + 2;
+    for _ in 0..turns {
+        match reader.read() {
+            Ok(true) => push_record(&mut text, &reader.record())?,
+            Ok(false) => return Ok(text),
+            Err(fault) => return format!(in alloc; "{fault:?}"),
+        }
+    }
+    String::from_str(alloc, "no end")
+}
+
+struct RecordsInTurn;
+
+impl Call for RecordsInTurn {
+    fn outcome(alloc: Global, given: &str) -> Result<String, Fail> {
+        let bytes = file_bytes(alloc, given)?;
+        Ok(read_text(alloc, bytes.as_slice())?)
+    }
+}
+
+#[test]
+fn records_in_turn(rt: HostRuntime) -> Result<(), Fail> {
+    judge::<RecordsInTurn>(&rt, rt.alloc(), RECORDS)
+}
+
+// Whether the records of a long text are the same at once and in turn, and end so.
+fn judge_long(rt: &impl Abort, alloc: Global, given: &str, end: &str) -> Result<(), Fail> {
     let bytes = file_bytes(alloc, given)?;
-    let one = outcome_text(alloc, &records(alloc, bytes.as_slice()))?;
-    let four = outcome_text(alloc, &records_by(rt, alloc, 4, bytes.as_slice()))?;
-    assert!(rt; one.as_str() == four.as_str(), "{given}");
-    assert!(rt; one.ends_with(end), "{given}");
+    let kept = outcome_text(alloc, &records(alloc, bytes.as_slice()))?;
+    let in_turn = read_text(alloc, bytes.as_slice())?;
+    assert!(rt; kept.as_str() == in_turn.as_str(), "{given}");
+    assert!(rt; kept.ends_with(end), "{given}");
     Ok(())
 }
 
-const SHARED: &str = "«150000 1,b~»x,y~ -> |[1][b]|[x][y]
+const LONG: &str = "«150000 1,b~»x,y~ -> |[1][b]|[x][y]
 «70000 1,b~»\"x,y\"~ -> |[1][b]|[x,y]
 «70000 1,b~»1,#~ -> NotText(70000)
 \u{FEFF}«60000 1,b~~»x -> |[1][b]|[x]
@@ -86,10 +109,10 @@ const SHARED: &str = "«150000 1,b~»x,y~ -> |[1][b]|[x][y]
 «60000 1,b^~»x,^~ -> |[1][b]|[x][]";
 
 #[test]
-fn records_of_shared_texts(rt: HostRuntime) -> Result<(), Fail> {
-    for line in SHARED.lines() {
+fn records_of_long_texts(rt: HostRuntime) -> Result<(), Fail> {
+    for line in LONG.lines() {
         let (given, end) = line.split_once(" -> ").expect(&rt, "an arrow");
-        judge_shared(&rt, rt.alloc(), given, end)?;
+        judge_long(&rt, rt.alloc(), given, end)?;
     }
     Ok(())
 }

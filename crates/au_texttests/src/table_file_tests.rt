@@ -123,6 +123,7 @@ x:y~1~ -> x:y:Int |*1
 :int,b:c:text~1,2~ -> col1:Int b:c:Text |*1,2
 x~1~z~ -> x:Text |*1|*z
 x~1~\"\"~ -> x:Text |*1|*
+x,y~«120 1,2~»1,z~ -> x:Int y:Text «120 |*1,2»|*1,z
 _block,_role,x~a,guess,1~a,absent,~ -> x:Int |*1?
 _block,_role,x~a,guess,1~b,guess,2~a,alt,3~ -> x:Int |*1/3|*2
 _block,_role,x~,guess,1~A,guess,2~a,guess,3~ -> x:Int |*1|*2|*3

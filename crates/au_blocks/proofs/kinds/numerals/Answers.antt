@@ -3,7 +3,7 @@ use Rattle.std.proofs.Common.{◌≡◌, ◌∙◌, ◌+◌, ◌∷◌, [], ap, 
 use Rattle.std.proofs.lemmas.List.{drop_all, drop_more, with_items_is}
 use Rattle.au_csv.specs.Texts.{Record}
 use Rattle.au_blocks.specs.Marks.{marks}
-use Rattle.au_blocks.proofs.MarkedColumns.{marks-long, marks-more, marks-none}
+use Rattle.au_blocks.proofs.MarkedColumns.{marks-append, marks-long, marks-none}
 use Rattle.au_blocks.proofs.kinds.numerals.Goals as goal
 
 pub loop-record-preserved : goal.loop-record-preserved
@@ -18,7 +18,7 @@ loop-record-preserved c =
     let next : drop i rows ≡ r ∷ rest = drop_more rows i r c.loop-record-test.true ∙ ap (λ (x : Record). x ∷ rest) (sym c.record-item.is) in
     ap (marks f rest 0) (with_items_is c.loop-record.marks c.narrow.new.marks long ∙ c.narrow.ensures)
     ∙ ap (λ bs. marks f rest 0 (marks f (r ∷ []) 0 bs)) c.deref_mut.ensures.value
-    ∙ marks-more f r rest 0 c.loop-record.marks.items
+    ∙ marks-append f (r ∷ []) rest 0 c.loop-record.marks.items
     ∙ ap (λ rs. marks f rs 0 c.loop-record.marks.items) (sym next)
     ∙ c.loop-record.invariant
 

@@ -2,8 +2,8 @@ use Rattle.std.proofs.Common.{◌≤◌, ◌<◌, length, take}
 use Rattle.std.specs.Prelude.{slice_range}
 use denote.Text.{Utf8}
 use denote.Shadow.{shadow}
+use Rattle.au_blocks.specs.BlockPlaces.{Parted}
 use Rattle.au_blocks.specs.Runs.{lent_runs}
-use Rattle.au_blocks.proofs.LabelRuns.{Parted}
 use Rattle.au_blocks.proofs.runs.runs.Given as goal
 
 -- the runs before the last one, and the last one, of the records so far

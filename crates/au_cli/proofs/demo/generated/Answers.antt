@@ -4,5 +4,5 @@ use Rattle.au_cli.proofs.DemoLaws.{only_memory_of_text}
 use Rattle.au_cli.proofs.demo.generated.Goals as goal
 
 pub table_fault-requires : goal.table_fault-requires
-table_fault-requires g c =
+table_fault-requires c =
     only_memory_of_text c.args.start c.args.blocks c.as_slice.result.now c.in-Err.fault c.requires.few (c.as_slice.ensures.value ∙ c.in_ok-text.ensures.value) c.in-Err.ensures.fault
